@@ -1,8 +1,11 @@
 -- A mark looks at what it touches, and changes what it writes.
-use Rattle.std.proofs.Common.{◌≡◌, ℕ, ◌+◌, Bool, true, false, ◌||◌, cond, List, [], ◌∷◌, ◌++◌, refl, sym, ap, ◌∙◌, subst, arith}
+use Rattle.std.proofs.Common.{◌≡◌, ℕ, ◌+◌, Bool, true, false, ◌&&◌, ◌||◌, not, cond, List, [], ◌∷◌, ◌++◌, refl, sym, ap, ◌∙◌, subst, arith}
 use Rattle.std.proofs.lemmas.Bool.{le-leb, lt-ltb, and_from}
+use Rattle.marks.specs.declared.fault.FaultKind.{FaultKind}
+use Rattle.marks.specs.declared.fault.FaultKind.TheVariants.{Divide, Shift, NotLive, ReadOnly, StackFull, BadCall}
+use Rattle.marks.specs.Places.{is_constant}
 use Rattle.marks.specs.Ranges.{Range, Piece, within, in_range, any_range, any_piece}
-use Rattle.marks.specs.Marks.{Access, Nowhere, Reading, Writing, Freeing, ToConstant, EventKind, Call, Ret, Up, UpRet, Alloc, Free, Stop, Act, Turn, Load, Store, Enter, Leave, Step, Fault, Made, released}
+use Rattle.marks.specs.Marks.{Access, Nowhere, Reading, Writing, Freeing, EventKind, Call, Ret, Up, UpRet, Alloc, Free, Stop, Act, Turn, Load, Store, Enter, Leave, Step, Fault, Made, released}
 use Rattle.marks.specs.Bytes.{Cell, IsLive, Byte, event_reads, event_writes, access_reads, access_writes, writes, touches, event_leaves, cell_after, event_block, block_after, leaves, give, give_any, Shows, EventAsks, SomeDead, AccessAsks, Asks}
 
 pub or_left : (a b : Bool) → (a || b) ≡ false → a ≡ false
@@ -44,12 +47,22 @@ some_dead r c c' t h = (h.0, h.1, sym (ap (λ b. b.cell) (t h.0 h.1)) ∙ h.2)
 inside : (at : ℕ) → within at 1 at ≡ true
 inside at = and_from _ _ (le-leb at at (omega arith)) (lt-ltb at (at + 1) (omega arith))
 
-access_agree : (a : Access) (c c' : ℕ → Byte) → ((x : ℕ) → (access_reads a x || access_writes a x) ≡ true → c x ≡ c' x) → AccessAsks a c → AccessAsks a c'
-access_agree Nowhere c c' t h = tt
-access_agree (Reading r) c c' t h = some_dead r c c' (λ x e. t x (or_true_left _ _ e)) h
-access_agree (Writing r) c c' t h = some_dead r c c' (λ x e. t x e) h
-access_agree (Freeing at) c c' t h = sym (ap (λ b. b.block) (t at (inside at))) ∙ h
-access_agree (ToConstant r) c c' t h = λ x e. subst (λ b. IsLive b.cell) (t x (or_true_left _ _ e)) (h x e)
+-- the bytes of a refused access are touched
+written_or_read : (i c : Bool) → i ≡ true → ((i && c) || (i && not c)) ≡ true
+written_or_read true true e = refl
+written_or_read true false e = refl
+written_or_read false c e = absurd cc
+
+access_agree : (k : FaultKind) (a : Access) (c c' : ℕ → Byte) → ((x : ℕ) → (access_reads a x || access_writes a x) ≡ true → c x ≡ c' x) → AccessAsks k a c → AccessAsks k a c'
+access_agree k Nowhere c c' t h = tt
+access_agree k (Reading r) c c' t h = some_dead r c c' (λ x e. t x (or_true_left _ _ e)) h
+access_agree ReadOnly (Writing r) c c' t h = λ x e. subst (λ b. IsLive b.cell) (t x (written_or_read (in_range r x) (is_constant x) e)) (h x e)
+access_agree Divide (Writing r) c c' t h = some_dead r c c' (λ x e. t x (written_or_read (in_range r x) (is_constant x) e)) h
+access_agree Shift (Writing r) c c' t h = some_dead r c c' (λ x e. t x (written_or_read (in_range r x) (is_constant x) e)) h
+access_agree NotLive (Writing r) c c' t h = some_dead r c c' (λ x e. t x (written_or_read (in_range r x) (is_constant x) e)) h
+access_agree StackFull (Writing r) c c' t h = some_dead r c c' (λ x e. t x (written_or_read (in_range r x) (is_constant x) e)) h
+access_agree BadCall (Writing r) c c' t h = some_dead r c c' (λ x e. t x (written_or_read (in_range r x) (is_constant x) e)) h
+access_agree k (Freeing at) c c' t h = sym (ap (λ b. b.block) (t at (written_or_read (within at 1 at) (is_constant at) (inside at)))) ∙ h
 
 -- what a mark asks of memory, it asks of the bytes that it touches
 pub asks_agree : (a : Act) (c c' : ℕ → Byte) → ((x : ℕ) → touches a x ≡ true → c x ≡ c' x) → Asks a c → Asks a c'
@@ -61,7 +74,7 @@ asks_agree (Step func args result ins pieces freed) c c' t h = tt
 asks_agree (Leave at size) c c' t h = λ x e. subst (λ b. IsLive b.cell) (t x e) (h x e)
 asks_agree (Fault kind crosses ins outs access) c c' t h = (
   λ x e. subst (λ b. IsLive b.cell) (t x (before (any_range ins x) (access_reads access x) (any_range outs x) (access_writes access x) e)) (h.0 x e),
-  access_agree access c c' (λ x e. t x (at_it (any_range ins x) (access_reads access x) (any_range outs x) (access_writes access x) e)) h.1,
+  access_agree kind access c c' (λ x e. t x (at_it (any_range ins x) (access_reads access x) (any_range outs x) (access_writes access x) e)) h.1,
 )
   where
     before : (i r o w : Bool) → (i || o) ≡ true → ((i || r) || (o || w)) ≡ true

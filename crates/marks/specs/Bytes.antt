@@ -1,7 +1,10 @@
 -- Which bytes a mark reads and writes, what it leaves of a byte, and what it asks of memory.
-use Rattle.std.specs.Prelude.{◌≡◌, ℕ, suc, ◌+◌, Bool, true, false, ◌&&◌, ◌||◌, cond, eqb, ltb, List, [], ◌∷◌, ◌++◌, length}
+use Rattle.std.specs.Prelude.{◌≡◌, ℕ, suc, ◌+◌, Bool, true, false, ◌&&◌, ◌||◌, not, cond, eqb, ltb, List, [], ◌∷◌, ◌++◌, length}
 use Rattle.marks.specs.Ranges.{Range, Piece, within, in_range, any_range, any_piece, any_prepared, byte_at}
-use Rattle.marks.specs.Marks.{Access, Reading, Writing, Freeing, ToConstant, EventKind, Call, Ret, Alloc, Free, Act, Load, Store, Enter, Leave, Fault, Made, Mark, released}
+use Rattle.marks.specs.declared.fault.FaultKind.{FaultKind}
+use Rattle.marks.specs.declared.fault.FaultKind.TheVariants.{ReadOnly}
+use Rattle.marks.specs.Places.{is_constant}
+use Rattle.marks.specs.Marks.{Access, Nowhere, Reading, Writing, Freeing, EventKind, Call, Ret, Alloc, Free, Act, Load, Store, Enter, Leave, Fault, Made, Mark, released}
 
 -- in no live object, live with this value, or live and pending, with the value that it had when it was held
 pub data Cell : Type 0 where
@@ -37,15 +40,16 @@ event_writes (Alloc at size) x = within at (granted at size) x
 event_writes (Free at size) x = within at size x
 event_writes _ x = false
 
--- constants are never written, so that a refused write of one counts as a read
+-- a refused write counts as one where it meets no constant; constants are never written, and reading them is free
 abbrev pub access_reads : Access → ℕ → Bool
 access_reads (Reading r) x = in_range r x
-access_reads (ToConstant r) x = in_range r x
+access_reads (Writing r) x = in_range r x && is_constant x
+access_reads (Freeing at) x = within at 1 x && is_constant x
 access_reads _ x = false
 
 abbrev pub access_writes : Access → ℕ → Bool
-access_writes (Writing r) x = in_range r x
-access_writes (Freeing at) x = within at 1 x
+access_writes (Writing r) x = in_range r x && not (is_constant x)
+access_writes (Freeing at) x = within at 1 x && not (is_constant x)
 access_writes _ x = false
 
 abbrev pub reads : Act → ℕ → Bool
@@ -144,20 +148,20 @@ AllLive r c = (x : ℕ) → in_range r x ≡ true → IsLive (c x).cell
 abbrev pub SomeDead : Range → (ℕ → Byte) → Type 0
 SomeDead r c = (x : ℕ) × (in_range r x ≡ true) × ((c x).cell ≡ Dead)
 
--- what the memory shows of the access that a fault stops
-abbrev pub AccessAsks : Access → (ℕ → Byte) → Type 0
-AccessAsks (Reading r) c = SomeDead r c
-AccessAsks (Writing r) c = SomeDead r c
-AccessAsks (Freeing at) c = (c at).block ≡ 0
-AccessAsks (ToConstant r) c = AllLive r c
-AccessAsks _ c = Unit {0}
+-- what memory shows of the access that a fault stops
+abbrev pub AccessAsks : FaultKind → Access → (ℕ → Byte) → Type 0
+AccessAsks kind Nowhere c = Unit {0}
+AccessAsks kind (Reading r) c = SomeDead r c
+AccessAsks ReadOnly (Writing r) c = AllLive r c
+AccessAsks kind (Writing r) c = SomeDead r c
+AccessAsks kind (Freeing at) c = (c at).block ≡ 0
 
 -- what a mark asks of the memory
 abbrev pub Asks : Act → (ℕ → Byte) → Type 0
 Asks (Load origin at bytes) c = (x : ℕ) → within at (length bytes) x ≡ true → (c x).cell ≡ Live (byte_at at bytes x)
 Asks (Store origin at bytes) c = (x : ℕ) → within at (length bytes) x ≡ true → IsLive (c x).cell
 Asks (Leave at size) c = (x : ℕ) → within at size x ≡ true → IsLive (c x).cell
-Asks (Fault kind crosses ins outs access) c = ((x : ℕ) → (any_range ins x || any_range outs x) ≡ true → IsLive (c x).cell) × AccessAsks access c
+Asks (Fault kind crosses ins outs access) c = ((x : ℕ) → (any_range ins x || any_range outs x) ≡ true → IsLive (c x).cell) × AccessAsks kind access c
 Asks (Made e) c = (x : ℕ) → EventAsks e.kind x (c x)
 Asks _ c = Unit {0}
 

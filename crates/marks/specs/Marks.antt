@@ -12,7 +12,6 @@ pub data Access : Type 0 where
   Reading : (range : Range) → Access
   Writing : (range : Range) → Access
   Freeing : (at : ℕ) → Access
-  ToConstant : (range : Range) → Access
 
 -- what a return does with the region that its function commits: there is none, or its used size is negative and
 -- the region stays prepared, or it is released

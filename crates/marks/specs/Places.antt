@@ -1,5 +1,5 @@
 -- Where things lie: the addresses and sizes of the areas, and how many threads and frames there are.
-use Rattle.std.specs.Prelude.{ℕ, ◌+◌, ◌*◌, ◌<◌, ◌≤◌}
+use Rattle.std.specs.Prelude.{ℕ, ◌+◌, ◌*◌, Bool, ◌&&◌, leb, ltb}
 use Rattle.marks.specs.declared.side.Side.{Side}
 use Rattle.marks.specs.declared.side.Side.TheVariants.{Replay, System}
 
@@ -64,11 +64,11 @@ function_address func = 0x1000 + 16 * func
 abbrev pub builtin_count : ℕ
 builtin_count = 16
 
-abbrev pub IsConstant : ℕ → Type 0
-IsConstant x = (constants ≤ x) × (x < replay_globals)
+abbrev pub is_constant : ℕ → Bool
+is_constant x = leb constants x && ltb x replay_globals
 
-abbrev pub IsReplay : ℕ → Type 0
-IsReplay x = (replay_globals ≤ x) × (x < replay_end)
+abbrev pub is_replay : ℕ → Bool
+is_replay x = leb replay_globals x && ltb x replay_end
 
-abbrev pub IsSystem : ℕ → Type 0
-IsSystem x = (system_globals ≤ x) × (x < system_end)
+abbrev pub is_system : ℕ → Bool
+is_system x = leb system_globals x && ltb x system_end

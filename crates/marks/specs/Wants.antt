@@ -4,7 +4,7 @@ use Rattle.marks.specs.Ranges.{Range, range, are_bytes, number_of_bytes}
 use Rattle.marks.specs.declared.fault.FaultKind.{FaultKind}
 use Rattle.marks.specs.declared.fault.FaultKind.TheVariants.{NotLive, ReadOnly, StackFull}
 use Rattle.marks.specs.Kinds.{fault_number}
-use Rattle.marks.specs.Marks.{Access, Nowhere, Reading, Writing, Freeing, ToConstant, EventKind, Call, Ret, Up, UpRet, Alloc, Free, Act, Turn, Load, Store, Enter, Leave, Step, Fault, Made}
+use Rattle.marks.specs.Marks.{Access, Nowhere, Reading, Writing, Freeing, EventKind, Call, Ret, Up, UpRet, Alloc, Free, Act, Turn, Load, Store, Enter, Leave, Step, Fault, Made}
 
 -- indirect: the function comes from a pointer's value, so that its mode is tested
 pub data Want : Type 0 where
@@ -55,7 +55,6 @@ same_access Nowhere Nowhere = true
 same_access (Reading r) (Reading q) = eqb r.at q.at && eqb r.size q.size
 same_access (Writing r) (Writing q) = eqb r.at q.at && eqb r.size q.size
 same_access (Freeing at) (Freeing x) = eqb at x
-same_access (ToConstant r) (ToConstant q) = eqb r.at q.at && eqb r.size q.size
 same_access _ _ = false
 
 -- the fault that stops one access, or none, of code that crosses nothing
@@ -94,7 +93,7 @@ answer_to Turns Turn = Some Go
 answer_to (Loads o at n) (Load p x bytes) = answer_if ((same_origin p o && eqb x at) && (eqb (length bytes) n && are_bytes bytes)) (Value (number_of_bytes bytes))
 answer_to (Loads o at n) act = stopped_if (is_fault_of NotLive (Reading (range at n)) act)
 answer_to (Stores o at bytes) (Store p x bs) = answer_if (same_origin p o && (eqb x at && same_numbers bs bytes)) Go
-answer_to (Stores o at bytes) act = stopped_if (is_fault_of NotLive (Writing (range at (length bytes))) act || is_fault_of ReadOnly (ToConstant (range at (length bytes))) act)
+answer_to (Stores o at bytes) act = stopped_if (is_fault_of NotLive (Writing (range at (length bytes))) act || is_fault_of ReadOnly (Writing (range at (length bytes))) act)
 answer_to (Enters i f args bytes) (Enter g bs at b) = answer_if (eqb g f && (same_numbers bs args && same_numbers b bytes)) (Frame at)
 answer_to (Enters i f args bytes) act = stopped_if (is_fault_of StackFull Nowhere act)
 answer_to (Leaves at n) (Leave x size) = answer_if (eqb x at && eqb size n) Go
