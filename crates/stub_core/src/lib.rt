@@ -1,0 +1,10 @@
+//! What the annotations of a function tell the run, as operations on its calls.
+#![tactic(auto)]
+
+mod sizes;
+mod terms;
+#[cfg(test)]
+mod tests;
+
+pub use sizes::size;
+pub use terms::{Size, Term};
