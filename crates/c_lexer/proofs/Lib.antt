@@ -5,3 +5,7 @@ pub mod Comments
 pub mod Parts
 pub mod Strings
 pub mod Longest
+pub mod Readings
+pub mod Inside
+pub mod Order
+pub mod Exact

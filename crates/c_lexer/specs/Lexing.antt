@@ -46,3 +46,11 @@ InOrder at (t ∷ ts) end = (at ≤ t.from) × (t.from < t.to) × InOrder t.to t
 -- what a reading makes of a source is determined
 abbrev pub OneReading : Type 0
 OneReading = (fresh : Bool) (at : ℕ) (bs : List ℕ) (ts us : List Token) (d e : End) → Reads fresh at bs ts d → Reads fresh at bs us e → (ts ≡ us) × (d ≡ e)
+
+-- what an error says of a source; want of memory says nothing
+abbrev pub Refuses : List ℕ → LexError → Type 0
+Refuses source errors.Memory = Unit {0}
+Refuses source (errors.BadByte at) = IsRefused source (errors.BadByte at)
+Refuses source (errors.OpenText at) = IsRefused source (errors.OpenText at)
+Refuses source (errors.BigNumber at) = IsRefused source (errors.BigNumber at)
+Refuses source (errors.Directive at) = IsRefused source (errors.Directive at)

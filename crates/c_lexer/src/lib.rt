@@ -5,6 +5,7 @@ mod bytes;
 mod error;
 mod gap;
 mod item;
+mod lexing;
 mod number;
 mod quoted;
 mod spelling;
@@ -13,5 +14,6 @@ mod text_part;
 mod token;
 
 pub use error::LexError;
+pub use lexing::{lex, longest_sign, one_reading};
 pub use text::Text;
 pub use token::{Kind, Sign, Suffix, Token, Word};
