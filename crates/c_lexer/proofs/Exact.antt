@@ -1,10 +1,10 @@
 -- What a reading says of the answer, and the answer of the reading.
-use Rattle.std.proofs.Common.{◌≡◌, ◌≢◌, ◌↔◌, ℕ, Bool, true, false, List, refl, sym, ap, ◌∙◌, Result, Ok, Err, IfOk, IfErr, IsOk}
+use Rattle.std.proofs.Common.{◌≡◌, ◌≢◌, ◌↔◌, ℕ, true, false, List, refl, ap, Result, Ok, Err, IfOk, IfErr, IsOk}
 use Rattle.std.specs.Result.{IsErrOf}
 use Rattle.c_lexer.specs.declared.token.Token.{Token}
 use Rattle.c_lexer.specs.declared.error.LexError.{LexError}
 use Rattle.c_lexer.specs.declared.error.LexError.TheVariants as errors
-use Rattle.c_lexer.specs.Lexing.{End, Whole, Stopped, IsTokens, IsRefused, Refuses}
+use Rattle.c_lexer.specs.Lexing.{Whole, Stopped, IsTokens, IsRefused, Refuses}
 use Rattle.c_lexer.proofs.Readings.{one}
 
 not_both : (bs : List ℕ) (ts : List Token) (e : LexError) → IsTokens bs ts → IsRefused bs e → ⊥

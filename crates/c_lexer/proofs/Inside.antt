@@ -1,5 +1,5 @@
 -- What stands at a place lies in the bytes from there on.
-use Rattle.std.proofs.Common.{◌≡◌, ℕ, suc, zero, ◌+◌, ◌-◌, ◌*◌, ◌<◌, ◌≤◌, Bool, true, false, ◌&&◌, ◌||◌, not, ◌==◌, List, [], ◌∷◌, length, take, drop, refl, ap, sym, ◌∙◌, arith, Option, Some, None, Result, Ok, Err, nat_eq, if◌then◌else◌, length-drop}
+use Rattle.std.proofs.Common.{◌≡◌, ℕ, suc, zero, ◌+◌, ◌-◌, ◌≤◌, Bool, true, false, ◌&&◌, ◌||◌, ◌==◌, List, [], ◌∷◌, length, drop, refl, arith, Option, Some, None, Result, Ok, Err, nat_eq, if◌then◌else◌, length-drop}
 use Rattle.std.specs.List.{starts_with}
 use Rattle.c_lexer.specs.declared.token.Kind.{Kind}
 use Rattle.c_lexer.specs.declared.token.Kind.TheVariants as kinds
@@ -7,16 +7,15 @@ use Rattle.c_lexer.specs.declared.token.Sign.{Sign}
 use Rattle.c_lexer.specs.declared.item.Item.{Item}
 use Rattle.c_lexer.specs.declared.item.Item.TheVariants as items
 use Rattle.c_lexer.specs.declared.item.Fault.{Fault}
-use Rattle.c_lexer.specs.declared.item.Fault.TheVariants.{BadByte, OpenText, BigNumber, Directive}
+use Rattle.c_lexer.specs.declared.item.Fault.TheVariants.{OpenText, Directive}
 use Rattle.c_lexer.specs.declared.text_part.Part.{Part}
 use Rattle.c_lexer.specs.declared.text_part.Part.TheVariants.{Close, Byte, Open, Bad}
 use Rattle.c_lexer.specs.Bytes.{run, is_letter, is_digit, is_name_byte, is_blank, is_line_byte}
-use Rattle.c_lexer.specs.Words.{keyword}
 use Rattle.c_lexer.specs.Signs.{sign_text, sign_at, all_signs, begins_with}
 use Rattle.c_lexer.specs.Numbers.{number_of}
 use Rattle.c_lexer.specs.Texts.{part_at, character, character_at, Quoted, Closed, NeverClosed, BadAt, held, going_on, string_after, string, string_at, signed_char}
 use Rattle.c_lexer.specs.Gaps.{comment_length, comment, comment_at, further, marker_at, is_marker, line_of}
-use Rattle.c_lexer.specs.Items.{word_of, name_at, name_or_keyword, number_at, number, sign, token_at, item_of, item_at}
+use Rattle.c_lexer.specs.Items.{word_of, name_at, number_at, number, sign, token_at, item_of, item_at}
 use Rattle.c_lexer.proofs.Runs.{run_within}
 use Rattle.c_lexer.proofs.Parts.{PartIn, part_in, either_arm}
 use Rattle.c_lexer.proofs.Longest.{starts_within, found_passes, sign_length}
@@ -87,7 +86,7 @@ character_in bs Open h = omega arith
 character_in bs Bad h = omega arith
 character_in bs (Byte v n) h =
     by_test (ItemIn (length bs + 1)) (starts_with nat_eq (drop n bs) (39 ∷ [])) (items.Token (n + 2) (kinds.Char (signed_char v))) (items.Fault OpenText 0)
-      (λ e. (omega arith, (let le = starts_within (drop n bs) (39 ∷ []) e in omega (arith, length-drop n bs)))) (λ e. omega arith)
+    (λ e. (omega arith, (let le = starts_within (drop n bs) (39 ∷ []) e in omega (arith, length-drop n bs)))) (λ e. omega arith)
 
 -- strings
 abbrev pub QuotedIn : ℕ → Quoted → Type 0

@@ -9,3 +9,4 @@ pub mod Readings
 pub mod Inside
 pub mod Order
 pub mod Exact
+pub mod Total

@@ -1,7 +1,7 @@
 -- The sign that is found is the longest that fits.
-use Rattle.std.proofs.Common.{◌≡◌, ℕ, zero, suc, ◌+◌, ◌≤◌, ◌<◌, Bool, true, false, ◌&&◌, List, [], ◌∷◌, length, take, Option, Some, None, nat_eq, nat_le, refl, ap, sym, ◌∙◌, arith, length-take, if◌then◌else◌}
+use Rattle.std.proofs.Common.{◌≡◌, ℕ, zero, suc, ◌≤◌, Bool, true, false, ◌&&◌, List, [], ◌∷◌, length, take, Option, Some, None, nat_eq, nat_le, refl, ap, arith, length-take}
 use Rattle.std.specs.List.{find, starts_with}
-use Rattle.std.specs.Cmp.Lexicographic.{pointwise, as_long}
+use Rattle.std.specs.Cmp.Lexicographic.{as_long}
 use Rattle.c_lexer.specs.declared.token.Sign.{Sign}
 use Rattle.c_lexer.specs.declared.token.Sign.TheVariants as signs
 use Rattle.c_lexer.specs.Signs.{sign_text, all_signs, begins_with, sign_at, IsLongest}

@@ -1,5 +1,5 @@
 -- What stands between quotes lies in the bytes.
-use Rattle.std.proofs.Common.{◌≡◌, ℕ, suc, zero, ◌+◌, ◌*◌, ◌<◌, ◌≤◌, Bool, true, false, ◌&&◌, ◌||◌, ◌==◌, List, [], ◌∷◌, length, arith, Option, Some, None, if◌then◌else◌}
+use Rattle.std.proofs.Common.{◌≡◌, ℕ, ◌+◌, ◌*◌, ◌≤◌, Bool, true, false, ◌&&◌, ◌==◌, List, [], ◌∷◌, length, arith, Option, Some, None, if◌then◌else◌}
 use Rattle.c_lexer.specs.declared.text_part.Part.{Part}
 use Rattle.c_lexer.specs.declared.text_part.Part.TheVariants.{Close, Byte, Open, Bad}
 use Rattle.c_lexer.specs.Bytes.{digit_of, is_digit_in}

@@ -1,11 +1,9 @@
 -- One reading, and readings in steps.
-use Rattle.std.proofs.Common.{◌≡◌, ◌≢◌, ℕ, ◌+◌, Bool, true, false, List, [], ◌∷◌, ◌++◌, drop, refl, sym, ap, ◌∙◌, append_assoc, append-nil}
+use Rattle.std.proofs.Common.{◌≡◌, ℕ, ◌+◌, Bool, true, false, List, [], ◌∷◌, ◌++◌, drop, refl, sym, ap, ◌∙◌, append_assoc, append-nil}
 use Rattle.c_lexer.specs.declared.token.Token.{Token}
 use Rattle.c_lexer.specs.declared.token.Kind.{Kind}
 use Rattle.c_lexer.specs.declared.item.Fault.{Fault}
-use Rattle.c_lexer.specs.declared.item.Item.{Item}
 use Rattle.c_lexer.specs.declared.item.Item.TheVariants as items
-use Rattle.c_lexer.specs.declared.error.LexError.{LexError}
 use Rattle.c_lexer.specs.Items.{item_at}
 use Rattle.c_lexer.specs.Lexing as l
 use Rattle.c_lexer.specs.Lexing.{End, Whole, Stopped, Reads, IsTokens, IsRefused, error_at}

@@ -43,7 +43,11 @@ abbrev pub InOrder : ℕ → List Token → ℕ → Type 0
 InOrder at [] end = at ≤ end
 InOrder at (t ∷ ts) end = (at ≤ t.from) × (t.from < t.to) × InOrder t.to ts end
 
--- what a reading makes of a source is determined
+-- some reading of the source
+abbrev pub HasReading : List ℕ → Type 0
+HasReading source = (ts : List Token) × (end : End) × Reads true 0 source ts end
+
+-- what a reading makes of bytes is determined
 abbrev pub OneReading : Type 0
 OneReading = (fresh : Bool) (at : ℕ) (bs : List ℕ) (ts us : List Token) (d e : End) → Reads fresh at bs ts d → Reads fresh at bs us e → (ts ≡ us) × (d ≡ e)
 

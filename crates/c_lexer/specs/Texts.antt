@@ -1,7 +1,6 @@
 -- Characters and strings (C11 6.4.4.4 and 6.4.5).
-use Rattle.std.specs.Prelude.{ℕ, zero, suc, ◌+◌, ◌-◌, ◌*◌, Bool, true, false, ◌&&◌, ◌||◌, List, [], ◌∷◌, drop, Option, Some, None, ℤ, pos, negsuc, nat_eq, nat_le, nat_lt, ◌==◌, if◌then◌else◌, codes}
+use Rattle.std.specs.Prelude.{ℕ, zero, suc, ◌+◌, ◌-◌, ◌*◌, Bool, ◌&&◌, ◌||◌, List, [], ◌∷◌, drop, Option, Some, None, ℤ, pos, negsuc, nat_eq, nat_le, nat_lt, ◌==◌, if◌then◌else◌, codes}
 use Rattle.std.specs.List.{starts_with}
-use Rattle.c_lexer.specs.declared.token.Kind.{Kind}
 use Rattle.c_lexer.specs.declared.token.Kind.TheVariants as kinds
 use Rattle.c_lexer.specs.declared.item.Item.{Item}
 use Rattle.c_lexer.specs.declared.item.Item.TheVariants as items

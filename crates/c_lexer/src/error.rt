@@ -31,7 +31,7 @@ pub enum LexError {
 
 impl LexError {
     /// The error of a fault at this offset.
-    pub fn new(fault: Fault, at: u32) -> LexError
+    pub(crate) fn new(fault: Fault, at: u32) -> LexError
         ensures { result ≡ error_at fault at }
     {
         match fault {

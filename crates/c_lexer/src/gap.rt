@@ -4,7 +4,7 @@ ghost use Rattle.std.specs.Prelude.{◌≡◌, ◌≤◌, true, length, nat_eq, 
 ghost use Rattle.std.specs.List.{starts_with};
 ghost use Rattle.c_lexer.specs.Gaps.{comment_length, comment_at, is_marker_end as marker_end_test, is_marker_number as marker_number_test, is_marker as marker_test, marker_at};
 
-use crate::bytes::{run, Class};
+use crate::bytes::{Class, run};
 use crate::item::{Fault, Item};
 
 // How many bytes there are up to the first `*/`, with it.

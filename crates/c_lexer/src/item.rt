@@ -4,7 +4,7 @@ ghost use Rattle.std.specs.Prelude.{◌≡◌, ◌≤◌, length, IfOk};
 ghost use Rattle.c_lexer.specs.Signs.{sign_at};
 ghost use Rattle.c_lexer.specs.Items.{name_at, number_at, sign, token_at, item_of, item_at as item_seen};
 
-use crate::bytes::{is_blank, is_digit, is_letter, run, Class};
+use crate::bytes::{Class, is_blank, is_digit, is_letter, run};
 use crate::gap::{read_comment, read_marker};
 use crate::number::number_of;
 use crate::quoted::{read_character, read_string};

@@ -4,10 +4,10 @@ ghost use Rattle.std.specs.Prelude.{◌≡◌, ◌≢◌, ◌↔◌, ℕ, ◌≤
 ghost use Rattle.std.specs.Result.{IsErrOf};
 ghost use Rattle.c_lexer.specs.declared.token.Sign.{Sign};
 ghost use Rattle.c_lexer.specs.Signs.{sign_at, IsLongest};
-ghost use Rattle.c_lexer.specs.Lexing.{IsTokens, IsRefused, Refuses, InOrder, OneReading};
+ghost use Rattle.c_lexer.specs.Lexing.{IsTokens, IsRefused, Refuses, InOrder, HasReading, OneReading};
 
 use crate::error::LexError;
-use crate::item::{item_at, Item};
+use crate::item::{Item, item_at};
 use crate::token::Token;
 use std::alloc::{AllocError, Global};
 
@@ -68,9 +68,10 @@ pub fn lex(alloc: Global, source: &[u8]) -> Result<Vec<Token>, LexError>
     read_tokens(alloc, source)
 }
 
-/// A law: bytes have one reading, the same tokens up to the same end.
+/// A law: a source has exactly one reading, its tokens up to its end or to the first broken rule.
 pub fn one_reading()
-    ensures { OneReading }
+    ensures at_least { (source : List ℕ) → HasReading source }
+    ensures at_most { OneReading }
 {}
 
 /// A law: the sign that is read at a place is the longest that the bytes there begin with.

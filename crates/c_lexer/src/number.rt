@@ -3,7 +3,7 @@
 ghost use Rattle.std.specs.Prelude.{◌≡◌, ◌≤◌, ◌+◌, ◌^◌, None, IfSome};
 ghost use Rattle.c_lexer.specs.Numbers.{number_from, suffix_of as suffix_spelled, limit as least_too_big, typed, digits_and_suffix, based, number_of as number_spelled};
 
-use crate::bytes::{digit_of, run, Class};
+use crate::bytes::{Class, digit_of, run};
 use crate::item::Fault;
 use crate::token::{Kind, Suffix};
 

@@ -5,7 +5,7 @@ ghost use Rattle.c_lexer.specs.Texts.{character_at, string_at, signed_char as ch
 
 use crate::item::{Fault, Item};
 use crate::text::Text;
-use crate::text_part::{part_at, Part};
+use crate::text_part::{Part, part_at};
 use crate::token::Kind;
 use std::alloc::{AllocError, Global};
 

@@ -1,5 +1,5 @@
-use Rattle.std.proofs.Common.{◌≡◌, refl, sym, ◌∙◌}
-use Rattle.c_lexer.proofs.Comments.{comment_on, later_first}
+use Rattle.std.proofs.Common.{sym, ◌∙◌}
+use Rattle.c_lexer.proofs.Comments.{comment_on}
 use Rattle.c_lexer.proofs.gap.comment_len.Goals as goal
 
 pub loop-at-preserved : goal.loop-at-preserved

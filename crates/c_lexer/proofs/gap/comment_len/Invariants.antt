@@ -1,4 +1,4 @@
-use Rattle.std.proofs.Common.{◌≡◌, ◌+◌, drop}
+use Rattle.std.proofs.Common.{◌≡◌, drop}
 use Rattle.c_lexer.specs.Gaps.{comment_length}
 use Rattle.c_lexer.proofs.Comments.{later}
 use Rattle.c_lexer.proofs.gap.comment_len.Given as goal

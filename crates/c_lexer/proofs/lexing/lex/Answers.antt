@@ -1,4 +1,3 @@
-use Rattle.std.proofs.Common.{◌≡◌}
 use Rattle.c_lexer.specs.declared.error.LexError.TheVariants as errors
 use Rattle.c_lexer.proofs.Exact.{ok_exactly, error_exactly, not_bad_byte, not_open_text, not_big_number, not_directive}
 use Rattle.c_lexer.proofs.lexing.lex.Goals as goal

@@ -1,5 +1,4 @@
-use Rattle.std.proofs.Common.{◌≡◌, ◌+◌, ◌<◌, ◌≤◌, length, sym, ap, ◌∙◌, arith, length-drop, Fits, w32, w64}
-use Rattle.c_lexer.specs.Lexing.{Refuses, error_at}
+use Rattle.std.proofs.Common.{sym, ◌∙◌, arith}
 use Rattle.c_lexer.proofs.Inside.{fault_in, skip_in, token_in}
 use Rattle.c_lexer.proofs.Order.{later_end, order_put}
 use Rattle.c_lexer.proofs.Readings.{rests_skip, rests_token, rests_end, rests_stop}

@@ -1,4 +1,4 @@
-use Rattle.std.proofs.Common.{◌≡◌, arith}
+use Rattle.std.proofs.Common.{arith}
 use Rattle.c_lexer.proofs.Digits.{over}
 use Rattle.c_lexer.proofs.number.value_of.Goals as goal
 

@@ -1,4 +1,4 @@
-use Rattle.std.proofs.Common.{◌≡◌, sym, ◌∙◌}
+use Rattle.std.proofs.Common.{sym, ◌∙◌}
 use Rattle.c_lexer.proofs.Parts.{byte_in}
 use Rattle.c_lexer.proofs.quoted.read_character.Goals as goal
 

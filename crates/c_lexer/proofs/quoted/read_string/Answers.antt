@@ -1,4 +1,4 @@
-use Rattle.std.proofs.Common.{◌≡◌, sym, ◌∙◌, arith, length-drop}
+use Rattle.std.proofs.Common.{sym, ◌∙◌, arith}
 use Rattle.c_lexer.specs.Texts.{string_at}
 use Rattle.c_lexer.proofs.Parts.{byte_in}
 use Rattle.c_lexer.proofs.Strings.{string_on, string_close, string_open, string_bad}
