@@ -1,0 +1,10 @@
+//! What a recorded run is made of: events, the keys that order them, and their records in a log.
+#![tactic(auto)]
+
+mod event;
+mod key;
+mod lists;
+
+pub use event::{Event, EventName, LOG_THREADS, Reason, Record, Stamp};
+pub use key::{Class, Key, KeyMark};
+pub use lists::{Bytes, Marks, Pieces, Words};

@@ -1,0 +1,170 @@
+-- Which bytes a mark reads and writes, what it leaves of a byte, and what it asks of memory.
+use Rattle.std.specs.Prelude.{◌≡◌, ℕ, suc, ◌+◌, Bool, true, false, ◌&&◌, ◌||◌, not, cond, eqb, ltb, List, [], ◌∷◌, ◌++◌, length}
+use Rattle.marks.specs.Ranges.{Range, Piece, within, in_range, any_range, any_piece, any_prepared, byte_at}
+use Rattle.marks.specs.declared.fault.FaultKind.{FaultKind}
+use Rattle.marks.specs.declared.fault.FaultKind.TheVariants.{ReadOnly}
+use Rattle.marks.specs.Places.{is_constant}
+use Rattle.marks.specs.Marks.{Access, Nowhere, Reading, Writing, Freeing, EventKind, Call, Ret, Alloc, Free, Act, Load, Store, Enter, Leave, Fault, Made, Mark, released}
+
+-- in no live object, live with this value, or live and pending, with the value that it had when it was held
+pub data Cell : Type 0 where
+  Dead : Cell
+  Live : (value : ℕ) → Cell
+  Held : (value : ℕ) → Cell
+
+-- a byte of memory, and the size of the live block of the pool that begins there, or 0
+pub record Byte : Type 0 where
+  pub cell : Cell
+  pub block : ℕ
+
+abbrev pub IsLive : Cell → Type 0
+IsLive (Live v) = Unit {0}
+IsLive _ = ⊥
+
+abbrev pub IsHeld : Cell → Type 0
+IsHeld (Held v) = Unit {0}
+IsHeld _ = ⊥
+
+-- an Alloc that gives 0 has no block
+abbrev pub granted : ℕ → ℕ → ℕ
+granted at size = cond (eqb at 0) 0 size
+
+abbrev pub event_reads : EventKind → ℕ → Bool
+event_reads (Call func args ins outs prepared) x = any_piece ins x
+event_reads _ x = false
+
+abbrev pub event_writes : EventKind → ℕ → Bool
+event_writes (Call func args ins outs prepared) x = any_range outs x || any_prepared prepared x
+event_writes (Ret func args result same outs commit) x = any_piece (outs ++ released commit) x
+event_writes (Alloc at size) x = within at (granted at size) x
+event_writes (Free at size) x = within at size x
+event_writes _ x = false
+
+-- a refused write counts as one where it meets no constant; constants are never written, and reading them is free
+abbrev pub access_reads : Access → ℕ → Bool
+access_reads (Reading r) x = in_range r x
+access_reads (Writing r) x = in_range r x && is_constant x
+access_reads (Freeing at) x = within at 1 x && is_constant x
+access_reads _ x = false
+
+abbrev pub access_writes : Access → ℕ → Bool
+access_writes (Writing r) x = in_range r x && not (is_constant x)
+access_writes (Freeing at) x = within at 1 x && not (is_constant x)
+access_writes _ x = false
+
+abbrev pub reads : Act → ℕ → Bool
+reads (Load origin at bytes) x = within at (length bytes) x
+reads (Fault kind crosses ins outs access) x = any_range ins x || access_reads access x
+reads (Made e) x = event_reads e.kind x
+reads _ x = false
+
+abbrev pub writes : Act → ℕ → Bool
+writes (Store origin at bytes) x = within at (length bytes) x
+writes (Enter func args at bytes) x = within at (length bytes) x
+writes (Leave at size) x = within at size x
+writes (Fault kind crosses ins outs access) x = any_range outs x || access_writes access x
+writes (Made e) x = event_writes e.kind x
+writes _ x = false
+
+abbrev pub touches : Act → ℕ → Bool
+touches a x = reads a x || writes a x
+
+-- the accesses of an Alloc and of a Ret come after the event, all others before it
+abbrev pub late_event : EventKind → Bool
+late_event (Alloc at size) = true
+late_event (Ret func args result same outs commit) = true
+late_event _ = false
+
+abbrev pub late : Act → Bool
+late (Made e) = late_event e.kind
+late _ = false
+
+-- how many events of its thread come before a mark's accesses
+abbrev pub place : Mark → ℕ
+place m = cond (late m.act) (suc m.index) m.index
+
+-- a live byte becomes pending
+abbrev pub hold : Cell → Cell
+hold (Live v) = Held v
+hold c = c
+
+-- a pending byte becomes live as it is
+abbrev pub release : Cell → Cell
+release (Held v) = Live v
+release c = c
+
+-- what a piece leaves of a byte of its range
+abbrev pub give : Piece → ℕ → Cell → Cell
+give p x c = cond (ltb x (p.range.at + length p.bytes)) (Live (byte_at p.range.at p.bytes x)) (release c)
+
+abbrev pub give_any : List Piece → ℕ → Cell → Cell
+give_any [] x c = c
+give_any (p ∷ ps) x c = cond (in_range p.range x) (give p x c) (give_any ps x c)
+
+abbrev pub event_leaves : EventKind → ℕ → Cell → Cell
+event_leaves (Call func args ins outs prepared) x c = cond (any_range outs x || any_prepared prepared x) (hold c) c
+event_leaves (Ret func args result same outs commit) x c = give_any (outs ++ released commit) x c
+event_leaves (Alloc at size) x c = cond (within at (granted at size) x) (Live 0) c
+event_leaves (Free at size) x c = cond (within at size x) Dead c
+event_leaves _ x c = c
+
+abbrev pub cell_after : Act → ℕ → Cell → Cell
+cell_after (Store origin at bytes) x c = cond (within at (length bytes) x) (Live (byte_at at bytes x)) c
+cell_after (Enter func args at bytes) x c = cond (within at (length bytes) x) (Live (byte_at at bytes x)) c
+cell_after (Leave at size) x c = cond (within at size x) Dead c
+cell_after (Made e) x c = event_leaves e.kind x c
+cell_after _ x c = c
+
+-- a block begins where an Alloc puts it, until a Free of its bytes
+abbrev pub event_block : EventKind → ℕ → ℕ → ℕ
+event_block (Alloc at size) x n = cond (within at (granted at size) x) (cond (eqb x at) size 0) n
+event_block (Free at size) x n = cond (within at size x) 0 n
+event_block _ x n = n
+
+abbrev pub block_after : Act → ℕ → ℕ → ℕ
+block_after (Made e) x n = event_block e.kind x n
+block_after _ x n = n
+
+-- what a mark leaves of a byte
+abbrev pub leaves : Act → ℕ → Byte → Byte
+leaves a x b = record { cell = cell_after a x b.cell; block = block_after a x b.block }
+
+-- the byte is what these pieces say
+abbrev pub Shows : List Piece → ℕ → Cell → Type 0
+Shows [] x c = Unit {0}
+Shows (p ∷ ps) x c = (in_range p.range x ≡ true → c ≡ Live (byte_at p.range.at p.bytes x)) × Shows ps x c
+
+-- what an event asks of a byte: a Call reads and holds live bytes that aren't pending, a Free gives back a whole block
+abbrev pub EventAsks : EventKind → ℕ → Byte → Type 0
+EventAsks (Call func args ins outs prepared) x b = Shows ins x b.cell × ((any_range outs x || any_prepared prepared x) ≡ true → IsLive b.cell)
+EventAsks (Free at size) x b = within at size x ≡ true → IsLive b.cell × (x ≡ at → b.block ≡ size)
+EventAsks _ x b = Unit {0}
+
+-- each byte of the range is live and not pending
+abbrev pub AllLive : Range → (ℕ → Byte) → Type 0
+AllLive r c = (x : ℕ) → in_range r x ≡ true → IsLive (c x).cell
+
+-- some byte of the range is in no live object
+abbrev pub SomeDead : Range → (ℕ → Byte) → Type 0
+SomeDead r c = (x : ℕ) × (in_range r x ≡ true) × ((c x).cell ≡ Dead)
+
+-- what memory shows of the access that a fault stops
+abbrev pub AccessAsks : FaultKind → Access → (ℕ → Byte) → Type 0
+AccessAsks kind Nowhere c = Unit {0}
+AccessAsks kind (Reading r) c = SomeDead r c
+AccessAsks ReadOnly (Writing r) c = AllLive r c
+AccessAsks kind (Writing r) c = SomeDead r c
+AccessAsks kind (Freeing at) c = (c at).block ≡ 0
+
+-- what a mark asks of the memory
+abbrev pub Asks : Act → (ℕ → Byte) → Type 0
+Asks (Load origin at bytes) c = (x : ℕ) → within at (length bytes) x ≡ true → (c x).cell ≡ Live (byte_at at bytes x)
+Asks (Store origin at bytes) c = (x : ℕ) → within at (length bytes) x ≡ true → IsLive (c x).cell
+Asks (Leave at size) c = (x : ℕ) → within at size x ≡ true → IsLive (c x).cell
+Asks (Fault kind crosses ins outs access) c = ((x : ℕ) → (any_range ins x || any_range outs x) ≡ true → IsLive (c x).cell) × AccessAsks kind access c
+Asks (Made e) c = (x : ℕ) → EventAsks e.kind x (c x)
+Asks _ c = Unit {0}
+
+-- both touch the byte, and one writes it
+abbrev pub conflict : Act → Act → ℕ → Bool
+conflict a b x = (writes a x && touches b x) || (touches a x && writes b x)

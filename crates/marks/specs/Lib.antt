@@ -1,0 +1,6 @@
+pub mod Kinds
+pub mod Places
+pub mod Ranges
+pub mod Marks
+pub mod Bytes
+pub mod Wants

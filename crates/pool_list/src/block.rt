@@ -1,0 +1,8 @@
+// A live block of a pool.
+
+/// The bytes from `addr` on, `len` of them.
+#[derive(Clone, Copy, Debug, PartialEq, Eq)]
+pub struct Block {
+    pub addr: u64,
+    pub len: u64,
+}

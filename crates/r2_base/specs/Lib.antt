@@ -1,0 +1,6 @@
+pub mod Causes
+pub mod Sinks
+pub mod Names
+pub mod Held
+pub mod Listed
+pub mod Memory
