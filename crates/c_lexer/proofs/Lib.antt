@@ -1,0 +1,12 @@
+pub mod Search
+pub mod Runs
+pub mod Digits
+pub mod Comments
+pub mod Parts
+pub mod Strings
+pub mod Longest
+pub mod Readings
+pub mod Inside
+pub mod Order
+pub mod Exact
+pub mod Total
