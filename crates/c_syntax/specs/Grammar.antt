@@ -19,9 +19,16 @@ pub data Label : Type 0 where
   Nameless : Label
 
 -- a declaration has the offset of its name, or else of its first token
+abbrev pub label_from : ℕ → Label → ℕ
+label_from f (Named g n) = g
+label_from f Nameless = f
+
+abbrev pub label_name : Label → Option (List ℕ)
+label_name (Named g n) = Some n
+label_name Nameless = None
+
 abbrev pub declare : ℕ → Annots → Base → Parts → Label → Rest → Decl
-declare f an b ps (Named g n) r = Declare g an b ps (Some n) r
-declare f an b ps Nameless r = Declare f an b ps None r
+declare f an b ps l r = Declare (label_from f l) an b ps (label_name l) r
 
 -- it isn't the abstract declarator without a token
 abbrev pub IsSomething : Parts → Label → Type 0
