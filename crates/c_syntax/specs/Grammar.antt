@@ -1,5 +1,5 @@
 -- Expressions, declarators and annotations by productions (C11 6.5, 6.7.2 and 6.7.6). `IsX ts x rest`: the tokens ts begin with an X, whose tree is x, and rest is what follows it.
-use Rattle.std.specs.Prelude.{◌≡◌, ℕ, ℤ, suc, Bool, true, false, List, ◌∷◌, Some, None}
+use Rattle.std.specs.Prelude.{◌≡◌, ℕ, ℤ, suc, Bool, true, false, List, ◌∷◌, Option, Some, None}
 use Rattle.c_lexer.specs.declared.token.Sign.{Sign}
 use Rattle.c_lexer.specs.declared.token.Sign.TheVariants as signs
 use Rattle.c_lexer.specs.declared.token.Suffix.{Suffix}

@@ -27,15 +27,15 @@ with_core cores.Long words.Int = Some cores.LongInt
 with_core cores.Int words.Long = Some cores.LongInt
 with_core _ _ = None
 
-abbrev put_core : Specifiers → Option Core → Option Specifiers
+abbrev pub put_core : Specifiers → Option Core → Option Specifiers
 put_core s None = None
 put_core s (Some c) = Some (record s { core = c })
 
-abbrev put_sign : Specifiers → Signedness → Signedness → Option Specifiers
+abbrev pub put_sign : Specifiers → Signedness → Signedness → Option Specifiers
 put_sign s signedness.Absent g = Some (record s { sign = g })
 put_sign s _ g = None
 
-abbrev put_storage : Specifiers → Bool → Option Specifiers
+abbrev pub put_storage : Specifiers → Bool → Option Specifiers
 put_storage s true = None
 put_storage s false = Some (record s { storage = true })
 
@@ -48,7 +48,7 @@ with_word s words.Extern = put_storage s s.storage
 with_word s words.Static = put_storage s s.storage
 with_word s w = put_core s (with_core s.core w)
 
-abbrev tag_core : Core → List ℕ → Option Core
+abbrev pub tag_core : Core → List ℕ → Option Core
 tag_core cores.Absent n = Some (cores.Struct n)
 tag_core _ n = None
 

@@ -13,7 +13,7 @@ mod tree;
 pub use declaration::{Annot, Atom, Base, Decl, Item, Part, PartKind, Rest, Value};
 pub use expression::{Expr, ExprKind};
 pub use id::{DeclId, ExprId, StmtId};
-pub use law::one_source;
+pub use law::{empty_source, one_source};
 pub use seq::Seq;
 pub use specifier::{Core, Signedness, Specifiers};
 pub use statement::{Entry, First, Stmt, StmtKind};
