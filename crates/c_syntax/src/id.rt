@@ -1,0 +1,13 @@
+// Names of nodes.
+
+/// Names a declaration of a tree.
+#[derive(Clone, Copy, Debug, PartialEq, Eq)]
+pub struct DeclId(pub u32);
+
+/// Names a statement of a tree.
+#[derive(Clone, Copy, Debug, PartialEq, Eq)]
+pub struct StmtId(pub u32);
+
+/// Names an expression of a tree.
+#[derive(Clone, Copy, Debug, PartialEq, Eq)]
+pub struct ExprId(pub u32);
