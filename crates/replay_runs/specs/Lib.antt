@@ -1,0 +1,10 @@
+pub mod Runs
+pub mod Known
+pub mod Chains
+pub mod Interface
+pub mod Threads
+pub mod Pool
+pub mod Keys
+pub mod Rules
+pub mod Records
+pub mod Laws

@@ -1,0 +1,168 @@
+-- The rules of a replay run: how each mark follows from its thread's own past, and from the events that share a key.
+use Rattle.std.specs.Prelude.{◌≡◌, ◌≢◌, ◌⊎◌, ℕ, ◌≤◌, ◌<◌, Bool, true, false, ◌&&◌, ◌||◌, cond, eqb, List, [], ◌∷◌, ◌++◌, map, length, Option, Some, None, is_some}
+use Rattle.logical_clock.specs.declared.key.Class.{Class}
+use Rattle.logical_clock.specs.declared.key.Class.TheVariants.{Callback, Pool, Async}
+use Rattle.logical_clock.specs.declared.key.Key.{Key}
+use Rattle.marks.specs.declared.side.Side.TheVariants.{Replay, System}
+use Rattle.marks.specs.declared.fault.FaultKind.{FaultKind}
+use Rattle.marks.specs.declared.fault.FaultKind.TheVariants.{NotLive, ReadOnly}
+use Rattle.marks.specs.Places.{thread_count, is_constant, is_system}
+use Rattle.marks.specs.Ranges.{Range, Piece, Prepared, in_range, any_range, are_bytes, piece_ranges, piece_bytes, prepared_ranges}
+use Rattle.marks.specs.Marks.{EventKind, Call, Ret, Up, UpRet, Alloc, Free, Stop, Act, Enter, Fault, Made, Mark, Access, Reading, Writing, Commit, NoRegion, Withheld, Released, logged}
+use Rattle.marks.specs.Bytes.{writes, touches}
+use Rattle.marks.specs.Wants.{Want, Outside, Stores, Enters, Calls, Below, Gives, Returns, CallsBack, Steps, answer_to}
+use Rattle.replay_runs.specs.Runs.{Link, OfThread, OfKey, Rules}
+use Rattle.replay_runs.specs.Interface.{Interface, Program, Committing}
+use Rattle.replay_runs.specs.Threads.{frame_place, HasRoom, OpenCall, open_calls, open_ups, fault_of, is_stop, is_stopped, last_return, same_return}
+use Rattle.replay_runs.specs.Pool.{blocks, IsPlace, prepares_key, in_use, is_registered}
+use Rattle.replay_runs.specs.Keys.{sorted_keys, keys_for}
+
+-- what code above the cut may want
+abbrev pub is_above : Want → Bool
+is_above Outside = false
+is_above (Below func args) = false
+is_above (Gives func args) = false
+is_above (Returns func result) = false
+is_above (CallsBack func args bytes) = false
+is_above (Steps indirect func args) = false
+is_above _ = true
+
+-- the thread is below the cut, and may be called back
+abbrev pub is_below : Want → Bool
+is_below Outside = true
+is_below (Below func args) = true
+is_below _ = false
+
+-- the mark answers what the code wants; a thread above the cut may stop at any mark
+abbrev pub is_reply : Want → Act → Bool
+is_reply want act = cond (is_stop act) (is_above want) ((is_above want || is_below want) && is_some (answer_to want act))
+
+-- each of the functions may run above the cut
+abbrev pub AllMayRun : Interface → List ℕ → Type 0
+AllMayRun i [] = Unit {0}
+AllMayRun i (f ∷ fs) = (i.may_run Replay f ≡ true) × AllMayRun i fs
+
+-- a function that a pointer names may run in the mode that the call gives it, and those that a call registers above
+-- the cut
+abbrev pub KeepsModes : Interface → Want → Type 0
+KeepsModes i (Enters indirect func args bytes) = indirect ≡ true → i.may_run Replay func ≡ true
+KeepsModes i (Calls indirect func args) = (indirect ≡ true → i.may_run System func ≡ true) × AllMayRun i (i.registers func args)
+KeepsModes i _ = Unit {0}
+
+-- no two of the ranges meet
+abbrev pub Apart : List Range → Type 0
+Apart [] = Unit {0}
+Apart (r ∷ rs) = ((x : ℕ) → in_range r x ≡ true → any_range rs x ≡ false) × Apart rs
+
+abbrev pub DistinctKeys : List Prepared → Type 0
+DistinctKeys [] = Unit {0}
+DistinctKeys (p ∷ ps) = (prepares_key ps p.key ≡ false) × DistinctKeys ps
+
+-- each piece has all bytes of its range
+abbrev pub AreWhole : List Piece → Type 0
+AreWhole [] = Unit {0}
+AreWhole (p ∷ ps) = (length p.bytes ≡ p.range.size) × AreWhole ps
+
+-- a piece of the used size, which is at most the capacity
+abbrev pub IsUsed : ℕ → Piece → Type 0
+IsUsed n p = (length p.bytes ≡ n) × (n ≤ p.range.size) × (are_bytes p.bytes ≡ true)
+
+abbrev pub AreUsed : List ℕ → List Piece → Type 0
+AreUsed [] [] = Unit {0}
+AreUsed (n ∷ ns) (p ∷ ps) = IsUsed n p × AreUsed ns ps
+AreUsed _ _ = ⊥
+
+-- the region of a NULL pointer has no bytes
+abbrev pub CommitsUsed : Option ℕ → Commit → Type 0
+CommitsUsed None commit = commit ≡ Withheld
+CommitsUsed (Some n) (Released p) = IsUsed (cond (eqb p.range.at 0) 0 n) p
+CommitsUsed (Some n) _ = ⊥
+
+abbrev pub Commits : Option Committing → Commit → Type 0
+Commits None commit = commit ≡ NoRegion
+Commits (Some c) commit = CommitsUsed c.used commit
+
+-- the Ret closes the innermost open Call, over the whole of its ranges
+abbrev pub Closes : List OpenCall → ℕ → List ℕ → List Range → Type 0
+Closes [] func args outs = ⊥
+Closes (c ∷ cs) func args outs = (func ≡ c.func) × (args ≡ c.args) × (outs ≡ c.outs)
+
+abbrev pub ClosesUp : List ℕ → ℕ → Type 0
+ClosesUp [] func = ⊥
+ClosesUp (f ∷ fs) func = func ≡ f
+
+-- what a Ret carries
+pub record IsReturn (i : Interface) (mine : List Mark) (func : ℕ) (args : List ℕ) (result : ℕ) (same : Bool) (outs : List Piece) (commit : Commit) : Type 0 where
+  pub closes : Closes (open_calls mine) func args (piece_ranges outs)
+  pub result_is : i.gives func result ≡ true
+  pub used : AreUsed (i.used func args result) outs
+  pub committed : Commits (i.commits func args result) commit
+  -- the form `same` comes exactly where result and bytes are those of the thread's last return of the function
+  pub repeats : same ≡ (i.is_cached func && same_return (last_return func mine) (record { result = result; bytes = piece_bytes outs ++ logged commit }))
+
+-- what an event carries besides what the code wants
+abbrev pub EventCarries : Interface → List Mark → EventKind → Type 0
+EventCarries i mine (Call func args ins outs prepared) = (piece_ranges ins ≡ i.ins func args) × AreWhole ins × (outs ≡ i.outs func args) × (prepared ≡ i.prepares func args) × Apart (outs ++ prepared_ranges prepared) × DistinctKeys prepared
+EventCarries i mine (Ret func args result same outs commit) = IsReturn i mine func args result same outs commit
+EventCarries i mine (Up func args) = (i.may_run Replay func ≡ true) × (i.takes func args ≡ true)
+EventCarries i mine (UpRet func result) = ClosesUp (open_ups mine) func
+EventCarries i mine (Alloc at size) = Unit {0}
+EventCarries i mine (Free at size) = eqb at 0 ≡ eqb size 0
+EventCarries i mine (Stop fault) = fault ≡ fault_of mine
+
+abbrev pub SomeConstant : Range → Type 0
+SomeConstant r = (x : ℕ) × (in_range r x ≡ true) × (is_constant x ≡ true)
+
+-- a Call is stopped at the first bad one of its ranges: it has touched those before
+pub data StopsCall (ins outs : List Range) : FaultKind → List Range → List Range → Access → Type 0 where
+  AtIn : (before after : List Range) (r : Range) → ins ≡ before ++ (r ∷ after) → StopsCall ins outs NotLive before [] (Reading r)
+  AtOut : (before after : List Range) (r : Range) → outs ≡ before ++ (r ∷ after) → Apart before → StopsCall ins outs NotLive ins before (Writing r)
+  AtConstant : (before after : List Range) (r : Range) → outs ≡ before ++ (r ∷ after) → Apart before → SomeConstant r → StopsCall ins outs ReadOnly ins before (Writing r)
+
+-- what a mark carries besides what the code wants: frames lie at the least free place, a fault comes where it must
+abbrev pub Carries : Interface → ℕ → List Mark → Want → Act → Type 0
+Carries i t mine want (Made e) = EventCarries i mine e.kind
+Carries i t mine (Enters indirect func args bytes) (Enter f vs at b) = (at ≡ frame_place t mine) × HasRoom t mine (length bytes)
+Carries i t mine (Enters indirect func args bytes) (Fault kind crosses ins outs access) = HasRoom t mine (length bytes) → ⊥
+Carries i t mine (Stores origin at bytes) (Fault ReadOnly crosses ins outs (Writing r)) = SomeConstant r
+Carries i t mine (Calls indirect func args) (Fault kind crosses ins outs access) = StopsCall (i.ins func args) (i.outs func args ++ prepared_ranges (i.prepares func args)) kind ins outs access
+Carries i t mine want act = Unit {0}
+
+-- the keys of an event, each once and in order
+abbrev pub HasKeys : Interface → ℕ → List Mark → Act → Type 0
+HasKeys i t mine (Made e) = map (λ q. q.key) e.keys ≡ sorted_keys (keys_for i t mine e.kind)
+HasKeys i t mine act = Unit {0}
+
+-- the rules of a thread's own past
+pub record OwnRules (program : Program) (mine : List Mark) (m : Mark) : Type 0 where
+  pub thread : m.thread < thread_count
+  pub side : m.side ≡ Replay
+  pub replies : is_reply (program.want m.thread mine) m.act ≡ true
+  pub modes : is_stop m.act ≡ false → KeepsModes program.interface (program.want m.thread mine)
+  pub carries : Carries program.interface m.thread mine (program.want m.thread mine) m.act
+  pub keys : HasKeys program.interface m.thread mine m.act
+  -- code above the cut touches no memory of the system, and writes no constant
+  pub other_space : (x : ℕ) → touches m.act x ≡ true → is_system x ≡ false
+  pub read_only : (x : ℕ) → writes m.act x ≡ true → is_constant x ≡ false
+  -- nothing follows a Stop, and a fault is followed by its Stop alone
+  pub running : is_stopped mine ≡ false
+  pub after_fault : fault_of mine ≢ None → is_stop m.act ≡ true
+
+-- the rules of the events with a key, by its class and value
+abbrev pub SharedEvent : Interface → Class → ℕ → List Mark → EventKind → Type 0
+SharedEvent i Pool value past (Alloc at size) = IsPlace (blocks past) size at
+SharedEvent i Callback value past (Up func args) = (func ≡ i.main) ⊎ (is_registered past ≡ true)
+SharedEvent i Async value past (Call func args ins outs prepared) = prepares_key prepared value ≡ true → in_use value past ≡ None
+SharedEvent i Async value past (Ret func args result same outs (Released p)) = in_use value past ≡ Some p.range
+SharedEvent i class value past kind = Unit {0}
+
+abbrev pub SharedAct : Interface → Key → List Mark → Act → Type 0
+SharedAct i k past (Made e) = SharedEvent i k.class k.value past e.kind
+SharedAct i k past act = Unit {0}
+
+abbrev pub SharedRules : Interface → Link → List Mark → Mark → Type 0
+SharedRules i (OfThread t) past m = Unit {0}
+SharedRules i (OfKey k) past m = SharedAct i k past m.act
+
+abbrev pub replay_rules : Program → Rules
+replay_rules program = record { Own = OwnRules program; Shared = SharedRules program.interface }
