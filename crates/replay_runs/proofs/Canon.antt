@@ -4,7 +4,7 @@ use Rattle.std.proofs.lemmas.Bool.{and_parts, cases_lt}
 use Rattle.marks.specs.Marks.{Act, Turn, Load, Store, Enter, Leave, Step, Fault, Made, Mark, is_event}
 use Rattle.replay_runs.specs.Runs.{Link, OfThread, OfKey, keys_of, is_listed, has, clock_of, last_clock, In, Start, marks_of, events_with, Rules, Run, Disciplined, EndsWithEvent, Trimmed, clock_at, rank_in}
 use Rattle.marks.specs.Places.{thread_count}
-use Rattle.replay_runs.proofs.Order.{In-right, Run-front, own_link, old_ticket}
+use Rattle.replay_runs.proofs.Causes.{In-right, Run-front, own_link, old_ticket}
 use Rattle.replay_runs.proofs.Swap.{Swapped}
 use Rattle.replay_runs.specs.Laws.{IsOrdered}
 use Rattle.replay_runs.proofs.Sort.{sort_by, sort_ordered}

@@ -4,7 +4,7 @@ use Rattle.std.proofs.lemmas.Bool.{and_parts, cases_lt, ne_eqb}
 use Rattle.marks.specs.Marks.{Act, Turn, Load, Store, Enter, Leave, Step, Fault, Made, Mark, is_event}
 use Rattle.replay_runs.specs.Runs.{Link, OfThread, has, clock_of, In, Start, marks_of, events_with, byte, fault_count, is_fault, counts, steps_since, steps_of, Rules, Run, Disciplined, EndsWithEvent, Trimmed, clock_at, rank_in, history, Determined}
 use Rattle.marks.specs.Places.{thread_count}
-use Rattle.replay_runs.proofs.Order.{In-append, In-right, Run-front, kept_one, kept_grows, own_link, old_ticket, having-grows, new_event}
+use Rattle.replay_runs.proofs.Causes.{In-append, In-right, Run-front, kept_one, kept_grows, own_link, old_ticket, having-grows, new_event}
 use Rattle.replay_runs.proofs.Swap.{Swapped}
 use Rattle.replay_runs.specs.Laws.{IsOrdered, IsAtMost}
 use Rattle.replay_runs.proofs.Sort.{sort_by}

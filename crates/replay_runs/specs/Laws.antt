@@ -1,12 +1,16 @@
 -- The laws of replay runs.
-use Rattle.std.specs.Prelude.{◌≡◌, ◌≢◌, ◌↔◌, ℕ, ◌<◌, ◌≤◌, Bool, true, false, cond, eqb, ltb, List, [], ◌∷◌, ◌++◌, length}
+use Rattle.std.specs.Prelude.{◌≡◌, ◌≢◌, ◌↔◌, ℕ, ◌<◌, ◌≤◌, Bool, true, false, cond, eqb, ltb, List, [], ◌∷◌, ◌++◌, length, Option}
 use Rattle.logical_clock.specs.declared.event.Record.{Record}
-use Rattle.marks.specs.Marks.{Mark, is_event}
-use Rattle.marks.specs.Bytes.{Byte, Asks}
+use Rattle.marks.specs.Places.{is_constant, is_system}
+use Rattle.marks.specs.Ranges.{Range, range, in_range}
+use Rattle.marks.specs.Marks.{Load, Store, Leave, Mark, is_event}
+use Rattle.marks.specs.Bytes.{AllLive, Byte, Asks}
+use Rattle.marks.specs.Wants.{Want, Loads, Stores, Leaves}
 use Rattle.replay_runs.specs.Runs.{Link, OfThread, In, Start, has, marks_of, events_with, byte, DirectCause, RaceFree, Allowed, Run, Disciplined, EndsWithEvent, Trimmed, rank_in, history}
 use Rattle.replay_runs.specs.Known.{NoRace, Watched}
 use Rattle.replay_runs.specs.Chains.{IsLongest}
-use Rattle.replay_runs.specs.Interface.{Program}
+use Rattle.replay_runs.specs.Interface.{Interface, Program}
+use Rattle.replay_runs.specs.Checks.{Finding, Passes, Finds, checks}
 use Rattle.replay_runs.specs.Threads.{is_stopped}
 use Rattle.replay_runs.specs.Rules.{OwnRules, is_above, replay_rules}
 use Rattle.replay_runs.specs.Records.{record_of, output}
@@ -150,3 +154,21 @@ LastAccessesTell program s =
 abbrev pub ClocksAreLongestChains : Program → Type 0
 ClocksAreLongestChains program =
     (memory : ℕ → Byte) (run : List Mark) → Run (replay_rules program) (fresh memory) run → (e : Mark) → In e run → is_event e.act ≡ true → IsLongest run e
+
+-- nothing disturbs the access of a range by m: it races with no earlier one, and each byte is live, not pending, of
+-- replay memory and, if it is written, no constant
+pub record Undisturbed (s : Start) (past : List Mark) (m : Mark) (write : Bool) (r : Range) : Type 0 where
+  pub no_race : NoRace past m
+  pub live : AllLive r (λ x. byte s x past)
+  pub own_space : (x : ℕ) → in_range r x ≡ true → is_system x ≡ false
+  pub writable : write ≡ true → (x : ℕ) → in_range r x ≡ true → is_constant x ≡ false
+
+-- the checks of a load, a store and the end of a frame pass exactly where nothing disturbs the access
+pub record ChecksAreExact (i : Interface) (s : Start) (past : List Mark) (m : Mark) : Type 0 where
+  pub loads : (o : Option ℕ) (at : ℕ) (bytes : List ℕ) → m.act ≡ Load o at bytes → Passes (checks i s past m.thread (Loads o at (length bytes))) ↔ Undisturbed s past m false (range at (length bytes))
+  pub stores : (o : Option ℕ) (at : ℕ) (bytes : List ℕ) → m.act ≡ Store o at bytes → Passes (checks i s past m.thread (Stores o at bytes)) ↔ Undisturbed s past m true (range at (length bytes))
+  pub leaves : (at size : ℕ) → m.act ≡ Leave at size → Passes (checks i s past m.thread (Leaves at size)) ↔ Undisturbed s past m true (range at size)
+
+-- what a list of checks finds and that it passes exclude each other
+abbrev pub FindsOrPasses : Interface → Start → List Mark → ℕ → Want → Type 0
+FindsOrPasses i s past t want = (f : Finding) → Finds (checks i s past t want) f → Passes (checks i s past t want) → ⊥

@@ -1,8 +1,11 @@
 //! The laws of replay runs. Each holds for any code, any annotations and any start.
 
+ghost use Rattle.std.specs.Prelude.{List, ℕ};
+ghost use Rattle.marks.specs.Marks.{Mark};
+ghost use Rattle.marks.specs.Wants.{Want};
 ghost use Rattle.replay_runs.specs.Runs.{Start};
-ghost use Rattle.replay_runs.specs.Interface.{Program};
-ghost use Rattle.replay_runs.specs.Laws.{ClocksAreLongestChains, ClocksGiveTheOrder, EachMarkIsTheNext, LastAccessesTell, LaterMarksCanBeDropped, NeighboursChangePlaces, OneHistoryOneRun, OneMoreRecord, OneRecordLess, RacesAreFoundStepByStep, RecordsTellWhoIsLeft};
+ghost use Rattle.replay_runs.specs.Interface.{Interface, Program};
+ghost use Rattle.replay_runs.specs.Laws.{ChecksAreExact, ClocksAreLongestChains, ClocksGiveTheOrder, EachMarkIsTheNext, FindsOrPasses, LastAccessesTell, LaterMarksCanBeDropped, NeighboursChangePlaces, OneHistoryOneRun, OneMoreRecord, OneRecordLess, RacesAreFoundStepByStep, RecordsTellWhoIsLeft};
 
 /// Two neighbouring marks of two threads that share no key can change places: the run stays disciplined, with the
 /// same marks of each thread, history, memory and output.
@@ -59,3 +62,16 @@ pub fn last_accesses_tell()
 pub fn clocks_are_longest_chains()
     ensures { (program : Program) → ClocksAreLongestChains program }
 {}
+
+/// The checks of a load, a store or the end of a frame pass exactly where the access is live, in its own space and
+/// without a race.
+pub fn checks_are_exact()
+    ensures { (i : Interface) (s : Start) (past : List Mark) (m : Mark) → ChecksAreExact i s past m }
+{
+}
+
+/// Where the checks of a step find a fault or breach, they don't pass.
+pub fn checks_find_or_pass()
+    ensures { (i : Interface) (s : Start) (past : List Mark) (t : ℕ) (want : Want) → FindsOrPasses i s past t want }
+{
+}

@@ -1,0 +1,5 @@
+pub mod Bytes
+pub mod Decide
+pub mod Refuse
+pub mod Scenes
+pub mod Named
