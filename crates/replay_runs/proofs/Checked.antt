@@ -1,15 +1,13 @@
 -- The checks of an access pass exactly where nothing disturbs it.
-use Rattle.std.proofs.Common.{◌≡◌, ◌↔◌, ◌⊎◌, inl, inr, ⊎_elim, ℕ, zero, suc, ◌+◌, ◌<◌, ◌≤◌, Bool, true, false, ◌&&◌, ◌||◌, cond, eqb, List, [], ◌∷◌, length, Option, Some, None, refl, sym, ap, ◌∙◌, subst, arith}
-use Rattle.std.proofs.lemmas.Bool.{and_parts, and_from, or_cases, true≢false, cases_lt}
+use Rattle.std.proofs.Common.{◌≡◌, ◌↔◌, inl, inr, ⊎_elim, ℕ, Bool, true, false, ◌&&◌, ◌||◌, cond, List, [], ◌∷◌, length, Option, refl, sym, ap, ◌∙◌, arith}
+use Rattle.std.proofs.lemmas.Bool.{true≢false, cases_lt}
 use Rattle.marks.specs.Places.{is_constant, is_system}
-use Rattle.marks.specs.Ranges.{Range, range, within, in_range, any_range}
-use Rattle.marks.specs.Marks.{Act, Load, Store, Leave, Mark}
-use Rattle.marks.specs.Bytes.{Cell, Dead, Live, Held, Byte, IsLive, IsHeld, AllLive, writes, touches, late, place, conflict}
-use Rattle.marks.specs.Wants.{Loads, Stores, Leaves}
-use Rattle.replay_runs.specs.Runs.{Start, OfThread, In, byte}
-use Rattle.replay_runs.specs.Known.{known, known_at, NoRace}
-use Rattle.replay_runs.specs.Interface.{Interface}
-use Rattle.replay_runs.specs.Checks.{Checks, Done, Check, Finding, Finds, Passes, Races, range_checks, checks}
+use Rattle.marks.specs.Ranges.{Range, range, within, in_range}
+use Rattle.marks.specs.Marks.{Load, Store, Leave, Mark}
+use Rattle.marks.specs.Bytes.{Cell, Dead, Live, Held, IsLive, IsHeld, writes, touches, late, place, conflict}
+use Rattle.replay_runs.specs.Runs.{Start, OfThread, byte}
+use Rattle.replay_runs.specs.Known.{known, known_at}
+use Rattle.replay_runs.specs.Checks.{Checks, Done, Check, Finding, Finds, Passes, Races, range_checks}
 use Rattle.replay_runs.specs.Laws.{Undisturbed}
 
 no_true : (b : Bool) → (b ≡ true → ⊥) → b ≡ false
@@ -77,12 +75,19 @@ module _ (s : Start) (past : List Mark) (m : Mark) (write : Bool) (r : Range) (t
       }
 
   passes : Undisturbed s past m write r → Passes (range_checks s past m.thread write [] r Done)
-  passes u =
-      ((λ x b. true≢false (sym b.1 ∙ u.own_space x b.0)),
-      ((λ x b. raced x b.0 b.1.0 b.1.1),
-      ((λ x b. dead_live (byte s x past).cell b.1 (u.live x b.0)),
-      ((λ x b. ⊎_elim (λ h. held_live (byte s x past).cell h (u.live x b.0)) (λ z. true≢false (sym z)) b.1),
-      ((λ x b. true≢false (sym b.2 ∙ u.writable b.1 x b.0)), tt)))))
+  passes u = (
+    (λ x b. true≢false (sym b.1 ∙ u.own_space x b.0)),
+    (
+      (λ x b. raced x b.0 b.1.0 b.1.1),
+      (
+        (λ x b. dead_live (byte s x past).cell b.1 (u.live x b.0)),
+        (
+          (λ x b. ⊎_elim (λ h. held_live (byte s x past).cell h (u.live x b.0)) (λ z. true≢false (sym z)) b.1),
+          ((λ x b. true≢false (sym b.2 ∙ u.writable b.1 x b.0)), tt),
+        ),
+      ),
+    ),
+  )
     where
       raced : (x : ℕ) → in_range r x ≡ true → (v : ℕ) → Races past m.thread write x v → ⊥
       raced x e v w =

@@ -17,7 +17,7 @@ use Rattle.replay_runs.specs.Records.{record_of, output}
 
 -- a start at which nothing was done, with this memory
 abbrev pub fresh : (ℕ → Byte) → Start
-fresh memory = record { parts = λ t. []; events = λ l. []; memory = memory }
+fresh memory = record { parts = λ t. []; events = λ l. []; memory = memory; faults = 0 }
 
 abbrev pub IsReplayRun : Program → Start → List Mark → Type 0
 IsReplayRun program s run = Disciplined (replay_rules program) s run

@@ -117,7 +117,7 @@ SomeConstant r = (x : ℕ) × (in_range r x ≡ true) × (is_constant x ≡ true
 pub data StopsCall (ins outs : List Range) : FaultKind → List Range → List Range → Access → Type 0 where
   AtIn : (before after : List Range) (r : Range) → ins ≡ before ++ (r ∷ after) → StopsCall ins outs NotLive before [] (Reading r)
   AtOut : (before after : List Range) (r : Range) → outs ≡ before ++ (r ∷ after) → Apart before → StopsCall ins outs NotLive ins before (Writing r)
-  AtConstant : (before after : List Range) (r : Range) → outs ≡ before ++ (r ∷ after) → Apart before → SomeConstant r → StopsCall ins outs ReadOnly ins before (Writing r)
+  AtConstant : (before after : List Range) (r : Range) → outs ≡ before ++ (r ∷ after) → Apart (r ∷ before) → SomeConstant r → StopsCall ins outs ReadOnly ins before (Writing r)
 
 -- what a mark carries besides what the code wants: frames lie at the least free place, a fault comes where it must
 abbrev pub Carries : Interface → ℕ → List Mark → Want → Act → Type 0

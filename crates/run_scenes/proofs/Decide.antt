@@ -1,217 +1,32 @@
 -- A test that a written-out run passes only if it is disciplined.
-use Rattle.std.proofs.Common.{◌≡◌, ◌≢◌, ◌⊎◌, inl, inr, ⊎_elim, ℕ, zero, suc, ◌+◌, ◌%◌, ◌<◌, ◌≤◌, Bool, true, false, ◌&&◌, ◌||◌, not, cond, eqb, leb, ltb, List, [], ◌∷◌, ◌++◌, map, length, Option, Some, None, is_some, refl, sym, ap, ◌∙◌, subst, arith, eq-eqb, eqb-true}
-use Rattle.std.proofs.lemmas.Bool.{le-leb, lt-ltb, leb-true, ltb-true, and_from, and_parts, or_cases, true≢false, cases_eq, cases_Bool}
-use Rattle.logical_clock.specs.Class.{number_of}
+use Rattle.std.proofs.Common.{◌≡◌, inl, inr, ⊎_elim, ℕ, suc, ◌+◌, ◌%◌, ◌≤◌, Bool, true, false, ◌&&◌, ◌||◌, not, eqb, leb, ltb, List, [], ◌∷◌, ◌++◌, map, length, Option, Some, None, refl, sym, ap, ◌∙◌, subst, arith, eq-eqb, eqb-true}
+use Rattle.std.proofs.lemmas.Bool.{leb-true, ltb-true, and_from, and_parts, or_cases, true≢false}
 use Rattle.logical_clock.specs.declared.key.Class.{Class}
-use Rattle.logical_clock.specs.declared.key.Class.TheVariants.{Mutex, User, Callback, Thread, Pool, Out, Async}
+use Rattle.logical_clock.specs.declared.key.Class.TheVariants.{Callback, Pool, Async}
 use Rattle.logical_clock.specs.declared.key.Key.{Key}
 use Rattle.logical_clock.specs.declared.key.KeyMark.{KeyMark}
 use Rattle.marks.specs.declared.side.Side.{Side}
 use Rattle.marks.specs.declared.side.Side.TheVariants.{Replay, System}
 use Rattle.marks.specs.declared.fault.FaultKind.{FaultKind}
-use Rattle.marks.specs.declared.fault.FaultKind.TheVariants.{NotLive, ReadOnly, StackFull}
-use Rattle.marks.specs.Kinds.{fault_number}
+use Rattle.marks.specs.declared.fault.FaultKind.TheVariants.{ReadOnly}
 use Rattle.marks.specs.Places.{thread_count, frame_count, stack, stack_size, replay_pool, pool_size, alignment, is_constant, is_system}
-use Rattle.marks.specs.Ranges.{Range, Piece, Prepared, range, in_range, any_range, are_bytes, piece_ranges, piece_bytes, prepared_ranges}
-use Rattle.marks.specs.Marks.{Access, Nowhere, Reading, Writing, Commit, NoRegion, Withheld, Released, EventKind, Call, Ret, Up, UpRet, Alloc, Free, Stop, Event, Act, Turn, Load, Store, Enter, Leave, Step, Fault, Made, Mark, is_event, logged}
-use Rattle.marks.specs.Bytes.{Byte, Asks, touches, writes, place, conflict}
-use Rattle.marks.specs.Wants.{Want, Outside, Turns, Loads, Stores, Enters, Leaves, Allocs, Frees, Calls, Below, Gives, Returns, CallsBack, UpReturns, Steps, Fails, same_numbers, same_kind}
+use Rattle.marks.specs.Ranges.{Range, piece_ranges, piece_bytes, prepared_ranges}
+use Rattle.marks.specs.Marks.{Writing, Commit, Released, EventKind, Call, Ret, Up, UpRet, Alloc, Free, Stop, Act, Turn, Load, Store, Enter, Leave, Step, Fault, Made, Mark, is_event, logged}
+use Rattle.marks.specs.Bytes.{touches, writes, place, conflict}
+use Rattle.marks.specs.Wants.{Want, Stores, Enters, Calls}
 use Rattle.marks.proofs.Touched.{or_true_left, or_true_right}
-use Rattle.replay_runs.specs.Runs.{Link, OfThread, OfKey, same_key, keys_of, is_listed, has, ticket, clock_of, In, Start, marks_of, events_with, byte, last_clock, steps_since, steps_of, fault_count, RaceFree, Rules, Allowed, Run, Disciplined}
+use Rattle.replay_runs.specs.Runs.{Link, OfThread, OfKey, same_key, keys_of, is_listed, has, ticket, clock_of, In, Start, marks_of, events_with, byte, last_clock, steps_since, steps_of, fault_count, RaceFree, Allowed, Run}
 use Rattle.replay_runs.specs.Known.{known_at, NoRace}
-use Rattle.replay_runs.specs.Interface.{Interface, Program, Committing}
-use Rattle.replay_runs.specs.Threads.{frames, frame_place, HasRoom, OpenCall, open_calls, open_ups, fault_of, is_stop, is_stopped, Returned, last_return, same_return}
-use Rattle.replay_runs.specs.Pool.{blocks, MeetsNone, Fits, IsPlace, prepares_key, in_use, is_registered}
-use Rattle.replay_runs.specs.Keys.{key, sorted_keys, keys_for}
-use Rattle.replay_runs.specs.Rules.{is_reply, AllMayRun, KeepsModes, Apart, DistinctKeys, AreWhole, IsUsed, AreUsed, CommitsUsed, Commits, Closes, ClosesUp, IsReturn, EventCarries, SomeConstant, StopsCall, AtIn, AtOut, AtConstant, Carries, HasKeys, OwnRules, SharedEvent, SharedAct, SharedRules, replay_rules}
+use Rattle.replay_runs.specs.Interface.{Interface, Program}
+use Rattle.replay_runs.specs.Threads.{frames, frame_place, HasRoom, open_calls, open_ups, fault_of, is_stop, is_stopped, last_return, same_return}
+use Rattle.replay_runs.specs.Pool.{blocks, IsPlace, prepares_key, in_use, is_registered}
+use Rattle.replay_runs.specs.Keys.{sorted_keys, keys_for}
+use Rattle.replay_runs.specs.Rules.{is_reply, AllMayRun, KeepsModes, EventCarries, Carries, HasKeys, OwnRules, SharedEvent, SharedAct, SharedRules, replay_rules}
 use Rattle.replay_runs.specs.Laws.{IsReplayRun}
 use Rattle.replay_runs.proofs.Keys.{same_key_true, same_key_refl}
-use Rattle.replay_runs.proofs.Replies.{same_numbers_true, kind_numbered}
 use Rattle.replay_runs.proofs.Race.{race_free_more}
-use Rattle.run_scenes.proofs.Bytes.{all_from, all_from_true, all_in, all_in_true, some_from, some_from_true, for_touched, for_touched_true, asks, asks_true}
-
--- equal things
-
-abbrev same_bool : Bool → Bool → Bool
-same_bool true b = b
-same_bool false b = not b
-
-same_bool_true : (a b : Bool) → same_bool a b ≡ true → a ≡ b
-same_bool_true true b e = sym e
-same_bool_true false true e = absurd cc
-same_bool_true false false e = refl
-
-abbrev same_ranges : List Range → List Range → Bool
-same_ranges [] [] = true
-same_ranges (r ∷ rs) (q ∷ qs) = (eqb r.at q.at && eqb r.size q.size) && same_ranges rs qs
-same_ranges _ _ = false
-
-same_ranges_true : (rs qs : List Range) → same_ranges rs qs ≡ true → rs ≡ qs
-same_ranges_true [] [] e = refl
-same_ranges_true [] (q ∷ qs) e = absurd cc
-same_ranges_true (r ∷ rs) [] e = absurd cc
-same_ranges_true (r ∷ rs) (q ∷ qs) e =
-    let w = and_parts (eqb r.at q.at && eqb r.size q.size) (same_ranges rs qs) e in
-    let u = and_parts (eqb r.at q.at) (eqb r.size q.size) w.0 in
-    let a : r.at ≡ q.at = eqb-true _ _ u.0 in
-    let b : r.size ≡ q.size = eqb-true _ _ u.1 in
-    let t = same_ranges_true rs qs w.1 in
-    λ i. record { at = a i; size = b i } ∷ t i
-
-abbrev same_prepared : List Prepared → List Prepared → Bool
-same_prepared [] [] = true
-same_prepared (r ∷ rs) (q ∷ qs) = (eqb r.key q.key && (eqb r.range.at q.range.at && eqb r.range.size q.range.size)) && same_prepared rs qs
-same_prepared _ _ = false
-
-same_prepared_true : (rs qs : List Prepared) → same_prepared rs qs ≡ true → rs ≡ qs
-same_prepared_true [] [] e = refl
-same_prepared_true [] (q ∷ qs) e = absurd cc
-same_prepared_true (r ∷ rs) [] e = absurd cc
-same_prepared_true (r ∷ rs) (q ∷ qs) e =
-    let w = and_parts (eqb r.key q.key && (eqb r.range.at q.range.at && eqb r.range.size q.range.size)) (same_prepared rs qs) e in
-    let v = and_parts (eqb r.key q.key) (eqb r.range.at q.range.at && eqb r.range.size q.range.size) w.0 in
-    let u = and_parts (eqb r.range.at q.range.at) (eqb r.range.size q.range.size) v.1 in
-    let k : r.key ≡ q.key = eqb-true _ _ v.0 in
-    let a : r.range.at ≡ q.range.at = eqb-true _ _ u.0 in
-    let b : r.range.size ≡ q.range.size = eqb-true _ _ u.1 in
-    let t = same_prepared_true rs qs w.1 in
-    λ i. record { key = k i; range = record { at = a i; size = b i } } ∷ t i
-
-abbrev same_keys : List Key → List Key → Bool
-same_keys [] [] = true
-same_keys (j ∷ js) (k ∷ ks) = same_key j k && same_keys js ks
-same_keys _ _ = false
-
-same_keys_true : (js ks : List Key) → same_keys js ks ≡ true → js ≡ ks
-same_keys_true [] [] e = refl
-same_keys_true [] (k ∷ ks) e = absurd cc
-same_keys_true (j ∷ js) [] e = absurd cc
-same_keys_true (j ∷ js) (k ∷ ks) e =
-    let w = and_parts (same_key j k) (same_keys js ks) e in
-    let h = same_key_true j k w.0 in
-    let t = same_keys_true js ks w.1 in
-    λ i. h i ∷ t i
-
-abbrev same_fault : Option FaultKind → Option FaultKind → Bool
-same_fault None None = true
-same_fault (Some k) (Some l) = eqb (fault_number k) (fault_number l)
-same_fault _ _ = false
-
-same_fault_true : (o p : Option FaultKind) → same_fault o p ≡ true → o ≡ p
-same_fault_true None None e = refl
-same_fault_true None (Some l) e = absurd cc
-same_fault_true (Some k) None e = absurd cc
-same_fault_true (Some k) (Some l) e = ap Some (kind_numbered k l (eqb-true _ _ e))
-
-abbrev same_range : Option Range → Option Range → Bool
-same_range None None = true
-same_range (Some r) (Some q) = eqb r.at q.at && eqb r.size q.size
-same_range _ _ = false
-
-same_range_true : (o p : Option Range) → same_range o p ≡ true → o ≡ p
-same_range_true None None e = refl
-same_range_true None (Some l) e = absurd cc
-same_range_true (Some k) None e = absurd cc
-same_range_true (Some r) (Some q) e =
-    let u = and_parts (eqb r.at q.at) (eqb r.size q.size) e in
-    let a : r.at ≡ q.at = eqb-true _ _ u.0 in
-    let b : r.size ≡ q.size = eqb-true _ _ u.1 in
-    λ i. Some (record { at = a i; size = b i })
-
--- the parts of the rules
-
-abbrev apart : List Range → Bool
-apart [] = true
-apart (r ∷ rs) = all_from (λ x. not (any_range rs x)) r.at r.size && apart rs
-
-not_true : (b : Bool) → not b ≡ true → b ≡ false
-not_true true e = absurd cc
-not_true false e = refl
-
-apart_true : (rs : List Range) → apart rs ≡ true → Apart rs
-apart_true [] h = tt
-apart_true (r ∷ rs) h =
-    let w = and_parts (all_from (λ x. not (any_range rs x)) r.at r.size) (apart rs) h in
-    (λ x e. not_true (any_range rs x) (all_from_true (λ x. not (any_range rs x)) r.at r.size w.0 x e), apart_true rs w.1)
-
-abbrev distinct : List Prepared → Bool
-distinct [] = true
-distinct (p ∷ ps) = not (prepares_key ps p.key) && distinct ps
-
-distinct_true : (ps : List Prepared) → distinct ps ≡ true → DistinctKeys ps
-distinct_true [] h = tt
-distinct_true (p ∷ ps) h = let w = and_parts (not (prepares_key ps p.key)) (distinct ps) h in (not_true _ w.0, distinct_true ps w.1)
-
-abbrev whole : List Piece → Bool
-whole [] = true
-whole (p ∷ ps) = eqb (length p.bytes) p.range.size && whole ps
-
-whole_true : (ps : List Piece) → whole ps ≡ true → AreWhole ps
-whole_true [] h = tt
-whole_true (p ∷ ps) h = let w = and_parts (eqb (length p.bytes) p.range.size) (whole ps) h in (eqb-true _ _ w.0, whole_true ps w.1)
-
-abbrev is_used : ℕ → Piece → Bool
-is_used n p = eqb (length p.bytes) n && (leb n p.range.size && are_bytes p.bytes)
-
-is_used_true : (n : ℕ) (p : Piece) → is_used n p ≡ true → IsUsed n p
-is_used_true n p h =
-    let w = and_parts (eqb (length p.bytes) n) (leb n p.range.size && are_bytes p.bytes) h in
-    let u = and_parts (leb n p.range.size) (are_bytes p.bytes) w.1 in
-    (eqb-true _ _ w.0, leb-true _ _ u.0, u.1)
-
-abbrev are_used : List ℕ → List Piece → Bool
-are_used [] [] = true
-are_used (n ∷ ns) (p ∷ ps) = is_used n p && are_used ns ps
-are_used _ _ = false
-
-are_used_true : (ns : List ℕ) (ps : List Piece) → are_used ns ps ≡ true → AreUsed ns ps
-are_used_true [] [] h = tt
-are_used_true [] (p ∷ ps) h = absurd (true≢false (sym h))
-are_used_true (n ∷ ns) [] h = absurd (true≢false (sym h))
-are_used_true (n ∷ ns) (p ∷ ps) h = let w = and_parts (is_used n p) (are_used ns ps) h in (is_used_true n p w.0, are_used_true ns ps w.1)
-
-abbrev used_commit : Option ℕ → Commit → Bool
-used_commit None Withheld = true
-used_commit (Some n) (Released p) = is_used (cond (eqb p.range.at 0) 0 n) p
-used_commit _ _ = false
-
-used_commit_true : (o : Option ℕ) (c : Commit) → used_commit o c ≡ true → CommitsUsed o c
-used_commit_true None Withheld h = refl
-used_commit_true None NoRegion h = absurd (true≢false (sym h))
-used_commit_true None (Released p) h = absurd (true≢false (sym h))
-used_commit_true (Some n) (Released p) h = is_used_true _ p h
-used_commit_true (Some n) NoRegion h = absurd (true≢false (sym h))
-used_commit_true (Some n) Withheld h = absurd (true≢false (sym h))
-
-abbrev commits : Option Committing → Commit → Bool
-commits None NoRegion = true
-commits None _ = false
-commits (Some c) commit = used_commit c.used commit
-
-commits_true : (o : Option Committing) (c : Commit) → commits o c ≡ true → Commits o c
-commits_true None NoRegion h = refl
-commits_true None Withheld h = absurd (true≢false (sym h))
-commits_true None (Released p) h = absurd (true≢false (sym h))
-commits_true (Some k) c h = used_commit_true k.used c h
-
-abbrev closes : List OpenCall → ℕ → List ℕ → List Range → Bool
-closes [] f args outs = false
-closes (c ∷ cs) f args outs = eqb f c.func && (same_numbers args c.args && same_ranges outs c.outs)
-
-closes_true : (cs : List OpenCall) (f : ℕ) (args : List ℕ) (outs : List Range) → closes cs f args outs ≡ true → Closes cs f args outs
-closes_true [] f args outs h = absurd (true≢false (sym h))
-closes_true (c ∷ cs) f args outs h =
-    let w = and_parts (eqb f c.func) (same_numbers args c.args && same_ranges outs c.outs) h in
-    let u = and_parts (same_numbers args c.args) (same_ranges outs c.outs) w.1 in
-    (eqb-true _ _ w.0, same_numbers_true _ _ u.0, same_ranges_true _ _ u.1)
-
-abbrev closes_up : List ℕ → ℕ → Bool
-closes_up [] f = false
-closes_up (g ∷ fs) f = eqb f g
-
-closes_up_true : (fs : List ℕ) (f : ℕ) → closes_up fs f ≡ true → ClosesUp fs f
-closes_up_true [] f h = absurd (true≢false (sym h))
-closes_up_true (g ∷ fs) f h = eqb-true _ _ h
+use Rattle.run_scenes.proofs.Bytes.{for_touched, for_touched_true, asks, asks_true}
+use Rattle.run_scenes.proofs.Parts.{some_constant, some_constant_true, stops, stops_true, apart, apart_true, are_used, are_used_true, closes, closes_true, closes_up, closes_up_true, commits, commits_true, distinct, distinct_true, not_true, same_bool, same_bool_true, same_fault, same_fault_true, same_keys, same_keys_true, same_prepared, same_prepared_true, same_range, same_range_true, same_ranges, same_ranges_true, whole, whole_true}
 
 -- a mark of a run so far, in a program whose wants and annotations are given
 module _ (program : Program) (s : Start) where
@@ -252,63 +67,6 @@ module _ (program : Program) (s : Start) where
 
   has_room_true : (t : ℕ) (mine : List Mark) (size : ℕ) → has_room t mine size ≡ true → HasRoom t mine size
   has_room_true t mine size h = let w = and_parts (leb (frame_place t mine + size) (stack Replay t + stack_size)) (ltb (length (frames mine)) frame_count) h in (leb-true _ _ w.0, ltb-true _ _ w.1)
-
-  -- the ranges tested before, and the one that stops a Call, begin the list
-  abbrev begins : List Range → Range → List Range → Bool
-  begins before r [] = false
-  begins [] r (q ∷ qs) = eqb r.at q.at && eqb r.size q.size
-  begins (b ∷ before) r (q ∷ qs) = (eqb b.at q.at && eqb b.size q.size) && begins before r qs
-
-  range_is : (r q : Range) → (eqb r.at q.at && eqb r.size q.size) ≡ true → r ≡ q
-  range_is r q e =
-      let u = and_parts (eqb r.at q.at) (eqb r.size q.size) e in
-      let a : r.at ≡ q.at = eqb-true _ _ u.0 in
-      let b : r.size ≡ q.size = eqb-true _ _ u.1 in
-      λ i. record { at = a i; size = b i }
-
-  begins_true : (before : List Range) (r : Range) (qs : List Range) → begins before r qs ≡ true → (after : List Range) × (qs ≡ before ++ (r ∷ after))
-  begins_true before r [] h = absurd (true≢false (sym h))
-  begins_true [] r (q ∷ qs) h = let e = range_is r q h in (qs, λ i. sym e i ∷ qs)
-  begins_true (b ∷ before) r (q ∷ qs) h =
-      let w = and_parts (eqb b.at q.at && eqb b.size q.size) (begins before r qs) h in
-      let e = range_is b q w.0 in
-      let u = begins_true before r qs w.1 in
-      (u.0, λ i. sym e i ∷ u.1 i)
-
-  abbrev some_constant : Range → Bool
-  some_constant r = some_from is_constant r.at r.size
-
-  some_constant_true : (r : Range) → some_constant r ≡ true → SomeConstant r
-  some_constant_true r h = some_from_true is_constant r.at r.size h
-
-  abbrev no_range : List Range → Bool
-  no_range [] = true
-  no_range rs = false
-
-  -- a Call that a fault stops
-  abbrev stops : List Range → List Range → FaultKind → List Range → List Range → Access → Bool
-  stops ins outs NotLive is os (Reading r) = begins is r ins && no_range os
-  stops ins outs NotLive is os (Writing r) = same_ranges is ins && (begins os r outs && apart os)
-  stops ins outs ReadOnly is os (Writing r) = same_ranges is ins && (begins os r outs && (apart os && some_constant r))
-  stops ins outs k is os a = false
-
-  stops_true : (ins outs : List Range) (k : FaultKind) (is os : List Range) (a : Access) → stops ins outs k is os a ≡ true → StopsCall ins outs k is os a
-  stops_true ins outs NotLive is [] (Reading r) h =
-      let w = begins_true is r ins (and_parts (begins is r ins) true h).0 in
-      AtIn is w.0 r w.1
-  stops_true ins outs NotLive is (o ∷ os) (Reading r) h = absurd (true≢false (sym (and_parts (begins is r ins) false h).1))
-  stops_true ins outs NotLive is os (Writing r) h =
-      let a = and_parts (same_ranges is ins) (begins os r outs && apart os) h in
-      let b = and_parts (begins os r outs) (apart os) a.1 in
-      let w = begins_true os r outs b.0 in
-      subst (λ z. StopsCall ins outs NotLive z os (Writing r)) (sym (same_ranges_true is ins a.0)) (AtOut os w.0 r w.1 (apart_true os b.1))
-  stops_true ins outs ReadOnly is os (Writing r) h =
-      let a = and_parts (same_ranges is ins) (begins os r outs && (apart os && some_constant r)) h in
-      let b = and_parts (begins os r outs) (apart os && some_constant r) a.1 in
-      let c = and_parts (apart os) (some_constant r) b.1 in
-      let w = begins_true os r outs b.0 in
-      subst (λ z. StopsCall ins outs ReadOnly z os (Writing r)) (sym (same_ranges_true is ins a.0)) (AtConstant os w.0 r w.1 (apart_true os c.0) (some_constant_true r c.1))
-  stops_true ins outs k is os a h = absurd (true≢false (sym h))
 
   -- that a stack is full isn't tried
   abbrev carries : ℕ → List Mark → Want → Act → Bool
@@ -631,11 +389,11 @@ module _ (program : Program) (s : Start) where
       race_free_more (replay_rules program) s past m r (race_free_true past r.1 w.1) (no_race_true past m w.0)
 
   unfoldable pub is_disciplined : List Mark → Bool
-  is_disciplined run = is_run run && (is_race_free run && leb (fault_count run) 1)
+  is_disciplined run = is_run run && (is_race_free run && leb (s.faults + fault_count run) 1)
 
   pub disciplined : (run : List Mark) → is_disciplined run ≡ true → IsReplayRun program s run
   unfolding is_disciplined
   disciplined run h =
       let w = and_parts (is_run run) _ h in
-      let u = and_parts (is_race_free run) (leb (fault_count run) 1) w.1 in
+      let u = and_parts (is_race_free run) (leb (s.faults + fault_count run) 1) w.1 in
       record { steps = is_run_true run w.0; race_free = race_free_true run (is_run_true run w.0) u.0; one_fault = leb-true _ _ u.1 }
