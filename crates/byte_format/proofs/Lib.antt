@@ -1,0 +1,4 @@
+pub mod Readers
+pub mod Codes
+pub mod Loops
+pub mod Varint
