@@ -1,12 +1,12 @@
 -- Readers of coded bytes, of lists and of literals, and their laws.
-use Rattle.std.proofs.Common.{◌≡◌, ℕ, zero, suc, ◌+◌, ◌*◌, ◌-◌, ◌^◌, ◌<◌, ◌≤◌, Bool, true, false, cond, ltb, eqb, leb, ◌&&◌, ◌/◌, ◌%◌, List, [], ◌∷◌, ◌++◌, length, get_or, take, drop, Option, Some, None, refl, sym, ap, subst, ◌∙◌, append_assoc, arith}
+use Rattle.std.proofs.Common.{◌≡◌, ℕ, zero, suc, ◌+◌, ◌*◌, ◌^◌, ◌<◌, ◌≤◌, Bool, true, false, cond, eqb, leb, ◌&&◌, ◌/◌, ◌%◌, List, [], ◌∷◌, ◌++◌, length, get_or, Option, Some, None, refl, sym, ap, subst, ◌∙◌, arith}
 use Rattle.std.specs.List.{AllByRecursion, flat_map}
-use Rattle.std.specs.Int.{Width, w16, w32, w64, to_be_bytes}
+use Rattle.std.specs.Int.{w16, to_be_bytes}
 use Rattle.std.proofs.lemmas.Bool.{leb-true, le-leb, eqb-true, eqb-false, eq-eqb}
 use Rattle.std.proofs.lemmas.List.{append-nil}
 use Rattle.std.proofs.lemmas.Nat.{be_bytes_2}
 use Rattle.byte_format.specs.Spelling.{counted}
-use Rattle.byte_format.specs.Reading.{Reading, Done, Short, Wrong, ◌>>=◌, coded, coded_at, at_most, only, flag_from, literal_at, low_from, some_at, list_at, counted_at}
+use Rattle.byte_format.specs.Reading.{Reading, coded_at, at_most, only, flag_from, literal_at, low_from, some_at, list_at, counted_at}
 use Rattle.byte_format.proofs.Readers.{Reads, then, reads_done, reads_as, reads_code}
 
 -- ---- bytes that stand for values
@@ -106,16 +106,14 @@ reads_counted item text Fits reads most = reads_as (counted_at item most) _ (cou
 
 -- ---- a flag
 
-pub flag_code : Bool → ℕ
+abbrev pub flag_code : Bool → ℕ
 flag_code true = 1
 flag_code false = 0
 
 flag_law : (b : ℕ) (t : Bool) → flag_from b ≡ Some t → flag_code t ≡ b
-unfolding flag_code
 flag_law b = law_if flag_code b 0 false _ refl (law_if flag_code b 1 true _ refl (law_none flag_code b))
 
 flag_again : (t : Bool) → flag_from (flag_code t) ≡ Some t
-unfolding flag_code
 flag_again true = refl
 flag_again false = refl
 

@@ -2,3 +2,5 @@ pub mod Readers
 pub mod Codes
 pub mod Loops
 pub mod Varint
+pub mod Spelled
+pub mod Fronts

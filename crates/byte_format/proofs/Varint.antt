@@ -1,12 +1,12 @@
 -- Numbers in groups of seven bits, the low group first.
-use Rattle.std.proofs.Common.{◌≡◌, ℕ, zero, suc, ◌+◌, ◌*◌, ◌-◌, ◌^◌, ◌/◌, ◌%◌, ◌<◌, ◌≤◌, Bool, true, false, cond, ltb, eqb, ◌&&◌, ◌||◌, not, List, [], ◌∷◌, ◌++◌, length, Option, Some, None, refl, sym, ap, subst, ◌∙◌, arith, inl, inr, ◌⊎◌}
-use Rattle.std.proofs.lemmas.Bool.{cases_lt, ltb-true, ltb-false, lt-ltb, le-ltb, eqb-true, eqb-false, ne_eqb, cases_Bool, and_from, or_from}
+use Rattle.std.proofs.Common.{◌≡◌, ℕ, zero, suc, ◌+◌, ◌*◌, ◌-◌, ◌^◌, ◌/◌, ◌%◌, ◌<◌, ◌≤◌, Bool, true, false, cond, ltb, eqb, ◌&&◌, ◌||◌, not, List, [], ◌∷◌, ◌++◌, Some, None, refl, ap, ◌∙◌, arith, inl, inr}
+use Rattle.std.proofs.lemmas.Bool.{cases_lt, ltb-true, ltb-false, lt-ltb, le-ltb, eqb-true, eqb-false}
 use Rattle.std.proofs.lemmas.List.{append-nil}
 use Rattle.std.proofs.lemmas.Nat.{pow-add}
 use Rattle.std.proofs.Math.Pow.{pow_mono}
-use Rattle.byte_format.specs.Reading.{Reading, Done, Short, Wrong, ◌>>=◌, coded, coded_at}
+use Rattle.byte_format.specs.Reading.{coded_at}
 use Rattle.byte_format.specs.Spelling.{varint_text}
-use Rattle.byte_format.specs.Varint.{last_from, inner_from, group_from, behind, varint_at, IsNumber}
+use Rattle.byte_format.specs.Varint.{group_from, behind, varint_at, IsNumber}
 use Rattle.byte_format.proofs.Readers.{Reads, then, reads_done, reads_as, reads_code}
 
 -- ---- a group

@@ -2,6 +2,7 @@
 use Rattle.std.specs.Prelude.{◌≡◌, ℕ, ◌<◌, ◌≤◌, ◌^◌, true, false, List, [], ◌∷◌, ◌++◌, length}
 use Rattle.std.specs.List.{flat_map, AllByRecursion}
 use Rattle.std.specs.Int.{Width, w16, w32, w64, to_be_bytes}
+use Rattle.byte_format.specs.Spelling.{counted}
 use Rattle.logical_clock.specs.Class.{number_of}
 use Rattle.logical_clock.specs.declared.key.KeyMark.{KeyMark}
 use Rattle.logical_clock.specs.declared.event.Reason.{Reason}
@@ -29,10 +30,6 @@ abbrev pub version_1 : Version
 version_1 = record { byte = 1; number = to_be_bytes }
 
 -- ---- the parts, for any spelling of numbers
-
--- a byte that counts, and that many items
-abbrev pub counted : {A : Type 0} → (A → List ℕ) → List A → List ℕ
-counted text xs = length xs ∷ flat_map text xs
 
 -- the byte of the kind of an event
 abbrev pub kind_number : Event → ℕ
