@@ -8,7 +8,9 @@ mod kind;
 mod lists;
 mod parsing;
 mod records;
+mod writing;
 
 pub use error::LogError;
 pub use kept::Kept;
 pub use parsing::parse;
+pub use writing::{put_chunk, put_end, put_head};
