@@ -221,4 +221,3 @@ reads_some = reads_as some_at _ (to_be_bytes w16) _ IsSome16
     (λ high le. then low_of (reads_low high) (λ low e. reads_done (high * 256 + low)) (λ low n e is. ap low_of is ∙ (split_made high low le e).1))
     (λ high n le f. ap high_of f.1 ∙ (split_made high (low_of n) le f.0).0))
     (λ n f. two_bytes n (split_is n f).1) split_is is_split
-

@@ -107,4 +107,3 @@ pub front_done : {A : Type 0} (front : List A) (reading : Reading (List A)) (x :
 front_done front (Done y) x e = (y, refl, ap (λ p. p.0) (done_is (front ++ y.0, y.1) x e), ap (λ p. p.1) (done_is (front ++ y.0, y.1) x e))
 front_done front Short x e = absurd cc
 front_done front (Wrong n) x e = absurd cc
-

@@ -115,8 +115,8 @@ is_whole bits only n f =
           rw (high_byte n le) (is_inner bits only (n % 128 + 128) (omega arith) more (omega arith), behind)
     ]
   where
-  long : (bits n : ℕ) → 128 ≤ n → n < 2 ^ bits → 7 < bits
-  long bits n le lt = elim (cases_lt 7 bits) [
+    long : (bits n : ℕ) → 128 ≤ n → n < 2 ^ bits → 7 < bits
+    long bits n le lt = elim (cases_lt 7 bits) [
       | inl more ↦ more
       | inr few ↦ let up : 2 ^ bits ≤ 2 ^ 7 = pow_mono few in absurd (omega (arith, up))
     ]
@@ -144,5 +144,5 @@ pub reads_varint : (groups bits : ℕ) (only : Bool) → bits ≤ 7 * groups →
 unfolding varint_at
 reads_varint zero bits only le some = absurd (omega arith)
 reads_varint (suc groups) bits only le some = reads_as (varint_at (suc groups) bits only) _ (varint_text (suc groups)) _ (IsNumber bits only)
-  (then byte_of (reads_group bits only some) (λ b group. reads_behind groups bits only b (ltb b 128) refl group (λ more. reads_varint groups (bits - 7) false (omega arith) (omega arith))) (λ b n group f. behind_same bits only b n group f))
-  (λ n f. whole_text groups bits only n) (whole_is bits only) (is_whole bits only)
+    (then byte_of (reads_group bits only some) (λ b group. reads_behind groups bits only b (ltb b 128) refl group (λ more. reads_varint groups (bits - 7) false (omega arith) (omega arith))) (λ b n group f. behind_same bits only b n group f))
+    (λ n f. whole_text groups bits only n) (whole_is bits only) (is_whole bits only)

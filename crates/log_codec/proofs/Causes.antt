@@ -79,9 +79,9 @@ names_wrong bytes n wrong = record {
   alone = λ m other. elim (cases_lt m n) [
     | inl lt ↦ absurd (no_less bytes m n other wrong lt)
     | inr le ↦ elim (cases_lt n m) [
-        | inl lt ↦ absurd (no_less bytes n m wrong other lt)
-        | inr same ↦ omega arith
-      ]
+      | inl lt ↦ absurd (no_less bytes n m wrong other lt)
+      | inr same ↦ omega arith
+    ]
   ];
   begins = λ begins. no_wrong bytes begins n wrong;
 }

@@ -471,8 +471,8 @@ module _ (num : Numbers) (laws : ReadsNumbers num) where
       (λ k r _ f. f.1.1.1.0.1))
       (λ r f. record_text_is r)
       (λ r f.
-        let own : r.thread ≡ thread = ap (λ (r : Record). r.thread) f.1.1.1.1.1 in
-        (own, record { thread = subst (λ t. t < 32) (sym own) lt; steps = f.1.0; clock = f.1.1.0; key_count = f.1.1.1.0.0; keys = f.1.1.1.0.1; body = f.1.1.1.1.0.0 }))
+      let own : r.thread ≡ thread = ap (λ (r : Record). r.thread) f.1.1.1.1.1 in
+      (own, record { thread = subst (λ t. t < 32) (sym own) lt; steps = f.1.0; clock = f.1.1.0; key_count = f.1.1.1.0.0; keys = f.1.1.1.0.1; body = f.1.1.1.1.0.0 }))
       (λ r f. (tt, (f.1.steps, (f.1.clock, ((f.1.key_count, f.1.keys), ((f.1.body, refl), ap (λ t. let v : Record = record { thread = t; steps = r.steps; clock = r.clock; keys = r.keys; event = r.event } in v) f.0))))))
 
   -- ---- a chunk
