@@ -4,7 +4,7 @@ use Rattle.std.specs.Prelude.{◌||◌, ◌&&◌, eqb, ltb, max}
 use Rattle.std.specs.List.{list_all, All}
 use Rattle.std.specs.BTreeSet.{contains}
 use Rattle.std.specs.BTreeMap.{is_at}
-use Rattle.std.proofs.lemmas.List.{drop_more, get_or-set_same, get_or-set_other, length-set, get_or-replicate, length-replicate}
+use Rattle.std.proofs.lemmas.List.{drop_more, get_or-set_same, get_or-set_other, length-set, get_or-replicate, length-replicate, length-append}
 use Rattle.std.proofs.lemmas.List.Folds.{list_any-append}
 use Rattle.std.proofs.lemmas.List.Concat.{flat_map-append}
 use Rattle.std.proofs.lemmas.Bool.{cases_eq}
@@ -149,6 +149,10 @@ at_any (x ∷ xs) (suc i) d e lt = at_any xs i d e (omega arith)
 pub within_more : (rs : List Record) (part : List Place) (p : Place) (r : Bool) → All (λ (q : Place). q.at < length rs) part → p.at < length rs → All (λ (q : Place). q.at < length rs) (cond r (part ++ p ∷ []) part)
 within_more rs part p true h lt = in-All (λ (q : Place). q.at < length rs) (part ++ p ∷ []) (λ q i. ⊎_elim (λ j. All-in (λ (x : Place). x.at < length rs) part h q j) (λ j. ⊎_elim (λ eq. subst (λ (x : Place). x.at < length rs) (sym eq) lt) (λ z. absurd z) j) (In-cases q part (p ∷ []) i))
 within_more rs part p false h lt = h
+
+pub few_more : (part : List Place) (p : Place) (r : Bool) (n : ℕ) → length part ≤ n → length (cond r (part ++ p ∷ []) part) ≤ n + 1
+few_more part p true n le = let z = length-append part (p ∷ []) in omega (arith, z, le)
+few_more part p false n le = omega (arith, le)
 
 map-snoc : {A B : Type 0} (f : A → B) (xs : List A) (x : A) → map f (xs ++ x ∷ []) ≡ map f xs ++ f x ∷ []
 map-snoc f [] x = refl

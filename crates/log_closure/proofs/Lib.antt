@@ -18,3 +18,4 @@ mod PlaceSteps
 mod CheckSteps
 mod GrowSteps
 mod Parts
+mod Index

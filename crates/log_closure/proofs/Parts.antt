@@ -1,7 +1,8 @@
 -- What the places in order say of the events.
-use Rattle.std.proofs.Common.{◌≡◌, ◌∷◌, [], List, true, false, Bool, None, refl, ap, ◌∙◌, sym, arith, ◌<◌, length, get_or, subst, inl, inr}
+use Rattle.std.proofs.Common.{◌≡◌, ◌∷◌, [], List, true, false, Bool, None, refl, ap, ◌∙◌, sym, arith, ◌<◌, ◌≤◌, length, get_or, subst, inl, inr}
 use Rattle.std.specs.Prelude.{Result, IsTrue}
 use Rattle.std.specs.List.{All}
+use Rattle.std.proofs.lemmas.List.Sorted.{length_permutation}
 use Rattle.std.specs.List.Sorted.{IsPermutation, IsSorted}
 use Rattle.logical_clock.specs.declared.event.Record.{Record}
 use Rattle.log_closure.specs.declared.error.OrderError.{OrderError}
@@ -11,7 +12,7 @@ use Rattle.log_closure.specs.Events.{In, LogEvent, events_of}
 use Rattle.log_closure.specs.FirstWrong.{first_wrong}
 use Rattle.log_closure.specs.Growing.{HoldsBefore, IsGrownPart, grow}
 use Rattle.log_closure.specs.Places.{event_at, events_at, no_record, place_cmp, places_from}
-use Rattle.log_closure.proofs.CheckSteps.{event_by}
+use Rattle.log_closure.proofs.CheckSteps.{event_by, length-places}
 use Rattle.log_closure.specs.Tables.{Answers}
 use Rattle.log_closure.proofs.Chains.{is_clock}
 use Rattle.log_closure.proofs.Counting.{counts_up}
@@ -78,3 +79,6 @@ moved r v w rs ss a b h = subst (λ (l : List Record). Answers r (first_wrong w 
 
 pub moved_part : (rs ss : List Record) (order : List Place) → rs ≡ ss → IsGrownPart (events_of rs) (events_at rs order) → IsGrownPart (events_of ss) (events_at ss order)
 moved_part rs ss order b h = subst (λ (l : List Record). IsGrownPart (events_of l) (events_at l order)) b h
+
+pub order_few : (rs : List Record) (order : List Place) → IsPermutation (places_from 0 (events_of rs)) order → length order ≤ length rs
+order_few rs order perm = let a = length_permutation (places_from 0 (events_of rs)) order perm in let b = length-places 0 (events_of rs) in let d = length-events [] rs in omega (arith, a, b, d)

@@ -8,3 +8,4 @@ pub mod FirstWrong
 pub mod Growing
 pub mod Places
 pub mod Tables
+pub mod Indexed

@@ -1,5 +1,6 @@
 -- Places of events in a file.
-use Rattle.std.specs.Prelude.{ℕ, ◌+◌, Bool, map, slice_index_or, List, [], ◌∷◌}
+use Rattle.std.specs.Prelude.{ℕ, ◌+◌, Bool, eqb, map, slice_index_or, List, [], ◌∷◌}
+use Rattle.std.specs.List.{filter}
 use Rattle.std.specs.declared.cmp.Ordering.{Ordering}
 use Rattle.std.specs.Ordering.{nat_cmp, ordering_then}
 use Rattle.logical_clock.specs.declared.event.Event.TheVariants.{UpRet}
@@ -32,3 +33,10 @@ events_at rs ps = map (event_at rs) ps
 
 abbrev pub part_at : List Record → List Place → Bool → Part
 part_at rs ps whole = record { events = events_at rs ps; whole = whole }
+
+abbrev pub of_place : ℕ → Place → Bool
+of_place t p = eqb p.thread t
+
+-- where the events of the thread stand in the file
+abbrev pub thread_places : ℕ → List Place → List ℕ
+thread_places t ps = map (λ (p : Place). p.at) (filter (of_place t) ps)

@@ -1,6 +1,7 @@
 //! The closed part of a log.
 
-ghost use Rattle.std.specs.Prelude.{◌≡◌, ◌≢◌, ◌<◌, ◌^◌, ◌⊎◌, [], ℕ, length, true, IsTrue, OnOk, IfOk, IsErrOf, IsOkUnless};
+ghost use Rattle.std.specs.Prelude.{◌≡◌, ◌≢◌, ◌<◌, ◌≤◌, ◌^◌, ◌⊎◌, [], ℕ, length, slice_index_or, true, IsTrue, OnOk, IfOk, IsErrOf, IsOkUnless};
+ghost use Rattle.std.specs.Global.{Vec};
 ghost use Rattle.std.specs.List.{All};
 ghost use Rattle.log_closure.specs.declared.error.OrderError.{OrderError};
 ghost use Rattle.log_closure.specs.declared.error.OrderError.TheVariants.{Memory};
@@ -8,7 +9,7 @@ ghost use Rattle.log_closure.specs.Events.{LogEvent, In, events_of};
 ghost use Rattle.log_closure.specs.Wrong.{AreRight, IsFirstWrong};
 ghost use Rattle.log_closure.specs.Closed.{IsClosedPart};
 ghost use Rattle.log_closure.specs.Chains.{IsClock, CountUp};
-ghost use Rattle.log_closure.specs.Places.{events_at};
+ghost use Rattle.log_closure.specs.Places.{events_at, thread_places};
 ghost use Rattle.log_closure.specs.FirstWrong.{first_wrong};
 ghost use Rattle.log_closure.specs.Tables.{Answers};
 ghost use Rattle.log_closure.specs.Growing.{IsGrownPart};
@@ -20,14 +21,15 @@ use crate::part::Closed;
 use crate::place::{Place, places_of};
 use log_codec::Kept;
 use logical_clock::Record;
-use std::alloc::Global;
+use std::alloc::{AllocError, Global};
 
 /// The places of the closed part, in order.
-fn closed_places(alloc: Global, records: &[Record], whole: bool) -> Result<Vec<Place>, OrderError>
+pub(crate) fn closed_places(alloc: Global, records: &[Record], whole: bool) -> Result<Vec<Place>, OrderError>
     requires { length records.now < 2 ^ 32 }
     ensures check { Answers result (first_wrong whole (events_of records.now) [] (events_of records.now)) }
     ensures part { IfOk result (λ v. IsGrownPart (events_of records.now) (events_at records.now v.items)) }
     ensures within { IfOk result (λ v. All (λ p. p.at < length records.now) v.items) }
+    ensures few { IfOk result (λ v. length v.items ≤ length records.now) }
 {
     let mut order = places_of(alloc, records)?;
     check(alloc, records, &order, whole)?;
@@ -37,6 +39,31 @@ fn closed_places(alloc: Global, records: &[Record], whole: bool) -> Result<Vec<P
     }
     let part = grow(alloc, records, &order)?;
     Ok(part)
+}
+
+/// An empty list for each thread.
+fn empty_lists(alloc: Global) -> Result<Vec<Vec<u32>>, AllocError>
+    ensures wide { IfOk result (λ v. length v.items ≡ 256) }
+    ensures empty { IfOk result (λ v. (t : ℕ) → t < 256 → (d : Vec ℕ) → (slice_index_or v.items t d).items ≡ []) }
+{
+    let mut lists = Vec::with_capacity(alloc, 256)?;
+    for _thread in 0..256u32 {
+        lists.push(Vec::new(alloc))?;
+    }
+    Ok(lists)
+}
+
+/// For each thread the places of its events in the file, by index.
+fn by_thread(alloc: Global, order: &[Place]) -> Result<Vec<Vec<u32>>, AllocError>
+    ensures wide { IfOk result (λ v. length v.items ≡ 256) }
+    ensures lists { IfOk result (λ v. (t : ℕ) → t < 256 → (d : Vec ℕ) → (slice_index_or v.items t d).items ≡ thread_places t order.now) }
+{
+    let mut lists = empty_lists(alloc)?;
+    for place in order {
+        let list = &mut lists[usize::from(place.thread)];
+        list.push(place.at)?;
+    }
+    Ok(lists)
 }
 
 /// The closed part of what is kept of a log: the union of all sets of kept events that hold the direct predecessors
@@ -64,5 +91,6 @@ pub fn closed(alloc: Global, kept: Kept) -> Result<Closed, OrderError>
 {
     let whole = kept.whole();
     let order = closed_places(alloc, kept.records(), whole)?;
-    Ok(Closed::new(kept.into_records(), order, whole))
+    let by_thread = by_thread(alloc, &order)?;
+    Ok(Closed::new(kept.into_records(), order, by_thread, whole))
 }

@@ -1,6 +1,6 @@
 //! The closed part of a log that was cut short grows along the clocks.
 
-ghost use Rattle.std.specs.Prelude.{◌≡◌, ◌<◌, ◌++◌, ◌∷◌, ◌||◌, [], ℕ, List, cond, map, length, OnOk, IfOk};
+ghost use Rattle.std.specs.Prelude.{◌≡◌, ◌<◌, ◌≤◌, ◌++◌, ◌∷◌, ◌||◌, [], ℕ, List, cond, map, length, OnOk, IfOk};
 ghost use Rattle.std.specs.List.{All, list_all};
 ghost use Rattle.std.specs.BTreeSet.{contains};
 ghost use Rattle.logical_clock.specs.declared.event.Record.{Record};
@@ -73,6 +73,7 @@ pub fn grow(alloc: Global, records: &[Record], order: &[Place]) -> Result<Vec<Pl
     requires { All (λ p. p.at < length records.now) order.now }
     ensures part { IfOk result (λ v. events_at records.now v.items ≡ grow [] (events_at records.now order.now)) }
     ensures within { IfOk result (λ v. All (λ p. p.at < length records.now) v.items) }
+    ensures few { IfOk result (λ v. length v.items ≤ length order.now) }
 {
     let mut grown = Grown {
         keys: BTreeSet::new(alloc),

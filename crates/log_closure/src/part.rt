@@ -1,8 +1,9 @@
 //! The closed part, as callers see it.
 
-ghost use Rattle.std.specs.Prelude.{◌≡◌, ◌<◌, ℕ, List, length, slice_index_or};
-ghost use Rattle.std.specs.List.{All};
-ghost use Rattle.log_closure.specs.Events.{LogEvent, Part};
+ghost use Rattle.std.specs.Prelude.{◌≡◌, ◌<◌, ℕ, List, length, ltb, is_some, slice_index_or, IfSome};
+ghost use Rattle.log_closure.specs.Events.{LogEvent, Part, In};
+ghost use Rattle.log_closure.specs.Chains.{thread_count};
+ghost use Rattle.log_closure.specs.Indexed.{IsIndexed};
 ghost use Rattle.log_closure.specs.Places.{part_at};
 
 use crate::place::Place;
@@ -16,6 +17,8 @@ pub struct Closed {
     records: Vec<Record>,
     /// The places of the events in it, in order.
     order: Vec<Place>,
+    /// For each thread the places of its events in the file, by index.
+    by_thread: Vec<Vec<u32>>,
     whole: bool,
 }
 
@@ -24,17 +27,18 @@ impl Model for Closed {
 
     ghost view = { λ c. part_at c.records.items c.order.items c.whole };
 
-    ghost invariant = { λ c. All (λ p. p.at < length c.records.items) c.order.items };
+    ghost invariant = { λ c. IsIndexed c.records.items c.order.items c.by_thread.items };
 }
 
 impl Closed {
-    pub(crate) fn new(records: Vec<Record>, order: Vec<Place>, whole: bool) -> Closed
-        requires { All (λ p. p.at < length records.items) order.items }
+    pub(crate) fn new(records: Vec<Record>, order: Vec<Place>, by_thread: Vec<Vec<u32>>, whole: bool) -> Closed
+        requires { IsIndexed records.items order.items by_thread.items }
         ensures { result ≡ part_at records.items order.items whole }
     {
         Closed {
             records,
             order,
+            by_thread,
             whole,
         }
     }
@@ -67,5 +71,28 @@ impl Closed {
         ensures { (d : LogEvent) → result.now ≡ (slice_index_or self.now.events place d).entry }
     {
         &self.records[self.order[place].at as usize]
+    }
+
+    /// How many of the events are of the thread: they have the indices below it.
+    pub fn len(&self, thread: u8) -> u32
+        ensures { result ≡ thread_count thread self.now.events }
+    {
+        let places = self.by_thread[usize::from(thread)].as_slice();
+        places.len() as u32
+    }
+
+    /// The record of the event with this name; None exactly where the index isn't below the thread's `len`.
+    pub fn at(&self, thread: u8, index: u32) -> Option<&Record>
+        ensures there { is_some result ≡ ltb index (thread_count thread self.now.events) }
+        ensures it { IfSome result (λ entry. In (record { name = record { thread = thread; index = index }; entry = entry.now }) self.now.events) }
+    {
+        let places = self.by_thread[usize::from(thread)].as_slice();
+        let index = index as usize;
+        if index >= places.len() {
+            return None;
+        }
+        let at = places[index] as usize;
+        let records = self.records.as_slice();
+        Some(&records[at])
     }
 }

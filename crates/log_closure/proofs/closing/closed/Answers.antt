@@ -1,4 +1,5 @@
-use Rattle.std.proofs.Common.{Vec, Global, ◌≡◌, [], List, None, Ok, Err, inl, inr, ⊎_elim, sym, ap, ◌∙◌, subst}
+use Rattle.std.specs.List.{All}
+use Rattle.std.proofs.Common.{◌<◌, length, arith, Vec, Global, ◌≡◌, [], List, None, Ok, Err, inl, inr, ⊎_elim, sym, ap, ◌∙◌, subst}
 use Rattle.std.proofs.lemmas.Result.{err_from_is_err_and}
 use Rattle.logical_clock.specs.declared.event.Record.{Record}
 use Rattle.log_closure.specs.declared.error.OrderError.TheVariants.{Memory}
@@ -6,7 +7,7 @@ use Rattle.log_closure.specs.declared.place.Place.{Place}
 use Rattle.log_closure.specs.Events.{LogEvent, Part, In, events_of}
 use Rattle.log_closure.specs.Closed.{IsClosedPart}
 use Rattle.log_closure.specs.Chains.{IsClock, CountUp}
-use Rattle.log_closure.specs.Places.{events_at}
+use Rattle.log_closure.specs.Places.{events_at, thread_places}
 use Rattle.log_closure.specs.FirstWrong.{first_wrong}
 use Rattle.log_closure.specs.Tables.{Answers}
 use Rattle.log_closure.proofs.Meaning.{part_meant}
@@ -91,3 +92,19 @@ returns-clause-counts c =
     let is : c.new.result.events ≡ events_at rs order = ap (λ (p : Part). p.events) c.new.ensures ∙ ap (λ (l : List Record). events_at l order) c.into_records.ensures.these in
     let passes = moved (Ok c.in_ok-order.order) c.whole-whole.result w c.records.result.now rs c.whole-whole.ensures c.records.ensures.these c.in_ok-order.ensures.check in
     subst CountUp (sym is) (part_counts rs w (events_at rs order) passes (moved_part c.records.result.now rs order c.records.ensures.these c.in_ok-order.ensures.part))
+
+pub new-requires : goal.new-requires
+new-requires c =
+    let rs = c.args.kept.records in
+    let w = c.args.kept.whole in
+    let order = c.in_ok-order.order.items in
+    let passes = moved (Ok c.in_ok-order.order) c.whole-whole.result w c.records.result.now rs c.whole-whole.ensures c.records.ensures.these c.in_ok-order.ensures.check in
+    let same : c.records.result.now ≡ c.into_records.result.items = c.records.ensures.these ∙ sym c.into_records.ensures.these in
+    let count = ap length c.records.ensures.these in
+    record {
+      few = omega (arith, count, c.in_ok-order.ensures.few, c.into_records.ensures.kept.few);
+      within = subst (λ (l : List Record). All (λ (p : Place). p.at < length l) order) same c.in_ok-order.ensures.within;
+      wide = c.in_ok-by_thread.ensures.wide;
+      listed = λ t lt d. c.in_ok-by_thread.ensures.lists t lt d ∙ ap (thread_places t) c.deref.ensures.value;
+      counts = subst (λ (l : List Record). CountUp (events_at l order)) (sym c.into_records.ensures.these) (part_counts rs w (events_at rs order) passes (moved_part c.records.result.now rs order c.records.ensures.these c.in_ok-order.ensures.part));
+    }

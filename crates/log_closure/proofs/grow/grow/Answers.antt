@@ -1,4 +1,4 @@
-use Rattle.std.proofs.Common.{Vec, Global, cond, ◌≡◌, ◌++◌, ◌∷◌, [], List, ◌<◌, length, Bool, false, get_or, refl, sym, ◌∙◌, ap, subst, rules}
+use Rattle.std.proofs.Common.{Vec, Global, cond, ◌≡◌, ◌++◌, ◌∷◌, [], List, ◌<◌, ◌≤◌, ◌+◌, arith, length, Bool, false, get_or, refl, sym, ◌∙◌, ap, subst, rules}
 use Rattle.std.specs.List.{All}
 use Rattle.std.specs.BTreeSet.{contains}
 use Rattle.std.proofs.lemmas.List.Elements.{All-nil}
@@ -11,7 +11,7 @@ use Rattle.log_closure.specs.Tables.{IsGrown, tie_cmp}
 use Rattle.log_closure.specs.Growing.{grow}
 use Rattle.log_closure.specs.Places.{events_at, event_at, no_record}
 use Rattle.log_closure.proofs.CheckSteps.{no_place}
-use Rattle.log_closure.proofs.GrowSteps.{joined, grow_step, grown_none, at_any, within_more}
+use Rattle.log_closure.proofs.GrowSteps.{joined, grow_step, grown_none, at_any, within_more, few_more}
 use Rattle.log_closure.proofs.grow.grow.Goals as goal
 use Rattle.log_closure.proofs.grow.grow.Goals.{then-branch+in_ok-push, else-branch}
 
@@ -25,6 +25,7 @@ loop-place-init c =
       done = subst (λ (l : List Place). IsGrown start (events_at rs l)) empty (grown_none start none refl);
       same = ap (λ (l : List Place). grow (events_at rs l) (events_at rs c.args.order.now)) empty;
       within = subst (All (λ (p : Place). p.at < length rs)) empty (All-nil (λ (p : Place). p.at < length rs));
+      few = subst (λ (l : List Place). length l ≤ 0) empty (omega arith);
     }
 
 pub loop-place-preserved : goal.loop-place-preserved
@@ -45,4 +46,5 @@ loop-place-preserved c =
       done = subst (IsGrown c.join.new.self) (joined rs part c.if-branch.part.items p r next) did.1;
       same = c.loop-place.invariant.same ∙ grow_step rs c.args.order.now part c.if-branch.part.items c.loop-place.place-index no_place r c.loop-place-test.true did.0 next;
       within = subst (All (λ (q : Place). q.at < length rs)) (sym next) (within_more rs part p r c.loop-place.invariant.within within);
+      few = subst (λ (l : List Place). length l ≤ c.loop-place.place-index + 1) (sym next) (few_more part p r c.loop-place.place-index c.loop-place.invariant.few);
     }
