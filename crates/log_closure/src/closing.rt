@@ -24,7 +24,11 @@ use logical_clock::Record;
 use std::alloc::{AllocError, Global};
 
 /// The places of the closed part, in order.
-pub(crate) fn closed_places(alloc: Global, records: &[Record], whole: bool) -> Result<Vec<Place>, OrderError>
+pub(crate) fn closed_places(
+    alloc: Global,
+    records: &[Record],
+    whole: bool,
+) -> Result<Vec<Place>, OrderError>
     requires { length records.now < 2 ^ 32 }
     ensures check { Answers result (first_wrong whole (events_of records.now) [] (events_of records.now)) }
     ensures part { IfOk result (λ v. IsGrownPart (events_of records.now) (events_at records.now v.items)) }

@@ -31,7 +31,12 @@ impl Model for Closed {
 }
 
 impl Closed {
-    pub(crate) fn new(records: Vec<Record>, order: Vec<Place>, by_thread: Vec<Vec<u32>>, whole: bool) -> Closed
+    pub(crate) fn new(
+        records: Vec<Record>,
+        order: Vec<Place>,
+        by_thread: Vec<Vec<u32>>,
+        whole: bool,
+    ) -> Closed
         requires { IsIndexed records.items order.items by_thread.items }
         ensures { result ≡ part_at records.items order.items whole }
     {
