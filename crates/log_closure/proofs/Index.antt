@@ -1,7 +1,7 @@
 -- Where the events of one thread stand.
-use Rattle.std.proofs.Common.{suc, zero, ◌≡◌, ◌++◌, ◌∷◌, [], ℕ, ◌+◌, List, map, Bool, true, false, refl, ap, ◌∙◌, sym, cond, arith, ◌<◌, ◌≤◌, ◌≢◌, length, get_or, take, subst, inl, inr, ⊎_elim}
+use Rattle.std.proofs.Common.{suc, zero, ◌≡◌, ◌++◌, ◌∷◌, [], ℕ, ◌+◌, List, map, Bool, true, false, refl, ap, ◌∙◌, sym, cond, arith, ◌<◌, ◌≤◌, ◌≢◌, length, get_or, take, subst, inl, ⊎_elim}
 use Rattle.std.specs.Prelude.{eqb, ltb}
-use Rattle.std.specs.List.{All, count_by, filter}
+use Rattle.std.specs.List.{All, filter}
 use Rattle.std.specs.Global.{Vec}
 use Rattle.std.proofs.lemmas.Bool.{eqb-true, cases_eq, eq-eqb}
 use Rattle.std.proofs.lemmas.Bool.Decides.{nat_tests}

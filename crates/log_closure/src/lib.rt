@@ -14,3 +14,6 @@ mod tie;
 pub use closing::closed;
 pub use error::OrderError;
 pub use part::Closed;
+
+#[cfg(test)]
+mod tests;
