@@ -1,0 +1,11 @@
+use Rattle.std.proofs.Common.{◌≡◌, [], take}
+use Rattle.log_closure.specs.Events.{events_of}
+use Rattle.log_closure.specs.FirstWrong.{first_twice}
+use Rattle.log_closure.specs.Tables.{Owns}
+use Rattle.log_closure.proofs.clocks.clocks_of.Given as goal
+
+abbrev pub invariant-loop-at : goal.invariant-loop-at
+invariant-loop-at l = record {
+  owns : Owns l.by_tie (events_of (take l.at l.records));
+  twice : l.twice ≡ first_twice 0 [] (events_of (take l.at l.records));
+}

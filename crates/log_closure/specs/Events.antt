@@ -1,0 +1,46 @@
+-- The events of a log: its records, with the names that file order gives them.
+use Rattle.std.specs.Prelude.{◌≡◌, ℕ, Bool, eqb, List, [], ◌∷◌, ◌++◌, ◌⊎◌}
+use Rattle.std.specs.List.{count_by}
+use Rattle.logical_clock.specs.declared.key.KeyMark.{KeyMark}
+use Rattle.logical_clock.specs.declared.event.EventName.{EventName}
+use Rattle.logical_clock.specs.declared.event.Record.{Record}
+
+-- an event: its name and its record
+pub record LogEvent : Type 0 where
+  pub name : EventName
+  pub entry : Record
+
+-- its keys with their tickets
+abbrev pub marks : LogEvent → List KeyMark
+marks e = e.entry.keys
+
+-- how many of the records are of the thread
+abbrev pub of_thread : ℕ → List Record → ℕ
+of_thread t rs = count_by (λ (r : Record). eqb r.thread t) rs
+
+-- the event of a record that stands behind these in the file
+abbrev pub event_of : List Record → Record → LogEvent
+event_of before r = record { name = record { thread = r.thread; index = of_thread r.thread before }; entry = r }
+
+-- the events of records that stand behind these in the file
+abbrev pub events_behind : List Record → List Record → List LogEvent
+events_behind before [] = []
+events_behind before (r ∷ rs) = event_of before r ∷ events_behind (before ++ r ∷ []) rs
+
+-- the events of a file: each record with the index that file order gives it in its thread
+abbrev pub events_of : List Record → List LogEvent
+events_of rs = events_behind [] rs
+
+-- the list has the item
+abbrev pub In : {A : Type 0} → A → List A → Type 0
+In x [] = ⊥
+In x (y ∷ ys) = (x ≡ y) ⊎ In x ys
+
+-- one of the events has the key with the ticket
+abbrev pub HasMark : List LogEvent → KeyMark → Type 0
+HasMark es m = (e : LogEvent) × In e es × In m (marks e)
+
+-- events in an order, and whether they are of a whole log
+pub record Part : Type 0 where
+  pub events : List LogEvent
+  pub whole : Bool

@@ -1,0 +1,11 @@
+pub mod Events
+pub mod Predecessors
+pub mod Wrong
+pub mod Closed
+pub mod Chains
+pub mod Ties
+pub mod FirstWrong
+pub mod Growing
+pub mod Places
+pub mod Tables
+pub mod Indexed

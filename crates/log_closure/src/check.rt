@@ -1,0 +1,70 @@
+//! The check of tickets and clocks, in file order.
+
+ghost use Rattle.std.specs.Prelude.{◌≡◌, ◌≢◌, [], Some, map, OnOk, IfOk};
+ghost use Rattle.std.specs.Bool.{OnTrue, OnFalse};
+ghost use Rattle.std.specs.BTreeMap.{get};
+ghost use Rattle.log_closure.specs.Events.{events_of};
+ghost use Rattle.log_closure.specs.Ties.{key_tie, needs};
+ghost use Rattle.log_closure.specs.Places.{places_from};
+ghost use Rattle.log_closure.specs.FirstWrong.{both, greatest, clock_wrong, first_wrong};
+ghost use Rattle.log_closure.specs.Tables.{Answers, tie_cmp};
+
+use crate::clocks::{Clocks, clocks_of, greatest};
+use crate::error::OrderError;
+use crate::place::Place;
+use logical_clock::{KeyMark, Record};
+use std::alloc::Global;
+
+/// Whether the first event that has a key which stood before is the one at this place in the file.
+fn repeats_at(clocks: &Clocks, at: usize) -> bool
+    ensures there { OnTrue result (clocks.now.twice ≡ Some at) }
+    ensures other { OnFalse result (clocks.now.twice ≢ Some at) }
+{
+    match clocks.twice {
+        Some(first) => first == at,
+        None => false,
+    }
+}
+
+/// Whether the clock is the one that the direct predecessors give, of which `last` is the clock of the thread's, or 0.
+fn check_clock(
+    clocks: &Clocks,
+    whole: bool,
+    place: &Place,
+    marks: &[KeyMark],
+    last: u32,
+) -> Result<(), OrderError>
+    ensures { Answers result (clock_wrong whole (record { thread = place.now.thread; index = place.now.index }) place.now.clock (both (Some last) (greatest (get tie_cmp clocks.now.by_tie) (needs (map key_tie marks.now))))) }
+{
+    match greatest(&clocks.by_tie, marks, last) {
+        None if whole => Err(OrderError::Missing(place.name())),
+        Some(clock) if u64::from(place.clock) != u64::from(clock) + 1 => {
+            Err(OrderError::Clock(place.name()))
+        },
+        _ => Ok(()),
+    }
+}
+
+/// Whether each event fits the file; `places` are those of the records.
+pub fn check(
+    alloc: Global,
+    records: &[Record],
+    places: &[Place],
+    whole: bool,
+) -> Result<(), OrderError>
+    requires { places.now ≡ places_from 0 (events_of records.now) }
+    ensures { Answers result (first_wrong whole (events_of records.now) [] (events_of records.now)) }
+{
+    let clocks = clocks_of(alloc, records)?;
+    let mut last: [u32; 256] = [0; 256];
+    for (at, entry) in records.iter().enumerate() {
+        let place = &places[at];
+        if repeats_at(&clocks, at) {
+            return Err(OrderError::Twice(place.name()));
+        }
+        let thread = usize::from(entry.thread);
+        check_clock(&clocks, whole, place, entry.keys.as_slice(), last[thread])?;
+        last[thread] = entry.clock;
+    }
+    Ok(())
+}

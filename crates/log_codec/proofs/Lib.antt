@@ -1,0 +1,5 @@
+pub mod Formats
+pub mod Adding
+pub mod Logs
+pub mod Causes
+pub mod Whole

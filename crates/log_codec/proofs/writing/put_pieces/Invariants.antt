@@ -1,0 +1,8 @@
+use Rattle.std.proofs.Common.{◌≡◌, ◌++◌, ◌∷◌, length, take}
+use Rattle.std.specs.Int.{to_be_bytes}
+use Rattle.std.specs.List.{flat_map}
+use Rattle.log_codec.specs.LogText.{piece_text}
+use Rattle.log_codec.proofs.writing.put_pieces.Given as goal
+
+abbrev pub invariant-loop-piece : goal.invariant-loop-piece
+invariant-loop-piece l = l.out.items ≡ l.fn.out.items ++ length l.pieces ∷ flat_map (piece_text to_be_bytes) (take l.piece-index l.pieces)

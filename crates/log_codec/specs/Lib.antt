@@ -1,0 +1,4 @@
+pub mod LogText
+pub mod Kept
+pub mod Reading
+pub mod Parsing

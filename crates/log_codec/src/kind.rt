@@ -1,0 +1,20 @@
+//! What the bytes of a log say comes next.
+
+/// The kinds of event.
+#[derive(Clone, Copy, Debug, PartialEq, Eq)]
+pub enum Kind {
+    Call,
+    Ret,
+    Up,
+    UpRet,
+    Alloc,
+    Free,
+    Stop,
+}
+
+/// The parts of a log behind its head.
+#[derive(Clone, Copy, Debug, PartialEq, Eq)]
+pub enum Mark {
+    Chunk,
+    End,
+}
