@@ -1,0 +1,31 @@
+#!/usr/bin/env python3
+"""Runs `PROGRAM order LOG` and prints its time over that of `sort -n --parallel=1` on its own output, and its peak memory
+over the size of the log."""
+import os
+import subprocess
+import sys
+import time
+
+
+def timed(words, out):
+    """The wall time, the exit status and the peak memory in bytes of a program."""
+    start = time.monotonic()
+    with open(out, "wb") as file:
+        child = subprocess.Popen(words, stdout=file, stderr=subprocess.DEVNULL)
+    _, status, usage = os.wait4(child.pid, 0)
+    return time.monotonic() - start, os.waitstatus_to_exitcode(status), usage.ru_maxrss * 1024
+
+
+def main():
+    program, log, scratch = sys.argv[1:]
+    printed = os.path.join(scratch, "printed")
+    seconds, status, memory = min(timed([program, "order", log], printed) for _ in range(3))
+    sorting, _, _ = min(timed(["sort", "-n", "--parallel=1", printed], os.path.join(scratch, "sorted")) for _ in range(3))
+    size = os.path.getsize(log)
+    print(
+        f"{os.path.basename(log):24} {size:>9} bytes  status {status}  {seconds:6.2f} s"
+        f"  time / sort {seconds / sorting:6.2f}  memory / log {memory / size:6.2f}"
+    )
+
+
+main()

@@ -1,0 +1,5 @@
+pub mod Lists
+pub mod SendingLemmas
+pub mod Told
+pub mod OrderLemmas
+pub mod RunLemmas

@@ -1,0 +1,15 @@
+pub mod Words
+pub mod Forms
+pub mod Code
+pub mod Outcome
+pub mod Written
+pub mod Reading
+pub mod Log
+pub mod OrderText
+pub mod Order
+pub mod Endings
+pub mod Run
+pub mod Performed
+pub mod LogEndings
+pub mod Sending
+pub mod Finishing

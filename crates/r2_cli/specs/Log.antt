@@ -1,0 +1,36 @@
+-- What the bytes of a log say: its closed part, or what is wrong with it.
+use Rattle.std.specs.Prelude.{◌≡◌, ◌↔◌, ℕ, List, ◌++◌, IsTrue, codes, decimal}
+use Rattle.log_codec.specs.LogText.{IsLog, BeginsLog}
+use Rattle.log_codec.specs.Kept.{KeptLog, StandInFull, IsFirstWrong}
+use Rattle.log_closure.specs.Events.{Part, events_of}
+use Rattle.log_closure.specs.Closed.{IsClosedPart}
+use Rattle.log_closure.specs.Wrong as wrong
+use Rattle.log_closure.specs.declared.error.OrderError.{OrderError}
+use Rattle.log_closure.specs.declared.error.OrderError.TheVariants.{Twice, Missing, Clock, Memory}
+use Rattle.r2_cli.specs.OrderText.{name_text}
+
+-- what is kept of bytes with which a log text begins: the records that stand in full, and whether they are a log text
+pub record IsKept (bytes : List ℕ) (kept : KeptLog) : Type 0 where
+  pub begins : BeginsLog bytes
+  pub in_full : StandInFull bytes kept.records
+  pub whole : IsTrue kept.whole ↔ IsLog bytes
+
+-- the events pass the order checks, and these are the closed part of them
+pub record IsLogPart (bytes : List ℕ) (part : Part) : Type 0 where
+  pub kept : KeptLog
+  pub of_bytes : IsKept bytes kept
+  pub right : wrong.AreRight kept.whole (events_of kept.records) (events_of kept.records)
+  pub closed : IsClosedPart (events_of kept.records) part.events
+  pub whole : part.whole ≡ kept.whole
+
+-- the words of what is wrong with an event
+abbrev pub order_words : OrderError → List ℕ
+order_words (Twice name) = codes "log twice " ++ name_text name
+order_words (Missing name) = codes "log missing " ++ name_text name
+order_words (Clock name) = codes "log clock " ++ name_text name
+order_words Memory = codes "no memory"
+
+-- the words of what is wrong with a log: its first wrong byte, or else its first wrong event in file order
+pub data IsBadLog (bytes : List ℕ) : List ℕ → Type 0 where
+  bad_byte : {n : ℕ} → IsFirstWrong bytes n → IsBadLog bytes (codes "log byte " ++ decimal n)
+  bad_event : {kept : KeptLog} {error : OrderError} → IsKept bytes kept → wrong.IsFirstWrong kept.whole (events_of kept.records) error → IsBadLog bytes (order_words error)

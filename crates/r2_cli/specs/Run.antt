@@ -1,0 +1,91 @@
+-- What a run of the program leaves, whatever files and sinks it is given.
+use Rattle.std.specs.Prelude.{◌≡◌, ◌⊎◌, ◌++◌, [], ℕ, List, Bool, IsTrue, Option, Some, None, codes, decimal}
+use Rattle.logical_clock.specs.declared.event.EventName.{EventName}
+use Rattle.r2_base.specs.Causes.{Rose}
+use Rattle.r2_cli.specs.declared.status.Status.{Status}
+use Rattle.r2_cli.specs.declared.status.Status.TheVariants.{Done, Usage, Short, BadLog, ReadFault, WriteFault, Limit, NoMemory}
+use Rattle.r2_cli.specs.declared.help.TheConstants.{HELP, VERSION}
+use Rattle.r2_cli.specs.Words.{Form, help, version, order, IsForm, IsUsage}
+use Rattle.r2_cli.specs.Outcome.{Outcome, refusal, line_of}
+use Rattle.r2_cli.specs.Written.{Adds, AddsPrefix}
+use Rattle.r2_cli.specs.Order.{IsOrder}
+use Rattle.r2_cli.specs.OrderText.{name_text}
+
+-- the outcome of a command, by what the names hold
+pub data IsAnswerTo (held : List ℕ → Option (List ℕ)) : Form → Outcome → Type 0 where
+  helped : IsAnswerTo held help (record { status = Done; output = HELP.now; line = [] })
+  versioned : IsAnswerTo held version (record { status = Done; output = VERSION.now; line = [] })
+  no_log : {log : List ℕ} → held log ≡ None → IsAnswerTo held (order log) (refusal ReadFault (codes "no file " ++ log))
+  ordered : {log bytes : List ℕ} {outcome : Outcome} → held log ≡ Some bytes → IsOrder bytes outcome → IsAnswerTo held (order log) outcome
+
+-- the outcome of the words: that of the command whose form they have, or else Usage
+pub data IsAnswer (words : List (List ℕ)) (held : List ℕ → Option (List ℕ)) : Outcome → Type 0 where
+  no_form : IsUsage words → IsAnswer words held (refusal Usage (codes "usage"))
+  formed : {form : Form} {outcome : Outcome} → IsForm words form → IsAnswerTo held form outcome → IsAnswer words held outcome
+
+-- the outcome is an answer, and status, output and line are the outcome's
+pub record Leaves (words : List (List ℕ)) (held : List ℕ → Option (List ℕ)) (status : Status) (out_old out_new err_old err_new : Option (List ℕ)) : Type 0 where
+  pub outcome : Outcome
+  pub answer : IsAnswer words held outcome
+  pub same_status : status ≡ outcome.status
+  pub printed : Adds out_old out_new outcome.output
+  pub said : Adds err_old err_new outcome.line
+
+-- the status says that the run came to its outcome
+abbrev pub IsDecided : Status → Type 0
+IsDecided ReadFault = ⊥
+IsDecided WriteFault = ⊥
+IsDecided NoMemory = ⊥
+IsDecided status = Unit {0}
+
+-- the status says that the run was stopped, at a write or for want of memory
+abbrev pub IsStopped : Status → Type 0
+IsStopped WriteFault = Unit {0}
+IsStopped NoMemory = Unit {0}
+IsStopped status = ⊥
+
+-- the status says that the run was refused before its first write
+abbrev pub IsRefused : Status → Type 0
+IsRefused Usage = Unit {0}
+IsRefused BadLog = Unit {0}
+IsRefused ReadFault = Unit {0}
+IsRefused Limit = Unit {0}
+IsRefused status = ⊥
+
+-- nothing was printed, or a prefix of what one of these outcomes prints
+abbrev pub PrintsPrefix : (Outcome → Type 0) → Option (List ℕ) → Option (List ℕ) → Type 0
+PrintsPrefix answers old new = (new ≡ old) ⊎ ((outcome : Outcome) × answers outcome × AddsPrefix old new outcome.output)
+
+-- the file is an input of the command
+abbrev pub IsInputOf : Form → List ℕ → Type 0
+IsInputOf help name = ⊥
+IsInputOf version name = ⊥
+IsInputOf (order log) name = name ≡ log
+
+abbrev pub IsInput : List (List ℕ) → List ℕ → Type 0
+IsInput words name = (form : Form) × IsForm words form × IsInputOf form name
+
+-- a read fault has its cause, and its line says which: a count that rose, or an input file that isn't there
+pub data FaultsReading (words : List (List ℕ)) (tells : Bool) (held : List ℕ → Option (List ℕ)) (before now : ℕ) (old new : Option (List ℕ)) : Type 0 where
+  rose : Rose before now → Adds old new (line_of (codes "read fault")) → FaultsReading words tells held before now old new
+  no_file : (name : List ℕ) → IsInput words name → (IsTrue tells → held name ≡ None) → Adds old new (line_of (codes "no file " ++ name)) → FaultsReading words tells held before now old new
+
+-- the lines of each status on standard error
+pub data IsLine (words : List (List ℕ)) : Status → List ℕ → Type 0 where
+  of_done : IsLine words Done []
+  of_usage : IsLine words Usage (line_of (codes "usage"))
+  of_short : IsLine words Short (line_of (codes "short"))
+  of_byte : (n : ℕ) → IsLine words BadLog (line_of (codes "log byte " ++ decimal n))
+  of_twice : (name : EventName) → IsLine words BadLog (line_of (codes "log twice " ++ name_text name))
+  of_missing : (name : EventName) → IsLine words BadLog (line_of (codes "log missing " ++ name_text name))
+  of_clock : (name : EventName) → IsLine words BadLog (line_of (codes "log clock " ++ name_text name))
+  of_read_fault : IsLine words ReadFault (line_of (codes "read fault"))
+  of_no_file : (name : List ℕ) → IsInput words name → IsLine words ReadFault (line_of (codes "no file " ++ name))
+  of_write_fault : IsLine words WriteFault (line_of (codes "write fault"))
+  of_limit : IsLine words Limit (line_of (codes "limit log 67108864"))
+  of_no_memory : IsLine words NoMemory (line_of (codes "no memory"))
+
+-- a line of the status was written, or the run stopped while it wrote a line
+pub data SaysLine (words : List (List ℕ)) (old new : Option (List ℕ)) : Status → Type 0 where
+  in_full : {status : Status} {line : List ℕ} → IsLine words status line → Adds old new line → SaysLine words old new status
+  cut_off : {of status : Status} {line : List ℕ} → IsStopped status → IsLine words of line → AddsPrefix old new line → SaysLine words old new status

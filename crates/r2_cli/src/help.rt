@@ -1,0 +1,16 @@
+//! What the program says of itself.
+
+/// The text of `r2 --help`.
+pub const HELP: &str = "\
+r2 records, replays and reads the runs of programs that are cut at an interface.
+
+  r2 order LOG     print the events of a log, sorted by clock and thread
+  r2 --help        print this text
+  r2 --version     print the version
+
+Exit status: 0 done, 2 usage, 8 the log is cut short, 9 the log is wrong,
+11 a read failed, 12 a write failed, 13 a file is too long, 14 no memory.
+";
+
+/// The text of `r2 --version`.
+pub const VERSION: &str = "r2 0.1.0\n";

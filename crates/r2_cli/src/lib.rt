@@ -1,0 +1,17 @@
+//! The commands of the program, over any files and sinks.
+#![tactic(auto)]
+
+mod ending;
+mod finish;
+mod help;
+mod log_file;
+mod order;
+mod order_text;
+mod printing;
+mod reading;
+mod running;
+mod status;
+mod words;
+
+pub use running::run;
+pub use status::Status;

@@ -1,0 +1,80 @@
+//! The top call.
+
+ghost use Rattle.std.specs.Prelude.{◌≡◌, ◌≤◌, ◌⊎◌, ◌++◌, ℕ, List, map, string_bytes, codes, IsTrue, None};
+ghost use Rattle.r2_base.specs.Causes.{Rose};
+ghost use Rattle.r2_cli.specs.Words.{IsUsage};
+ghost use Rattle.r2_cli.specs.Performed.{WordsCause, IsEarly, Does};
+ghost use Rattle.r2_cli.specs.Run.{IsAnswer, Leaves, IsDecided, IsStopped, IsRefused, PrintsPrefix, SaysLine, FaultsReading};
+
+use crate::ending::{Ending, print_ending};
+use crate::finish::finish;
+use crate::help::{HELP, VERSION};
+use crate::order::order;
+use crate::status::Status;
+use crate::words::{Command, command_of};
+use r2_base::{Files, Sink};
+use std::alloc::Global;
+
+/// Does what the words say, but for the line on standard error.
+fn work<'a, F: Files, S: Sink>(
+    alloc: Global,
+    words: &'a [String],
+    files: &mut F,
+    out: &mut S,
+) -> Ending<'a>
+    ensures told { IsTrue (F.tells files.old) → IsTrue (F.tells files.new) }
+    ensures same { IsTrue (F.tells files.old) → (n : List ℕ) → F.held files.new n ≡ F.held files.old n }
+    ensures writes { F.write_faults files.new ≡ F.write_faults files.old }
+    ensures later { F.read_faults files.old ≤ F.read_faults files.new }
+    ensures out_later { S.faults out.old ≤ S.faults out.new }
+    ensures cause { WordsCause (map string_bytes words.now) (F.read_faults files.old) (F.read_faults files.new) (S.faults out.old) (S.faults out.new) result }
+    ensures early { IsEarly result → out.new ≡ out.old }
+    ensures does { IsTrue (F.tells files.old) → Does (map string_bytes words.now) (F.held files.old) (S.told out.old) (S.told out.new) result }
+{
+    let Some(command) = command_of(words) else {
+        return Ending::Usage;
+    };
+    match command {
+        Command::Help => print_ending(true, out.put(HELP.as_bytes())),
+        Command::Version => print_ending(true, out.put(VERSION.as_bytes())),
+        Command::Order { log } => order(alloc, log, files, out),
+    }
+}
+
+/// Runs the program: `words` are the command line without the program's name. The command reads and writes `files`,
+/// and prints to `out`; a status other than `Done` has its line on `err`, which no other line follows.
+///
+/// A line of `err` that can't be put turns the status into `WriteFault`, or into `NoMemory` for want of memory.
+pub fn run<F: Files, S: Sink, E: Sink>(
+    alloc: Global,
+    words: &[String],
+    files: &mut F,
+    out: &mut S,
+    err: &mut E,
+) -> Status
+    // what the words and the files decide is what is left, where the files tell what they hold
+    ensures answer { IsTrue (F.tells files.old) → IsDecided result → Leaves (map string_bytes words.now) (F.held files.old) result (S.told out.old) (S.told out.new) (E.told err.old) (E.told err.new) }
+    // where nothing fails, that very outcome is left, but for want of memory
+    ensures complete { IsTrue (F.tells files.old) → (Rose (F.read_faults files.old) (F.read_faults files.new) → ⊥) → (Rose (S.faults out.old) (S.faults out.new) → ⊥) → (Rose (E.faults err.old) (E.faults err.new) → ⊥)
+        → (result ≡ Status.NoMemory) ⊎ Leaves (map string_bytes words.now) (F.held files.old) result (S.told out.old) (S.told out.new) (E.told err.old) (E.told err.new) }
+    // the words alone decide Usage
+    ensures usage { result ≡ Status.Usage → IsUsage (map string_bytes words.now) }
+    ensures no_form { IsUsage (map string_bytes words.now) → (result ≡ Status.Usage) ⊎ IsStopped result }
+    // faults have their causes
+    ensures read_fault { result ≡ Status.ReadFault → FaultsReading (map string_bytes words.now) (F.tells files.old) (F.held files.old) (F.read_faults files.old) (F.read_faults files.new) (E.told err.old) (E.told err.new) }
+    ensures write_fault { result ≡ Status.WriteFault → Rose (S.faults out.old) (S.faults out.new) ⊎ Rose (E.faults err.old) (E.faults err.new) }
+    // what is printed and said, whatever the status
+    ensures refused { IsRefused result → out.new ≡ out.old }
+    ensures output { IsTrue (F.tells files.old) → PrintsPrefix (IsAnswer (map string_bytes words.now) (F.held files.old)) (S.told out.old) (S.told out.new) }
+    ensures line { SaysLine (map string_bytes words.now) (E.told err.old) (E.told err.new) result }
+    // no name changes, and no count falls
+    ensures names { IsTrue (F.tells files.old) → (n : List ℕ) → F.held files.new n ≡ F.held files.old n }
+    ensures told { IsTrue (F.tells files.old) → IsTrue (F.tells files.new) }
+    ensures writes { F.write_faults files.new ≡ F.write_faults files.old }
+    ensures reads { F.read_faults files.old ≤ F.read_faults files.new }
+    ensures out_faults { S.faults out.old ≤ S.faults out.new }
+    ensures err_faults { E.faults err.old ≤ E.faults err.new }
+{
+    let ending = work(alloc, words, files, out);
+    finish(alloc, ending, err)
+}

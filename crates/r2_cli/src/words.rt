@@ -1,0 +1,28 @@
+//! The command line.
+
+ghost use Rattle.std.specs.Prelude.{◌≡◌, ℕ, List, map, string_bytes, IfNone, IfSome};
+ghost use Rattle.r2_cli.specs.Words.{IsForm, IsUsage};
+ghost use Rattle.r2_cli.specs.Forms.{form_of};
+
+/// A command with its words.
+#[derive(Clone, Copy, Debug)]
+pub enum Command<'a> {
+    Help,
+    Version,
+    Order { log: &'a str },
+}
+
+/// The command that the words say; None where they have none of the forms.
+pub fn command_of(words: &[String]) -> Option<Command<'_>>
+    ensures form { IfSome result (λ c. IsForm (map string_bytes words.now) (form_of c)) }
+    ensures none { IfNone result (IsUsage (map string_bytes words.now)) }
+{
+    match words {
+        [word] if word.as_str() == "--help" => Some(Command::Help),
+        [word] if word.as_str() == "--version" => Some(Command::Version),
+        [word, log] if word.as_str() == "order" && !log.as_str().is_empty() => Some(Command::Order {
+            log: log.as_str(),
+        }),
+        _ => None,
+    }
+}
