@@ -1,7 +1,7 @@
 -- What an access to memory may touch, and the first test that it fails.
 use Rattle.std.specs.Prelude.{ℕ, Bool, true, false, List}
-use Rattle.places.specs.declared.placed.Side.{Side}
-use Rattle.places.specs.declared.placed.Side.TheVariants.{Replay, System}
+use Rattle.marks.specs.declared.side.Side.{Side}
+use Rattle.marks.specs.declared.side.Side.TheVariants.{Replay, System}
 use Rattle.places.specs.declared.areas.TheConstants.{CONSTANTS, REPLAY_MEMORY, SYSTEM_MEMORY}
 use Rattle.places.specs.Ranges.{IsInRange, NoneIn, IsLeastIn}
 use Rattle.live_bytes.specs.Areas.{AreaState, IsDead}

@@ -7,7 +7,8 @@ ghost use Rattle.access_checks.specs.Accesses.{IsForeign, IsWithoutRight, IsPend
 use crate::Refusal;
 use held_regions::Regions;
 use live_bytes::LiveBytes;
-use places::{CONSTANTS, REPLAY_MEMORY, Range, SYSTEM_MEMORY, Side};
+use marks::Side;
+use places::{CONSTANTS, REPLAY_MEMORY, Range, SYSTEM_MEMORY};
 
 /// A thread's code of one side reads a range of bytes, or writes it.
 #[derive(Clone, Copy, Debug)]

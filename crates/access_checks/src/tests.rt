@@ -1,7 +1,8 @@
 use crate::{Access, Refusal, check_access};
 use held_regions::{Holder, Region, Regions};
 use live_bytes::LiveBytes;
-use places::{Bytes8, Range, Side};
+use marks::Side;
+use places::{Bytes8, Range};
 use std::test::Fail;
 
 #[test]

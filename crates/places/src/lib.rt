@@ -2,6 +2,7 @@
 #![tactic(auto)]
 
 mod areas;
+mod laws;
 mod lists;
 mod placed;
 mod range;
@@ -10,6 +11,7 @@ pub use areas::{
     CONSTANTS, FRAMES, GLOBALS_SIZE, POOL_SIZE, REPLAY_GLOBALS, REPLAY_MEMORY, REPLAY_POOL,
     REPLAY_STACKS, STACK_SIZE, SYSTEM_GLOBALS, SYSTEM_MEMORY, SYSTEM_POOL, SYSTEM_STACKS, THREADS,
 };
+pub use laws::areas_are_those_of_runs;
 pub use lists::{Bytes8, Flags, Places};
-pub use placed::{Place, Placed, Side};
+pub use placed::{Place, Placed};
 pub use range::Range;

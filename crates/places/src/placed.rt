@@ -2,13 +2,6 @@
 
 use crate::{Bytes8, Flags, Places};
 
-/// The two sides of a program: code above the cut runs in replay mode, code below it in system mode.
-#[derive(Clone, Copy, Debug, PartialEq, Eq)]
-pub enum Side {
-    Replay,
-    System,
-}
-
 /// An object: its first byte's address, and its bytes at the start of a run.
 #[derive(Debug, Drop)]
 pub struct Place {

@@ -1,5 +1,5 @@
 use Rattle.std.proofs.Common.{sym, subst}
-use Rattle.places.specs.declared.placed.Side.{Side}
+use Rattle.marks.specs.declared.side.Side.{Side}
 use Rattle.places.specs.Ranges.{IsFirstIn}
 use Rattle.access_checks.specs.Accesses.{IsForeignTo}
 use Rattle.access_checks.proofs.access.first_foreign.Goals as goal

@@ -1,0 +1,7 @@
+mod Bounds
+mod Empty
+pub mod Settles
+pub mod Fronts
+pub mod Keeps
+pub mod Room
+mod Rows

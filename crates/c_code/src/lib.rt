@@ -1,0 +1,22 @@
+//! Flat code: the instructions of a program, what its functions are, and which marks a thread of it can make.
+#![tactic(auto)]
+
+mod activation;
+mod code;
+mod instr;
+mod laws;
+mod lists;
+mod shape;
+#[cfg(test)]
+mod tests;
+mod values;
+
+pub use activation::{Activation, Call, Waiting};
+pub use code::{Code, FuncInfo};
+pub use instr::{Change, Combine, Instr, Push};
+pub use laws::{each_mark_is_wanted, fronts_are_lists, valid_code_goes_on};
+pub use lists::Shapes;
+pub use marks::Side;
+pub use places::{Bytes8, Place, Placed, THREADS};
+pub use shape::Shape;
+pub use values::convert;
