@@ -5,12 +5,8 @@ use Rattle.std.proofs.Math.Nat.{div-div-eq-div-mul}
 use Rattle.std.proofs.lemmas.Bool.{cases_eq, cases_lt, lt-ltb, le-ltb, le-leb, lt-leb, cond-true, cond-false, and_from, and_left, and_right}
 use Rattle.places.specs.declared.range.Range.{Range}
 use Rattle.live_bytes.specs.Areas.{AreaState, cell}
-<<<<<<< HEAD
 use Rattle.places.specs.Ranges.{covers}
 use Rattle.live_bytes.specs.Numbers.{digit}
-=======
-use Rattle.live_bytes.specs.Numbers.{digit, covers}
->>>>>>> 43e58effcee17ae41facac53d5729e845bb26a96
 use Rattle.live_bytes.specs.AreaChanges.{FillsArea, WritesArea}
 
 -- an address is covered by a range or lies before or behind it

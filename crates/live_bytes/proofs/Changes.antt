@@ -3,15 +3,9 @@ use Rattle.std.proofs.Common.{◌≡◌, ℕ, ◌+◌, ◌-◌, ◌^◌, ◌<◌
 use Rattle.std.proofs.lemmas.Bool.{cases_lt, cases_order, cases_Bool, cond-true, cond-false, both_ways}
 use Rattle.std.proofs.lemmas.List.{length-map, get_or-map}
 use Rattle.places.specs.declared.range.Range.{Range}
-<<<<<<< HEAD
 use Rattle.places.specs.Ranges.{NoneIn, IsFirstIn, covers}
 use Rattle.live_bytes.specs.Areas.{AreaState, holds, cell, byte_at, extent, extents, RiseFrom, LiesIn, IsHolder, IsDead, AllLive}
 use Rattle.live_bytes.specs.Numbers.{digit, HasNumber, SameOutside, FillsWith}
-=======
-use Rattle.places.specs.Ranges.{NoneIn, IsFirstIn}
-use Rattle.live_bytes.specs.Areas.{AreaState, holds, cell, byte_at, extent, extents, RiseFrom, LiesIn, IsHolder, IsDead, AllLive}
-use Rattle.live_bytes.specs.Numbers.{digit, covers, HasNumber, SameOutside, FillsWith}
->>>>>>> 43e58effcee17ae41facac53d5729e845bb26a96
 use Rattle.live_bytes.specs.AreaChanges.{IsDeadIn, SameExtent, FillsArea, WritesArea}
 use Rattle.live_bytes.proofs.Cells.{cover_cases}
 use Rattle.live_bytes.proofs.Lookup.{holds_from, holds_parts, misses_behind, rise_ends, rise_order, byte_at_absent, byte_at_held, byte_at_end, byte_at_set_other, extents_set}

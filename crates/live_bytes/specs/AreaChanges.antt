@@ -2,12 +2,8 @@
 use Rattle.std.specs.Prelude.{◌≡◌, ℕ, ◌-◌, ◌≤◌, Option, Some, None, if◌then◌else◌, length}
 use Rattle.places.specs.declared.range.Range.{Range}
 use Rattle.live_bytes.specs.Areas.{AreaState, holds, cell}
-<<<<<<< HEAD
 use Rattle.places.specs.Ranges.{covers}
 use Rattle.live_bytes.specs.Numbers.{digit}
-=======
-use Rattle.live_bytes.specs.Numbers.{digit, covers}
->>>>>>> 43e58effcee17ae41facac53d5729e845bb26a96
 
 -- the byte at the address is dead in the area, or none of it
 abbrev pub IsDeadIn : AreaState → ℕ → Type 0

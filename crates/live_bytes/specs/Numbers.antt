@@ -1,12 +1,7 @@
 -- Numbers in memory, low byte first, and what a change of memory leaves.
-<<<<<<< HEAD
 use Rattle.std.specs.Prelude.{◌≡◌, ℕ, ◌+◌, ◌/◌, ◌%◌, ◌^◌, ◌<◌, true, false, List, Option, Some, length, slice_index}
 use Rattle.places.specs.declared.range.Range.{Range}
 use Rattle.places.specs.Ranges.{covers}
-=======
-use Rattle.std.specs.Prelude.{◌≡◌, ℕ, ◌+◌, ◌/◌, ◌%◌, ◌^◌, ◌<◌, ◌&&◌, Bool, true, false, List, Option, Some, nat_lt, nat_le, length, slice_index}
-use Rattle.places.specs.declared.range.Range.{Range}
->>>>>>> 43e58effcee17ae41facac53d5729e845bb26a96
 use Rattle.live_bytes.specs.Areas.{AreaState, byte_at, extents}
 
 -- byte number i of a number, from the low one on
@@ -21,13 +16,6 @@ HasNumber bytes addr n value = (i : ℕ) → i < n → byte_at bytes (addr + i) 
 abbrev pub HasBytes : List AreaState → ℕ → List ℕ → Type 0
 HasBytes bytes addr values = (i : ℕ) → i < length values → byte_at bytes (addr + i) ≡ Some (slice_index values i)
 
-<<<<<<< HEAD
-=======
--- whether the address is that of a byte of the range
-abbrev pub covers : Range → ℕ → Bool
-covers r x = nat_le r.addr x && nat_lt x (r.addr + r.len)
-
->>>>>>> 43e58effcee17ae41facac53d5729e845bb26a96
 -- the areas and every byte out of the range are as before
 pub record SameOutside (r : Range) (old new : List AreaState) : Type 0 where
   pub areas : extents new ≡ extents old
