@@ -20,12 +20,15 @@ def main():
     program, log, scratch = sys.argv[1:]
     printed = os.path.join(scratch, "printed")
     seconds, status, memory = min(timed([program, "order", log], printed) for _ in range(3))
-    sorting, _, _ = min(timed(["sort", "-n", "--parallel=1", printed], os.path.join(scratch, "sorted")) for _ in range(3))
     size = os.path.getsize(log)
-    print(
-        f"{os.path.basename(log):24} {size:>9} bytes  status {status}  {seconds:6.2f} s"
-        f"  time / sort {seconds / sorting:6.2f}  memory / log {memory / size:6.2f}"
-    )
+    line = f"{os.path.basename(log):14} {size:>9} bytes  status {status}  {seconds:6.2f} s"
+    if os.path.getsize(printed) > 1000:
+        words = ["sort", "-n", "--parallel=1", printed]
+        sorting, _, _ = min(timed(words, os.path.join(scratch, "sorted")) for _ in range(3))
+        line += f"  time / sort {seconds / sorting:6.2f}"
+    else:
+        line += "  no output to sort "
+    print(f"{line}  memory / log {memory / size:6.2f}")
 
 
 main()

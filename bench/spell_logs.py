@@ -88,9 +88,8 @@ def small_records(log, size, keys):
 
 
 def wrong_tickets(log, size):
-    rng = random.Random(2)
     while log.size < size:
-        mark = struct.pack(">BQI", USER, log.total % 1000, rng.randrange(1, 2**32))
+        mark = struct.pack(">BQI", USER, 0, 2 * log.total + 1)
         log.put(log.total % THREADS, struct.pack(">BIIB", RET, 7, 1, 1) + mark + b"\x01")
 
 

@@ -90,7 +90,7 @@ abbrev is_open : Sign → Bool
 is_open signs.OpenParenthesis = true
 is_open _ = false
 
-abbrev opens : Kind → List Token → Bool
+abbrev pub opens : Kind → List Token → Bool
 opens (kinds.Sign signs.OpenParenthesis) ts = begins_type ts
 opens _ ts = false
 
@@ -99,7 +99,7 @@ abbrev pub opens_type : List Token → Bool
 opens_type [] = false
 opens_type (t ∷ ts) = opens t.kind ts
 
-abbrev is_else : Kind → Bool
+abbrev pub is_else : Kind → Bool
 is_else (kinds.Word words.Else) = true
 is_else _ = false
 
@@ -108,11 +108,11 @@ abbrev pub begins_else : List Token → Bool
 begins_else [] = false
 begins_else (t ∷ ts) = is_else t.kind
 
-abbrev is_void : Kind → Bool
+abbrev pub is_void : Kind → Bool
 is_void (kinds.Word words.Void) = true
 is_void _ = false
 
-abbrev is_close : Kind → Bool
+abbrev pub is_close : Kind → Bool
 is_close (kinds.Sign signs.CloseParenthesis) = true
 is_close _ = false
 
@@ -120,7 +120,7 @@ abbrev closes : List Token → Bool
 closes [] = false
 closes (t ∷ ts) = is_close t.kind
 
-abbrev void_closes : Bool → List Token → Bool
+abbrev pub void_closes : Bool → List Token → Bool
 void_closes true ts = closes ts
 void_closes false ts = false
 

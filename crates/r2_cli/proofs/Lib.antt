@@ -3,3 +3,4 @@ pub mod SendingLemmas
 pub mod Told
 pub mod OrderLemmas
 pub mod RunLemmas
+pub mod OneOutcome

@@ -1,5 +1,10 @@
 -- The forms of the command line.
-use Rattle.std.specs.Prelude.{◌≡◌, ◌≢◌, List, [], ◌∷◌, ℕ, codes}
+use Rattle.std.specs.Prelude.{◌≡◌, ◌≢◌, List, [], ◌∷◌, ℕ, String, codes, map, string_bytes}
+use Rattle.std.specs.declared.alloc.Global.{Global}
+
+-- the words as lists of bytes
+abbrev pub texts_of : List (String Global) → List (List ℕ)
+texts_of words = map string_bytes words
 
 -- a command with the names of its files
 pub data Form : Type 0 where

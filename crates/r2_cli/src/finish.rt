@@ -24,7 +24,8 @@ fn status_after(status: Status, put: Result<(), Fault>) -> Status
 
 /// Writes the line, where it isn't empty, and answers the status, or that of the fault that this met.
 fn put_line<E: Sink>(status: Status, line: &[u8], err: &mut E) -> Status
-    ensures left { LeavesLine status line.now (E.told err.old) (E.told err.new) (E.faults err.old) (E.faults err.new) result }
+    ensures left { LeavesLine status line.now (E.told err.old) (E.told err.new)
+        (E.faults err.old) (E.faults err.new) result }
     ensures later { E.faults err.old ≤ E.faults err.new }
 {
     if line.is_empty() {
@@ -36,7 +37,8 @@ fn put_line<E: Sink>(status: Status, line: &[u8], err: &mut E) -> Status
 
 /// Writes the line of the ending, and answers its status; no other line follows one that is refused.
 pub fn finish<E: Sink>(alloc: Global, ending: Ending<'_>, err: &mut E) -> Status
-    ensures finishes { Finishes ending.entry (E.told err.old) (E.told err.new) (E.faults err.old) (E.faults err.new) result }
+    ensures finishes { Finishes ending.entry (E.told err.old) (E.told err.new) (E.faults err.old)
+        (E.faults err.new) result }
     ensures later { E.faults err.old ≤ E.faults err.new }
 {
     match ending.line(alloc) {

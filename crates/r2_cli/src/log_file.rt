@@ -56,12 +56,16 @@ pub fn read_log<'a, F: Files>(
     name: &'a str,
 ) -> Result<Closed, Ending<'a>>
     ensures told { IsTrue (F.tells files.old) → IsTrue (F.tells files.new) }
-    ensures same { IsTrue (F.tells files.old) → (n : List ℕ) → F.held files.new n ≡ F.held files.old n }
+    ensures same { IsTrue (F.tells files.old) → (n : List ℕ)
+        → F.held files.new n ≡ F.held files.old n }
     ensures writes { F.write_faults files.new ≡ F.write_faults files.old }
     ensures later { F.read_faults files.old ≤ F.read_faults files.new }
-    ensures part { IfOk result (λ part. IsTrue (F.tells files.old) → HoldsPart (F.held files.old name.now) part) }
-    ensures refused { IfErr result (λ ending. IsTrue (F.tells files.old) → EndsLog (F.held files.old name.now) ending) }
-    ensures cause { IfErr result (λ ending. LogCause name.now (F.read_faults files.old) (F.read_faults files.new) ending) }
+    ensures part { IfOk result (λ part. IsTrue (F.tells files.old)
+        → HoldsPart (F.held files.old name.now) part) }
+    ensures refused { IfErr result (λ ending. IsTrue (F.tells files.old)
+        → EndsLog (F.held files.old name.now) ending) }
+    ensures cause { IfErr result (λ ending. LogCause name.now (F.read_faults files.old)
+        (F.read_faults files.new) ending) }
 {
     let bytes = match read_all(alloc, files, name, LOG_LIMIT, PIECE) {
         Ok(bytes) => bytes,

@@ -18,13 +18,16 @@ pub fn order<'a, F: Files, S: Sink>(
     out: &mut S,
 ) -> Ending<'a>
     ensures told { IsTrue (F.tells files.old) → IsTrue (F.tells files.new) }
-    ensures same { IsTrue (F.tells files.old) → (n : List ℕ) → F.held files.new n ≡ F.held files.old n }
+    ensures same { IsTrue (F.tells files.old) → (n : List ℕ)
+        → F.held files.new n ≡ F.held files.old n }
     ensures writes { F.write_faults files.new ≡ F.write_faults files.old }
     ensures later { F.read_faults files.old ≤ F.read_faults files.new }
     ensures out_later { S.faults out.old ≤ S.faults out.new }
-    ensures cause { EndingCause (order log.now) (F.read_faults files.old) (F.read_faults files.new) (S.faults out.old) (S.faults out.new) result }
+    ensures cause { EndingCause (order log.now) (F.read_faults files.old)
+        (F.read_faults files.new) (S.faults out.old) (S.faults out.new) result }
     ensures early { IsEarly result → out.new ≡ out.old }
-    ensures performs { IsTrue (F.tells files.old) → Performs (order log.now) (F.held files.old) (S.told out.old) (S.told out.new) result }
+    ensures performs { IsTrue (F.tells files.old)
+        → Performs (order log.now) (F.held files.old) (S.told out.old) (S.told out.new) result }
 {
     let part = match read_log(alloc, files, log) {
         Ok(part) => part,

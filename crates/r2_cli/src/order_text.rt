@@ -69,7 +69,8 @@ fn put_kind(text: &mut Vec<u8>, entry: &Record) -> Result<(), AllocError>
 
 /// Adds the line of the event with this name and record.
 pub fn put_event(text: &mut Vec<u8>, name: EventName, entry: &Record) -> Result<(), AllocError>
-    ensures { OnOk result (text.new.items ≡ text.old.items ++ event_line (record { name = name; entry = entry.now })) }
+    ensures { OnOk result (text.new.items ≡ text.old.items ++ event_line
+        (record { name = name; entry = entry.now })) }
 {
     put_number(text, u64::from(entry.clock))?;
     text.push(b' ')?;

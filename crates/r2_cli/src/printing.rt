@@ -30,7 +30,8 @@ fn put_long<S: Sink>(text: &mut Vec<u8>, out: &mut S) -> Result<(), Fault>
 
 /// Prints the text of `order`, in pieces.
 pub fn print_order<S: Sink>(alloc: Global, part: &Closed, out: &mut S) -> Result<(), Fault>
-    ensures printed { TellsGrowth (S.told out.old) (S.told out.new) result (order_text part.now.events) }
+    ensures printed { TellsGrowth (S.told out.old) (S.told out.new) result
+        (order_text part.now.events) }
     ensures later { S.faults out.old ≤ S.faults out.new }
     ensures cause { IfErr result (IsWriteCause (S.faults out.old) (S.faults out.new)) }
 {

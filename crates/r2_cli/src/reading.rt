@@ -58,15 +58,22 @@ fn read_more<F: Files>(
 ) -> Result<bool, Fault>
     requires { 0 < length piece.old }
     ensures told { IsTrue (F.tells files.old) → IsTrue (F.tells files.new) }
-    ensures same { IsTrue (F.tells files.old) → (n : List ℕ) → F.held files.new n ≡ F.held files.old n }
+    ensures same { IsTrue (F.tells files.old) → (n : List ℕ)
+        → F.held files.new n ≡ F.held files.old n }
     ensures writes { F.write_faults files.new ≡ F.write_faults files.old }
     ensures later { F.read_faults files.old ≤ F.read_faults files.new }
     ensures cause { IfErr result (IsReadCause (F.read_faults files.old) (F.read_faults files.new)) }
-    ensures prefix { IsTrue (F.tells files.old) → IsPrefixOf text.old.items (F.held files.old name.now) → IsPrefixOf text.new.items (F.held files.old name.now) }
-    ensures end { result ≡ Ok false → IsTrue (F.tells files.old) → IsPrefixOf text.old.items (F.held files.old name.now) → F.held files.old name.now ≡ Some text.new.items }
-    ensures missing { result ≡ Err Missing → IsTrue (F.tells files.old) → F.held files.old name.now ≡ None }
+    ensures prefix { IsTrue (F.tells files.old)
+        → IsPrefixOf text.old.items (F.held files.old name.now)
+        → IsPrefixOf text.new.items (F.held files.old name.now) }
+    ensures end { result ≡ Ok false → IsTrue (F.tells files.old)
+        → IsPrefixOf text.old.items (F.held files.old name.now)
+        → F.held files.old name.now ≡ Some text.new.items }
+    ensures missing { result ≡ Err Missing → IsTrue (F.tells files.old)
+        → F.held files.old name.now ≡ None }
     ensures ended { result ≡ Ok false → text.new.items ≡ text.old.items }
-    ensures grows { IfOk result (λ more. IsTrue more → length text.old.items < length text.new.items) }
+    ensures grows { IfOk result (λ more. IsTrue more
+        → length text.old.items < length text.new.items) }
     ensures room { length text.new.items ≤ length text.old.items + length piece.old }
 {
     let count = files.read_at(name, text.len() as u64, piece)?;
@@ -86,14 +93,19 @@ pub fn read_all<F: Files>(
     requires limit { most < 2 ^ 32 }
     requires some { 1 ≤ at_once }
     ensures told { IsTrue (F.tells files.old) → IsTrue (F.tells files.new) }
-    ensures same { IsTrue (F.tells files.old) → (n : List ℕ) → F.held files.new n ≡ F.held files.old n }
+    ensures same { IsTrue (F.tells files.old) → (n : List ℕ)
+        → F.held files.new n ≡ F.held files.old n }
     ensures writes { F.write_faults files.new ≡ F.write_faults files.old }
     ensures later { F.read_faults files.old ≤ F.read_faults files.new }
     ensures most { IfOk result (λ text. length text.items ≤ most) }
-    ensures text { IfOk result (λ text. IsTrue (F.tells files.old) → F.held files.old name.now ≡ Some text.items) }
-    ensures failed { result ≡ Err (ReadError.Fault Failed) → Rose (F.read_faults files.old) (F.read_faults files.new) }
-    ensures missing { result ≡ Err (ReadError.Fault Missing) → IsTrue (F.tells files.old) → F.held files.old name.now ≡ None }
-    ensures too_long { result ≡ Err ReadError.TooLong → IsTrue (F.tells files.old) → HoldsMore most (F.held files.old name.now) }
+    ensures text { IfOk result (λ text. IsTrue (F.tells files.old)
+        → F.held files.old name.now ≡ Some text.items) }
+    ensures failed { result ≡ Err (ReadError.Fault Failed)
+        → Rose (F.read_faults files.old) (F.read_faults files.new) }
+    ensures missing { result ≡ Err (ReadError.Fault Missing) → IsTrue (F.tells files.old)
+        → F.held files.old name.now ≡ None }
+    ensures too_long { result ≡ Err ReadError.TooLong → IsTrue (F.tells files.old)
+        → HoldsMore most (F.held files.old name.now) }
 {
     let mut piece = vec![in alloc; 0; at_once]?;
     let mut text = Vec::new(alloc);

@@ -2,7 +2,8 @@
 
 ghost use Rattle.std.specs.Prelude.{◌≡◌, ◌≤◌, ◌⊎◌, ◌++◌, ℕ, List, map, string_bytes, codes, IsTrue, None};
 ghost use Rattle.r2_base.specs.Causes.{Rose};
-ghost use Rattle.r2_cli.specs.Words.{IsUsage};
+ghost use Rattle.r2_cli.specs.Outcome.{Outcome};
+ghost use Rattle.r2_cli.specs.Words.{texts_of, IsUsage};
 ghost use Rattle.r2_cli.specs.Performed.{WordsCause, IsEarly, Does};
 ghost use Rattle.r2_cli.specs.Run.{IsAnswer, Leaves, IsDecided, IsStopped, IsRefused, PrintsPrefix, SaysLine, FaultsReading};
 
@@ -23,13 +24,17 @@ fn work<'a, F: Files, S: Sink>(
     out: &mut S,
 ) -> Ending<'a>
     ensures told { IsTrue (F.tells files.old) → IsTrue (F.tells files.new) }
-    ensures same { IsTrue (F.tells files.old) → (n : List ℕ) → F.held files.new n ≡ F.held files.old n }
+    ensures same { IsTrue (F.tells files.old)
+        → (n : List ℕ) → F.held files.new n ≡ F.held files.old n }
     ensures writes { F.write_faults files.new ≡ F.write_faults files.old }
     ensures later { F.read_faults files.old ≤ F.read_faults files.new }
     ensures out_later { S.faults out.old ≤ S.faults out.new }
-    ensures cause { WordsCause (map string_bytes words.now) (F.read_faults files.old) (F.read_faults files.new) (S.faults out.old) (S.faults out.new) result }
+    ensures cause { WordsCause (texts_of words.now)
+        (F.read_faults files.old) (F.read_faults files.new) (S.faults out.old)
+        (S.faults out.new) result }
     ensures early { IsEarly result → out.new ≡ out.old }
-    ensures does { IsTrue (F.tells files.old) → Does (map string_bytes words.now) (F.held files.old) (S.told out.old) (S.told out.new) result }
+    ensures does { IsTrue (F.tells files.old)
+        → Does (texts_of words.now) (F.held files.old) (S.told out.old) (S.told out.new) result }
 {
     let Some(command) = command_of(words) else {
         return Ending::Usage;
@@ -53,22 +58,38 @@ pub fn run<F: Files, S: Sink, E: Sink>(
     err: &mut E,
 ) -> Status
     // what the words and the files decide is what is left, where the files tell what they hold
-    ensures answer { IsTrue (F.tells files.old) → IsDecided result → Leaves (map string_bytes words.now) (F.held files.old) result (S.told out.old) (S.told out.new) (E.told err.old) (E.told err.new) }
-    // where nothing fails, that very outcome is left, but for want of memory
-    ensures complete { IsTrue (F.tells files.old) → (Rose (F.read_faults files.old) (F.read_faults files.new) → ⊥) → (Rose (S.faults out.old) (S.faults out.new) → ⊥) → (Rose (E.faults err.old) (E.faults err.new) → ⊥)
-        → (result ≡ Status.NoMemory) ⊎ Leaves (map string_bytes words.now) (F.held files.old) result (S.told out.old) (S.told out.new) (E.told err.old) (E.told err.new) }
+    ensures answer { IsTrue (F.tells files.old) → IsDecided result
+        → Leaves (texts_of words.now) (F.held files.old) result
+        (S.told out.old) (S.told out.new) (E.told err.old) (E.told err.new) }
+    // it is left wherever no fault is counted, but for want of memory
+    ensures complete { IsTrue (F.tells files.old)
+        → (Rose (F.read_faults files.old) (F.read_faults files.new) → ⊥)
+        → (Rose (S.faults out.old) (S.faults out.new) → ⊥)
+        → (Rose (E.faults err.old) (E.faults err.new) → ⊥)
+        → (result ≡ Status.NoMemory)
+        ⊎ Leaves (texts_of words.now) (F.held files.old) result
+        (S.told out.old) (S.told out.new) (E.told err.old) (E.told err.new) }
+    // they decide one outcome at most
+    ensures one_outcome { (o p : Outcome) → IsAnswer (texts_of words.now) (F.held files.old) o
+        → IsAnswer (texts_of words.now) (F.held files.old) p → o ≡ p }
     // the words alone decide Usage
-    ensures usage { result ≡ Status.Usage → IsUsage (map string_bytes words.now) }
-    ensures no_form { IsUsage (map string_bytes words.now) → (result ≡ Status.Usage) ⊎ IsStopped result }
+    ensures usage { result ≡ Status.Usage → IsUsage (texts_of words.now) }
+    ensures no_form { IsUsage (texts_of words.now) → (result ≡ Status.Usage) ⊎ IsStopped result }
     // faults have their causes
-    ensures read_fault { result ≡ Status.ReadFault → FaultsReading (map string_bytes words.now) (F.tells files.old) (F.held files.old) (F.read_faults files.old) (F.read_faults files.new) (E.told err.old) (E.told err.new) }
-    ensures write_fault { result ≡ Status.WriteFault → Rose (S.faults out.old) (S.faults out.new) ⊎ Rose (E.faults err.old) (E.faults err.new) }
+    ensures read_fault { result ≡ Status.ReadFault
+        → FaultsReading (texts_of words.now) (F.tells files.old) (F.held files.old)
+        (F.read_faults files.old) (F.read_faults files.new) (E.told err.old) (E.told err.new) }
+    ensures write_fault { result ≡ Status.WriteFault
+        → Rose (S.faults out.old) (S.faults out.new) ⊎ Rose (E.faults err.old) (E.faults err.new) }
     // what is printed and said, whatever the status
     ensures refused { IsRefused result → out.new ≡ out.old }
-    ensures output { IsTrue (F.tells files.old) → PrintsPrefix (IsAnswer (map string_bytes words.now) (F.held files.old)) (S.told out.old) (S.told out.new) }
-    ensures line { SaysLine (map string_bytes words.now) (E.told err.old) (E.told err.new) result }
+    ensures output { IsTrue (F.tells files.old)
+        → PrintsPrefix (IsAnswer (texts_of words.now) (F.held files.old))
+        (S.told out.old) (S.told out.new) }
+    ensures line { SaysLine (texts_of words.now) (E.told err.old) (E.told err.new) result }
     // no name changes, and no count falls
-    ensures names { IsTrue (F.tells files.old) → (n : List ℕ) → F.held files.new n ≡ F.held files.old n }
+    ensures names { IsTrue (F.tells files.old)
+        → (n : List ℕ) → F.held files.new n ≡ F.held files.old n }
     ensures told { IsTrue (F.tells files.old) → IsTrue (F.tells files.new) }
     ensures writes { F.write_faults files.new ≡ F.write_faults files.old }
     ensures reads { F.read_faults files.old ≤ F.read_faults files.new }

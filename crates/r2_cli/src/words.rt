@@ -1,7 +1,7 @@
 //! The command line.
 
-ghost use Rattle.std.specs.Prelude.{◌≡◌, ℕ, List, map, string_bytes, IfNone, IfSome};
-ghost use Rattle.r2_cli.specs.Words.{IsForm, IsUsage};
+ghost use Rattle.std.specs.Prelude.{IfNone, IfSome};
+ghost use Rattle.r2_cli.specs.Words.{texts_of, IsForm, IsUsage};
 ghost use Rattle.r2_cli.specs.Forms.{form_of};
 
 /// A command with its words.
@@ -14,8 +14,8 @@ pub enum Command<'a> {
 
 /// The command that the words say; None where they have none of the forms.
 pub fn command_of(words: &[String]) -> Option<Command<'_>>
-    ensures form { IfSome result (λ c. IsForm (map string_bytes words.now) (form_of c)) }
-    ensures none { IfNone result (IsUsage (map string_bytes words.now)) }
+    ensures form { IfSome result (λ c. IsForm (texts_of words.now) (form_of c)) }
+    ensures none { IfNone result (IsUsage (texts_of words.now)) }
 {
     match words {
         [word] if word.as_str() == "--help" => Some(Command::Help),

@@ -1,4 +1,5 @@
 use Rattle.r2_cli.proofs.RunLemmas.{answers, completes, says_usage, has_no_form, faults_reading, faults_writing, early, says_line}
+use Rattle.r2_cli.proofs.OneOutcome.{one_answer}
 use Rattle.r2_cli.proofs.running.run.Goals as goal
 
 pub returns-clause-answer : goal.returns-clause-answer
@@ -27,3 +28,6 @@ returns-clause-output g c = λ told. (c.work-ending.ensures.does told).prints
 
 pub returns-clause-line : goal.returns-clause-line
 returns-clause-line g c = says_line _ _ _ _ _ _ _ _ _ _ _ c.work-ending.ensures.cause c.finish.ensures.finishes
+
+pub returns-clause-one_outcome : goal.returns-clause-one_outcome
+returns-clause-one_outcome g c = one_answer _ _

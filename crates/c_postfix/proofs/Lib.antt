@@ -1,0 +1,14 @@
+pub mod Runs
+pub mod Moves
+pub mod Firsts
+pub mod Types
+pub mod Groups
+pub mod Complete
+pub mod CompleteSource
+pub mod TokenKinds
+pub mod Good
+pub mod Sound
+pub mod SoundDeclr
+pub mod SoundSource
+pub mod Less
+pub mod Exact

@@ -1,0 +1,12 @@
+use Rattle.c_postfix.specs.Seen.{seen}
+use Rattle.c_postfix.specs.Weight.{weight}
+use Rattle.c_postfix.proofs.Runs.{Reaches}
+use Rattle.c_postfix.proofs.Exact.{start, made}
+use Rattle.c_postfix.proofs.postfix.actions.Given as goal
+
+-- the machine comes from the start to here
+abbrev pub invariant-loop-at : goal.invariant-loop-at
+invariant-loop-at l = Reaches (start l.tokens) (made (seen l.next l.rest l.parser))
+
+abbrev pub decreases-loop-at : goal.decreases-loop-at
+decreases-loop-at l = weight (seen l.next l.rest l.parser)

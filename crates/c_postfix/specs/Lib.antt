@@ -1,0 +1,7 @@
+pub mod Marks
+pub mod Words
+pub mod Machine
+pub mod Seen
+pub mod Pieces
+pub mod Weight
+pub mod Builds

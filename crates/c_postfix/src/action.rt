@@ -1,0 +1,85 @@
+// What is to be done to build a tree, in postfix order.
+
+use c_lexer::{Sign, Suffix, Text};
+use c_syntax::Base;
+
+/// A step of building a tree: it takes what the steps before it made from a stack, and puts what it makes there.
+/// A number is the offset of the node's first token.
+#[derive(Drop)]
+pub enum Action {
+    Name(u32, Text),
+    Number {
+        from: u32,
+        value: u64,
+        suffix: Suffix,
+        decimal: bool,
+    },
+    Char(u32, i8),
+    Text(u32, Text),
+    Binary(u32, Sign),
+    Assign(u32, Sign),
+    Cond(u32),
+    Prefix(u32, Sign),
+    Postfix(u32, Sign),
+    SizeofExpr(u32),
+    SizeofType(u32),
+    Cast(u32),
+    Index(u32),
+    NoExprs,
+    AddExpr,
+    Call(u32),
+    Member(u32, Text),
+    Arrow(u32, Text),
+    NoExpr,
+    OneExpr,
+    /// A declarator's name, or the place where it lacks one, by the offset of the declaration.
+    Named(u32, Text),
+    Nameless(u32),
+    Pointer(u32),
+    Array(u32),
+    Params(u32),
+    NoDecls,
+    /// The type that the names share, after their annotations.
+    Specs(Base),
+    Declare,
+    DeclareValue,
+    DeclareBody,
+    /// The declaration joins the list below the type that it shares.
+    AddName,
+    EndSpecs,
+    /// The type below a type name's declaration is done with.
+    DropSpecs,
+    NoAnnots,
+    AnnotName(u32, Text),
+    AddAnnot,
+    NameAtom(Text),
+    NumberAtom(u64),
+    ReturnAtom,
+    SizeofAtom,
+    OneFactor(u32),
+    TwoFactors(u32),
+    AddItem,
+    Plain,
+    NoValues,
+    AddValue,
+    Braces(u32),
+    NoEntries,
+    AddLocal,
+    AddStmt,
+    Block(u32),
+    Expression(u32),
+    If(u32),
+    IfElse(u32),
+    While(u32),
+    Do(u32),
+    NoFirst,
+    LocalFirst,
+    ExprFirst,
+    For(u32),
+    Break(u32),
+    Continue(u32),
+    Return(u32),
+    /// A struct's definition begins, and ends.
+    Tag(u32, Text),
+    Struct,
+}

@@ -1,0 +1,80 @@
+// Whole token lists.
+
+ghost use Rattle.std.specs.Prelude.{◌≡◌, IfOk, IfErr};
+ghost use Rattle.c_postfix.specs.Machine.{works};
+ghost use Rattle.c_postfix.specs.Builds.{Found, Only, Refused};
+
+use crate::action::Action;
+use crate::frame::Next;
+use crate::parser::Parser;
+use c_lexer::Token;
+use std::alloc::{AllocError, Global};
+
+/// Why tokens have no postfix form.
+#[derive(Debug, Drop, thiserror::Error)]
+pub enum PostfixError {
+    /// No source of the grammar has these tokens. The offset is that of the first token that can't go on, or of the
+    /// source's end.
+    #[error("no source has the token at {0}")]
+    Token(u32),
+    #[error("out of memory")]
+    Memory,
+}
+
+impl From<AllocError> for PostfixError {
+    ghost use Rattle.c_postfix.specs.declared.postfix.PostfixError.TheVariants.{Memory};
+
+    ghost from_gives = { λ _ e. e ≡ Memory };
+
+    fn from(error: AllocError) -> Self {
+        let _ = error;
+        PostfixError::Memory
+    }
+}
+
+/// The actions that build the tree of the tokens, in order.
+pub fn actions(alloc: Global, tokens: &[Token]) -> Result<Vec<Action>, PostfixError>
+    // They build a source that has these tokens.
+    ensures found { IfOk result (λ v. Found tokens.now v.items) }
+    // And no other has them.
+    ensures only { IfOk result (λ v. Only tokens.now v.items) }
+    // What is refused has no tree.
+    ensures none { IfErr result (λ e. Refused tokens.now e) }
+{
+    let mut parser = Parser {
+        actions: Vec::new(alloc),
+        frames: Vec::new(alloc),
+    };
+    parser.emit(Action::NoDecls)?;
+    let mut next = Next::Top;
+    let mut rest = tokens;
+    let mut at = tokens;
+    while is_working(next) {
+        at = rest;
+        let (then, others) = parser.step(alloc, next, rest)?;
+        next = then;
+        rest = others;
+    }
+    match next {
+        Next::End => Ok(parser.into_actions()),
+        _ => Err(PostfixError::Token(place(tokens, at))),
+    }
+}
+
+fn is_working(next: Next) -> bool
+    ensures { result ≡ works next }
+{
+    match next {
+        Next::Fail | Next::End => false,
+        _ => true,
+    }
+}
+
+/// The offset of the first of the tokens that are left, or of the end.
+fn place(tokens: &[Token], rest: &[Token]) -> u32 {
+    match (rest, tokens) {
+        ([first, ..], _) => first.from,
+        ([], [.., last]) => last.to,
+        _ => 0,
+    }
+}

@@ -1,0 +1,219 @@
+-- The words and the files decide one outcome.
+use Rattle.std.proofs.Common.{◌≡◌, ◌≢◌, ◌↔◌, ◌<◌, ◌≤◌, ◌+◌, ◌++◌, ◌∷◌, [], ◌⊎◌, inl, inr, ℕ, List, Bool, true, false, IsTrue, Option, Some, None, take, drop, length, sym, ◌∙◌, ap, refl, subst, arith, rules, append_assoc, codes, decimal, min}
+use Rattle.std.proofs.lemmas.List.{take-append-drop, take-append-le, length-take}
+use Rattle.log_codec.specs.LogText.{Chunk, BeginsLog, IsLog}
+use Rattle.log_codec.specs.Kept as byte_place
+use Rattle.log_codec.specs.Kept.{KeptLog, StandInFull}
+use Rattle.log_closure.specs.Events.{LogEvent, Part, In, events_of}
+use Rattle.log_closure.specs.Closed.{Precedes, Ordered, IsClosedPart}
+use Rattle.log_closure.specs.Wrong as wrong
+use Rattle.log_closure.specs.declared.error.OrderError.{OrderError}
+use Rattle.r2_cli.specs.Words.{Form, help, version, order, words_of, IsForm, IsUsage}
+use Rattle.r2_cli.specs.Outcome.{Outcome, refusal, line_of}
+use Rattle.r2_cli.specs.declared.status.Status.TheVariants as status
+use Rattle.r2_cli.specs.Log.{IsKept, IsLogPart, IsBadLog, bad_byte, bad_event, order_words}
+use Rattle.r2_cli.specs.Order as cases
+use Rattle.r2_cli.specs.Order.{IsOrder}
+use Rattle.r2_cli.specs.OrderText.{order_text}
+use Rattle.r2_cli.specs.Run as run
+use Rattle.r2_cli.specs.Run.{IsAnswerTo, IsAnswer}
+
+-- ---- lists
+
+-- two ways to part one list: the fronts are equal, or one goes on past the item behind the other
+apart : {A : Type 0} (xs ys : List A) (x y : A) (ls rs : List A) → xs ++ x ∷ ls ≡ ys ++ y ∷ rs
+    → ((xs ≡ ys) × (x ≡ y)) ⊎ (((m : List A) × (ys ≡ xs ++ x ∷ m)) ⊎ ((m : List A) × (xs ≡ ys ++ y ∷ m)))
+apart [] [] x y ls rs e = inl (refl, cc)
+apart [] (z ∷ zs) x y ls rs e = inr (inl (zs, (let same : z ≡ x = cc in ap (λ w. w ∷ zs) same)))
+apart (w ∷ ws) [] x y ls rs e = inr (inr (ws, (let same : w ≡ y = cc in ap (λ v. v ∷ ws) same)))
+apart {A} (w ∷ ws) (z ∷ zs) x y ls rs e = longer (apart ws zs x y ls rs (let tails : ws ++ x ∷ ls ≡ zs ++ y ∷ rs = cc in tails))
+  where
+    heads : w ≡ z
+    heads = cc
+
+    longer : ((ws ≡ zs) × (x ≡ y)) ⊎ (((m : List A) × (zs ≡ ws ++ x ∷ m)) ⊎ ((m : List A) × (ws ≡ zs ++ y ∷ m)))
+        → ((w ∷ ws ≡ z ∷ zs) × (x ≡ y)) ⊎ (((m : List A) × (z ∷ zs ≡ w ∷ (ws ++ x ∷ m))) ⊎ ((m : List A) × (w ∷ ws ≡ z ∷ (zs ++ y ∷ m))))
+    longer (inl (same, eq)) = inl (ap (λ v. v ∷ ws) heads ∙ ap (λ v. z ∷ v) same, eq)
+    longer (inr (inl (m, is))) = inr (inl (m, ap (λ v. v ∷ zs) (sym heads) ∙ ap (λ v. w ∷ v) is))
+    longer (inr (inr (m, is))) = inr (inr (m, ap (λ v. v ∷ ws) heads ∙ ap (λ v. z ∷ v) is))
+
+-- ---- the bytes of a log
+
+begins_front : (front rest : List ℕ) → BeginsLog (front ++ rest) → BeginsLog front
+begins_front front rest (cs, more, is) = (cs, rest ++ more, (is.0, sym (append_assoc front rest more) ∙ is.1))
+
+begins_take : (bytes : List ℕ) (n : ℕ) → BeginsLog bytes → BeginsLog (take n bytes)
+begins_take bytes n begins = begins_front (take n bytes) (drop n bytes) (subst BeginsLog (sym (take-append-drop n bytes)) begins)
+
+not_both : (bytes : List ℕ) (n : ℕ) → byte_place.IsFirstWrong bytes n → BeginsLog bytes → ⊥
+not_both bytes n first begins = first.here (begins_take bytes (n + 1) begins)
+
+not_before : (bytes : List ℕ) (n m : ℕ) → byte_place.IsFirstWrong bytes n → byte_place.IsFirstWrong bytes m → n < m → ⊥
+not_before bytes n m first other lt =
+    let size : length (take m bytes) ≡ min m (length bytes) = length-take m bytes in
+    let fits : n + 1 ≤ length (take m bytes) = omega (arith, size, lt, other.within) in
+    let same : take (n + 1) (take m bytes) ≡ take (n + 1) bytes =
+    sym (take-append-le (n + 1) (take m bytes) (drop m bytes) fits) ∙ ap (take (n + 1)) (take-append-drop m bytes) in
+    first.here (subst BeginsLog same (begins_take (take m bytes) (n + 1) other.before))
+
+same_place : (n m : ℕ) → (n < m → ⊥) → (m < n → ⊥) → n ≡ m
+same_place n m up down = omega (arith, up, down)
+
+first_byte : (bytes : List ℕ) (n m : ℕ) → byte_place.IsFirstWrong bytes n → byte_place.IsFirstWrong bytes m → n ≡ m
+first_byte bytes n m first other = same_place n m (not_before bytes n m first other) (not_before bytes m n other first)
+
+same_whole : {P : Type 0} (v w : Bool) → (IsTrue v ↔ P) → (IsTrue w ↔ P) → v ≡ w
+same_whole true true a b = refl
+same_whole false false a b = refl
+same_whole true false a b = absurd (let never : false ≡ true = b.1 (a.0 refl) in cc)
+same_whole false true a b = absurd (let never : false ≡ true = a.1 (b.0 refl) in cc)
+
+same_records : (bytes : List ℕ) (k l : KeptLog) → BeginsLog bytes → StandInFull bytes k.records → StandInFull bytes l.records → k.records ≡ l.records
+same_records bytes k l (cs, more, is) a b = a cs more is ∙ sym (b cs more is)
+
+same_kept : (bytes : List ℕ) (k l : KeptLog) → IsKept bytes k → IsKept bytes l → k ≡ l
+same_kept bytes k l a b =
+    let recorded : k ≡ record k { records = l.records } = ap (λ rs. let kept : KeptLog = record k { records = rs } in kept) (same_records bytes k l a.begins a.in_full b.in_full) in
+    recorded ∙ ap (λ (w : Bool). let kept : KeptLog = record { records = l.records; whole = w } in kept) (same_whole k.whole l.whole a.whole b.whole)
+
+-- ---- the order of a log
+
+right_not_wrong : (whole : Bool) (all before : List LogEvent) (e : LogEvent) (error : OrderError) → wrong.IsRight whole all before e → wrong.IsWrong whole all before e error → ⊥
+right_not_wrong whole all before e error right (wrong.as_twice is) = right.0 is
+right_not_wrong whole all before e error right (wrong.as_missing not_twice is) = right.1 is
+right_not_wrong whole all before e error right (wrong.as_clock not_twice not_missing is) = right.2 is
+
+same_wrong : (whole : Bool) (all before : List LogEvent) (e : LogEvent) (f g : OrderError) → wrong.IsWrong whole all before e f → wrong.IsWrong whole all before e g → f ≡ g
+same_wrong whole all before e f g (wrong.as_twice a) (wrong.as_twice b) = refl
+same_wrong whole all before e f g (wrong.as_twice a) (wrong.as_missing b c) = absurd (b a)
+same_wrong whole all before e f g (wrong.as_twice a) (wrong.as_clock b c d) = absurd (b a)
+same_wrong whole all before e f g (wrong.as_missing a b) (wrong.as_twice c) = absurd (a c)
+same_wrong whole all before e f g (wrong.as_missing a b) (wrong.as_missing c d) = refl
+same_wrong whole all before e f g (wrong.as_missing a b) (wrong.as_clock c d x) = absurd (d b)
+same_wrong whole all before e f g (wrong.as_clock a b c) (wrong.as_twice d) = absurd (a d)
+same_wrong whole all before e f g (wrong.as_clock a b c) (wrong.as_missing d x) = absurd (b x)
+same_wrong whole all before e f g (wrong.as_clock a b c) (wrong.as_clock d x y) = refl
+
+first_event : (whole : Bool) (all : List LogEvent) (f g : OrderError) → wrong.IsFirstWrong whole all f → wrong.IsFirstWrong whole all g → f ≡ g
+first_event whole all f g (before, e, after, is, right, bad) (front, d, rest, it, good, worse) = by (apart before front e d after rest (sym is ∙ it))
+  where
+    by : ((before ≡ front) × (e ≡ d)) ⊎ (((m : List LogEvent) × (front ≡ before ++ e ∷ m)) ⊎ ((m : List LogEvent) × (before ≡ front ++ d ∷ m))) → f ≡ g
+    by (inl (same, eq)) = same_wrong whole all front d f g (subst (λ (x : LogEvent). wrong.IsWrong whole all front x f) eq (subst (λ (b : List LogEvent). wrong.IsWrong whole all b e f) same bad)) worse
+    by (inr (inl (m, parts))) = absurd (right_not_wrong whole all before e f (good before e m parts) bad)
+    by (inr (inr (m, parts))) = absurd (right_not_wrong whole all front d g (right front d m parts) worse)
+
+none_wrong : (whole : Bool) (all : List LogEvent) (error : OrderError) → wrong.AreRight whole all all → wrong.IsFirstWrong whole all error → ⊥
+none_wrong whole all error right (before, e, after, is, fine, bad) = right_not_wrong whole all before e error (right before e after is) bad
+
+not_twice_before : (e f : LogEvent) → Precedes e f → Precedes f e → ⊥
+not_twice_before e f (inl a) (inl b) = omega (arith, a, b)
+not_twice_before e f (inl a) (inr b) = let same = b.0 in omega (arith, a, same)
+not_twice_before e f (inr a) (inl b) = let same = a.0 in omega (arith, b, same)
+not_twice_before e f (inr a) (inr b) = let up = a.1 in let down = b.1 in omega (arith, up, down)
+
+same_order : (p q : List LogEvent) → Ordered p → Ordered q → ((e : LogEvent) → In e p → In e q) → ((e : LogEvent) → In e q → In e p) → p ≡ q
+same_order [] [] a b there back = refl
+same_order [] (y ∷ ys) a b there back = absurd (back y (inl refl))
+same_order (x ∷ xs) [] a b there back = absurd (there x (inl refl))
+same_order (x ∷ xs) (y ∷ ys) a b there back = ap (λ e. e ∷ xs) first ∙ ap (λ es. y ∷ es) (same_order xs ys a.1 b.1 into out)
+  where
+    meets : (x ≡ y) ⊎ In x ys → (y ≡ x) ⊎ In y xs → x ≡ y
+    meets (inl e) i = e
+    meets (inr i) (inl e) = sym e
+    meets (inr i) (inr j) = absurd (not_twice_before x y (a.0 y j) (b.0 x i))
+
+    first : x ≡ y
+    first = meets (there x (inl refl)) (back y (inl refl))
+
+    passed : (e : LogEvent) → In e xs → (e ≡ y) ⊎ In e ys → In e ys
+    passed e i (inl same) = absurd (let self : Precedes x x = subst (Precedes x) (same ∙ sym first) (a.0 e i) in not_twice_before x x self self)
+    passed e i (inr j) = j
+
+    came : (e : LogEvent) → In e ys → (e ≡ x) ⊎ In e xs → In e xs
+    came e i (inl same) = absurd (let self : Precedes y y = subst (Precedes y) (same ∙ first) (b.0 e i) in not_twice_before y y self self)
+    came e i (inr j) = j
+
+    into : (e : LogEvent) → In e xs → In e ys
+    into e i = passed e i (there e (inr i))
+
+    out : (e : LogEvent) → In e ys → In e xs
+    out e i = came e i (back e (inr i))
+
+same_part : (kept p q : List LogEvent) → IsClosedPart kept p → IsClosedPart kept q → p ≡ q
+same_part kept p q a b = same_order p q a.1 b.1 (λ e i. (b.0 e).1 ((a.0 e).0 i)) (λ e i. (a.0 e).1 ((b.0 e).0 i))
+
+-- ---- the outcome of `order`
+
+same_log : (bytes : List ℕ) (p q : Part) → IsLogPart bytes p → IsLogPart bytes q → p ≡ q
+same_log bytes p q a b =
+    let kept : a.kept ≡ b.kept = same_kept bytes a.kept b.kept a.of_bytes b.of_bytes in
+    let closed : IsClosedPart (events_of b.kept.records) p.events = subst (λ (k : KeptLog). IsClosedPart (events_of k.records) p.events) kept a.closed in
+    let events : p.events ≡ q.events = same_part (events_of b.kept.records) p.events q.events closed b.closed in
+    let wholes : p.whole ≡ q.whole = a.whole ∙ ap (λ (k : KeptLog). k.whole) kept ∙ sym b.whole in
+    let first : p ≡ record p { events = q.events } = ap (λ es. let part : Part = record p { events = es } in part) events in
+    first ∙ ap (λ (w : Bool). let part : Part = record { events = q.events; whole = w } in part) wholes
+
+bad_not_part : (bytes words : List ℕ) (p : Part) → IsBadLog bytes words → IsLogPart bytes p → ⊥
+bad_not_part bytes words p (bad_byte {n = n} first) a = not_both bytes n first a.of_bytes.begins
+bad_not_part bytes words p (bad_event {kept = kept} {error = error} of first) a =
+    let same : kept ≡ a.kept = same_kept bytes kept a.kept of a.of_bytes in
+    none_wrong a.kept.whole (events_of a.kept.records) error a.right (subst (λ (k : KeptLog). wrong.IsFirstWrong k.whole (events_of k.records) error) same first)
+
+same_bad : (bytes v w : List ℕ) → IsBadLog bytes v → IsBadLog bytes w → v ≡ w
+same_bad bytes v w (bad_byte {n = n} first) (bad_byte {n = m} other) = ap (λ (k : ℕ). codes "log byte " ++ decimal k) (first_byte bytes n m first other)
+same_bad bytes v w (bad_byte {n = n} first) (bad_event of other) = absurd (not_both bytes n first of.begins)
+same_bad bytes v w (bad_event of first) (bad_byte {n = m} other) = absurd (not_both bytes m other of.begins)
+same_bad bytes v w (bad_event {kept = kept} {error = f} of first) (bad_event {kept = other} {error = g} it second) =
+    ap order_words (first_event other.whole (events_of other.records) f g
+    (subst (λ (k : KeptLog). wrong.IsFirstWrong k.whole (events_of k.records) f) (same_kept bytes kept other of it) first) second)
+
+one_order : (bytes : List ℕ) (o p : Outcome) → IsOrder bytes o → IsOrder bytes p → o ≡ p
+one_order bytes o p (cases.too_long a) (cases.too_long b) = refl
+one_order bytes o p (cases.too_long a) (cases.wrong b is) = absurd (omega (arith, a, b))
+one_order bytes o p (cases.too_long a) (cases.whole b is w) = absurd (omega (arith, a, b))
+one_order bytes o p (cases.too_long a) (cases.short b is w) = absurd (omega (arith, a, b))
+one_order bytes o p (cases.wrong a is) (cases.too_long b) = absurd (omega (arith, a, b))
+one_order bytes o p (cases.wrong {words = v} a is) (cases.wrong {words = w} b it) = ap (refusal status.BadLog) (same_bad bytes v w is it)
+one_order bytes o p (cases.wrong {words = v} a is) (cases.whole {part = part} b it w) = absurd (bad_not_part bytes v part is it)
+one_order bytes o p (cases.wrong {words = v} a is) (cases.short {part = part} b it w) = absurd (bad_not_part bytes v part is it)
+one_order bytes o p (cases.whole a is w) (cases.too_long b) = absurd (omega (arith, a, b))
+one_order bytes o p (cases.whole {part = part} a is w) (cases.wrong {words = v} b it) = absurd (bad_not_part bytes v part it is)
+one_order bytes o p (cases.whole {part = part} a is v) (cases.whole {part = other} b it w) =
+    ap (λ (q : Part). let outcome : Outcome = record { status = status.Done; output = order_text q.events; line = [] } in outcome) (same_log bytes part other is it)
+one_order bytes o p (cases.whole {part = part} a is v) (cases.short {part = other} b it w) =
+    absurd (let both : true ≡ false = sym v ∙ ap (λ (q : Part). q.whole) (same_log bytes part other is it) ∙ w in cc)
+one_order bytes o p (cases.short a is w) (cases.too_long b) = absurd (omega (arith, a, b))
+one_order bytes o p (cases.short {part = part} a is w) (cases.wrong {words = v} b it) = absurd (bad_not_part bytes v part it is)
+one_order bytes o p (cases.short {part = part} a is v) (cases.whole {part = other} b it w) =
+    absurd (let both : false ≡ true = sym v ∙ ap (λ (q : Part). q.whole) (same_log bytes part other is it) ∙ w in cc)
+one_order bytes o p (cases.short {part = part} a is v) (cases.short {part = other} b it w) =
+    ap (λ (q : Part). let outcome : Outcome = record { status = status.Short; output = order_text q.events; line = line_of (codes "short") } in outcome) (same_log bytes part other is it)
+
+-- ---- the outcome of the words
+
+one_form : (f g : Form) → words_of f ≡ words_of g → f ≡ g
+one_form help help e = refl
+one_form help version e = absurd (let letter : ◌≡◌ {A = ℕ} 104 118 = cc in omega (arith, letter))
+one_form help (order log) e = absurd cc
+one_form version help e = absurd (let letter : ◌≡◌ {A = ℕ} 118 104 = cc in omega (arith, letter))
+one_form version version e = refl
+one_form version (order log) e = absurd cc
+one_form (order log) help e = absurd cc
+one_form (order log) version e = absurd cc
+one_form (order log) (order other) e = ap order (let same : log ≡ other = cc in same)
+
+one_answer_to : (held : List ℕ → Option (List ℕ)) (form : Form) (o p : Outcome) → IsAnswerTo held form o → IsAnswerTo held form p → o ≡ p
+one_answer_to held form o p run.helped run.helped = refl
+one_answer_to held form o p run.versioned run.versioned = refl
+one_answer_to held form o p (run.no_log a) (run.no_log b) = refl
+one_answer_to held form o p (run.no_log a) (run.ordered {bytes = bytes} b is) = absurd (let both : None ≡ Some bytes = sym a ∙ b in cc)
+one_answer_to held form o p (run.ordered {bytes = bytes} a is) (run.no_log b) = absurd (let both : None ≡ Some bytes = sym b ∙ a in cc)
+one_answer_to held form o p (run.ordered {bytes = bytes} a is) (run.ordered {bytes = others} b it) =
+    one_order others o p (subst (λ (w : List ℕ). IsOrder w o) (let both : Some bytes ≡ Some others = sym a ∙ b in cc) is) it
+
+pub one_answer : (words : List (List ℕ)) (held : List ℕ → Option (List ℕ)) (o p : Outcome) → IsAnswer words held o → IsAnswer words held p → o ≡ p
+one_answer words held o p (run.no_form a) (run.no_form b) = refl
+one_answer words held o p (run.no_form a) (run.formed {form = form} is b) = absurd (a form is)
+one_answer words held o p (run.formed {form = form} is a) (run.no_form b) = absurd (b form is)
+one_answer words held o p (run.formed {form = form} is a) (run.formed {form = other} it b) =
+    one_answer_to held other o p (subst (λ (f : Form). IsAnswerTo held f o) (one_form form other (sym is.0 ∙ it.0)) a) b

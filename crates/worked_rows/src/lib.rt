@@ -1,0 +1,7 @@
+//! Worked examples of the whole program, over files and sinks in memory.
+#![tactic(auto)]
+
+mod logs;
+#[cfg(test)]
+mod order;
+mod runs;

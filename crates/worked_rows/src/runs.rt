@@ -1,0 +1,47 @@
+//! Runs of the program.
+
+use r2_base::{MemFiles, MemSink};
+use r2_cli::{Status, run};
+use std::alloc::{AllocError, Global};
+
+/// Runs the program with these words.
+pub fn run_words(
+    alloc: Global,
+    words: &[&str],
+    files: &mut MemFiles,
+    out: &mut MemSink,
+    err: &mut MemSink,
+) -> Result<Status, AllocError> {
+    let mut line = Vec::new(alloc);
+    for word in words {
+        line.push(String::from_str(alloc, word)?)?;
+    }
+    Ok(run(alloc, &line, files, out, err))
+}
+
+/// What a run leaves: its status, and the texts on standard output and standard error.
+#[derive(Debug, Drop)]
+pub struct Left {
+    pub status: Status,
+    pub out: Vec<u8>,
+    pub err: Vec<u8>,
+}
+
+/// Runs `order a` where `a` holds these bytes, and reads give at most 10 bytes.
+pub fn order_of(alloc: Global, bytes: &[u8]) -> Result<Left, AllocError> {
+    let mut files = MemFiles::new(alloc, 10, Vec::new(alloc));
+    files.hold(alloc, "a", bytes)?;
+    let mut out = MemSink::new(alloc, Vec::new(alloc));
+    let mut err = MemSink::new(alloc, Vec::new(alloc));
+    let status = run_words(alloc, &["order", "a"], &mut files, &mut out, &mut err)?;
+    Ok(Left {
+        status,
+        out: Vec::from_slice(alloc, out.bytes())?,
+        err: Vec::from_slice(alloc, err.bytes())?,
+    })
+}
+
+/// The first bytes, at most so many.
+pub fn front(bytes: &[u8], length: usize) -> &[u8] {
+    &bytes[..length.min(bytes.len())]
+}
