@@ -1,4 +1,5 @@
 use crate::{NotLive, Pool};
+use std::alloc::{AllocError, Global};
 use std::test::Fail;
 
 #[test]
@@ -40,4 +41,45 @@ fn all_places_are_taken_and_given(rt: HostRuntime) -> Result<(), Fail> {
     }
     assert_eq!(rt; pool.take(256), Some(0));
     Ok(())
+}
+
+const BASE: u64 = 0x30000000;
+
+const PLACES: u64 = 65536;
+
+#[test]
+fn a_full_pool_is_given_back_from_the_first_block(rt: HostRuntime) -> Result<(), Fail> {
+    assert_eq!(rt; fills_and_empties(rt.alloc(), 0, 1)?, true);
+    Ok(())
+}
+
+#[test]
+fn a_full_pool_is_given_back_from_the_last_block(rt: HostRuntime) -> Result<(), Fail> {
+    assert_eq!(rt;
+        fills_and_empties(rt.alloc(), PLACES - 1, PLACES - 1)?,
+        true
+    );
+    Ok(())
+}
+
+#[test]
+fn a_full_pool_is_given_back_in_a_scattered_order(rt: HostRuntime) -> Result<(), Fail> {
+    assert_eq!(rt; fills_and_empties(rt.alloc(), 7, 40503)?, true);
+    Ok(())
+}
+
+/// Takes a block at every place of a pool, gives them all back, from the place `first` on in steps of `step`, an odd
+/// number, and takes the whole pool. Answers whether each call answered as it should.
+fn fills_and_empties(alloc: Global, first: u64, step: u64) -> Result<bool, AllocError> {
+    let mut pool = Pool::new(alloc, BASE, 16 * PLACES)?;
+    let mut right = true;
+    for place in 0..PLACES {
+        right &= pool.take(16) == Some(BASE + 16 * place);
+    }
+    right &= pool.take(1).is_none();
+    for turn in 0..PLACES {
+        let place = first.wrapping_add(step.wrapping_mul(turn)) % PLACES;
+        right &= pool.give(BASE + 16 * place) == Ok(16);
+    }
+    Ok(right && pool.take(16 * PLACES) == Some(BASE))
 }
