@@ -1,0 +1,3 @@
+mod Capped
+mod Multiples
+mod Steps

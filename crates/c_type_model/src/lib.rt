@@ -1,0 +1,14 @@
+//! The types of the C profile: which there are, and the sizes, alignments and offsets of their objects.
+#![tactic(auto)]
+
+mod extent;
+mod laws;
+mod layout;
+mod offsets;
+#[cfg(test)]
+mod tests;
+
+pub use extent::Extent;
+pub use laws::{large_sizes_stay_large, offsets_are_least_multiples};
+pub use layout::{GREATEST_OBJECT, Layout, Limit, MOST_MEMBERS, lay_out};
+pub use offsets::Offsets;
