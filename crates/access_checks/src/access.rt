@@ -1,6 +1,7 @@
 // The tests of one access, in their order.
-ghost use Rattle.std.specs.Prelude.{◌≡◌, ◌↔◌, IsOk, Err};
+ghost use Rattle.std.specs.Prelude.{◌≡◌, ◌+◌, ◌^◌, ◌<◌, ◌≤◌, ◌↔◌, IsOk, IfOk, Err};
 ghost use Rattle.places.specs.Ranges.{IsFirstIn};
+ghost use Rattle.live_bytes.specs.Areas.{extents, LiesIn};
 ghost use Rattle.access_checks.specs.declared.refusal.Refusal.{Refusal};
 ghost use Rattle.access_checks.specs.Accesses.{IsForeign, IsWithoutRight, IsPendingTo, IsConstantTo, IsAllowed, IsRefused};
 
@@ -24,6 +25,8 @@ pub struct Access {
 pub fn check_access(bytes: &LiveBytes, held: &Regions, access: Access) -> Result<(), Refusal>
     ensures allowed { IsOk result ↔ IsAllowed bytes.now held.now.regions access }
     ensures refused { (r : Refusal) → (result ≡ Err r) ↔ IsRefused bytes.now held.now.regions access r }
+    ensures ends { IfOk result (λ _. access.range.addr + access.range.len < 2 ^ 64) }
+    ensures one_area { IfOk result (λ _. 1 ≤ access.range.len → LiesIn access.range (extents bytes.now)) }
 {
     if let Some(addr) = first_foreign(bytes, held, access) {
         return Err(Refusal::OtherSpace { addr });

@@ -75,8 +75,8 @@ impl Stack {
         self.frames.last().copied()
     }
 
-    // The address behind the innermost frame.
-    fn end(&self) -> u64
+    /// The address behind the innermost frame, where the next one would lie.
+    pub fn end(&self) -> u64
         ensures end { result ≡ end_of self.now.base self.now.frames }
         ensures in_stack { (self.now.base ≤ result) × (result ≤ self.now.base + STACK_SIZE) }
         ensures few { length self.now.frames ≤ FRAMES }

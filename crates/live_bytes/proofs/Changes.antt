@@ -53,6 +53,13 @@ module _ (areas : List AreaState) (rise : RiseFrom 0 (extents areas)) (at : ℕ)
         | inr within ↦ within
       ]
 
+  -- a range without dead bytes lies in the area that has its first address
+  pub live_lies : (range : Range) → holds a range.addr ≡ true → range.addr + range.len < 2 ^ 64 → NoneIn range (IsDead areas) → LiesIn range (extents areas)
+  live_lies range held ends none =
+      let within = run_in_area range.addr range.len held (λ i few dead. none (range.addr + i) (omega arith, omega arith, omega arith) dead) in
+      let there : at < length (extents areas) = omega (arith, length-map areas extent) in
+      (at, extent a, there, get_or-map extent areas at a (extent a) lt ∙ ap extent (sym is), ((holds_parts a range.addr held).0, within))
+
   -- a range that lies in an area, and whose first address this one has, lies in this one
   pub room_here : (r : Range) → LiesIn r (extents areas) → 0 < r.len → holds a r.addr ≡ true → r.addr + r.len ≤ a.base + length a.cells
   room_here r lies some held =

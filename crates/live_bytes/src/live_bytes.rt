@@ -54,6 +54,7 @@ impl LiveBytes {
     pub fn first_dead(&self, range: Range) -> Option<u64>
         ensures first { IsFirstIn range (IsDead self.now) result }
         ensures ends { IfNone result (range.addr + range.len < 2 ^ 64) }
+        ensures one_area { IfNone result (1 ≤ range.len → LiesIn range (extents self.now)) }
     {
         if range.len == 0 {
             return None;

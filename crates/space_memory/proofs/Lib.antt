@@ -1,0 +1,6 @@
+mod Ranges
+mod Changes
+mod Kept
+mod Placing
+mod Refused
+mod Returned

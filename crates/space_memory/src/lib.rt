@@ -1,0 +1,17 @@
+//! The memory of a run: two separate sides, and what open calls hold of it.
+#![tactic(auto)]
+
+mod cell;
+mod error;
+mod frames;
+mod objects;
+mod regions;
+mod release;
+mod side_space;
+mod sides;
+mod spaces;
+
+pub use cell::Cell;
+pub use error::HoldError;
+pub use sides::Sides;
+pub use spaces::Spaces;
