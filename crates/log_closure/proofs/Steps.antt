@@ -19,10 +19,10 @@ use Rattle.log_closure.specs.FirstWrong.{both, clock_at, first_wrong, or_else, w
 use Rattle.log_closure.specs.Tables.{Answers, tie_cmp}
 use Rattle.log_closure.specs.Ties.{keys, keys_of, listed, same, ties}
 
-is_eq_cmp : (a b : ℕ) → is_eq (nat_cmp a b) ≡ eqb a b
+pub is_eq_cmp : (a b : ℕ) → is_eq (nat_cmp a b) ≡ eqb a b
 is_eq_cmp a b = grind (arith, nat_tests)
 
-is_eq_then : (a b : ℕ) (o : Ordering) → is_eq (ordering_then (nat_cmp a b) o) ≡ (eqb a b && is_eq o)
+pub is_eq_then : (a b : ℕ) (o : Ordering) → is_eq (ordering_then (nat_cmp a b) o) ≡ (eqb a b && is_eq o)
 is_eq_then a b o = grind (arith, nat_tests)
 
 pub at_same : (s t : Tie) → is_at (tie_cmp s) t ≡ same s t
