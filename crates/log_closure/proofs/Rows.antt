@@ -10,10 +10,9 @@ use Rattle.std.proofs.lemmas.List.{length-set, get_or-set_same, get_or-set_other
 use Rattle.log_closure.specs.declared.tie.Tie.{Tie}
 use Rattle.log_closure.specs.declared.tie.TieKey.{TieKey}
 use Rattle.log_closure.specs.FirstWrong.{or_else}
-use Rattle.log_closure.specs.Tables.{AreBlank, clock_in_row, key_cmp, tie_cmp, tie_key}
+use Rattle.log_closure.specs.Tables.{AreBlank, clock_in_row, key_cmp, tie_key}
 use Rattle.log_closure.specs.Ties.{same}
-use Rattle.log_closure.proofs.Index.{ltb_on, ltb_off}
-use Rattle.log_closure.proofs.Steps.{is_eq_cmp, is_eq_then, same_is, and_first, and_second}
+use Rattle.log_closure.proofs.Steps.{and_first, and_second, is_eq_cmp, is_eq_then, ltb_off, ltb_on, same_is}
 
 abbrev pub Row : Type 0
 Row = Vec (Option ℕ)
