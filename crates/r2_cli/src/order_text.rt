@@ -76,12 +76,11 @@ pub fn put_event(text: &mut Vec<u8>, name: EventName, entry: &Record) -> Result<
     let clock = entry.clock;
     let word = kind_word(&entry.event);
     let steps = entry.steps;
-    let keys = entry.keys.as_slice();
     put_number(text, u64::from(clock))?;
     text.push(b' ')?;
     put_name(text, name)?;
     put_kind(text, word, steps)?;
-    put_keys(text, keys)?;
+    put_keys(text, entry.keys.as_slice())?;
     text.push(b'\n')?;
     Ok(())
 }
