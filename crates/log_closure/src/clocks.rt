@@ -1,6 +1,6 @@
-//! The table of the check: which clock belongs to a key with a ticket.
+//! The clocks that the check compares with: those of the events before, by their keys.
 
-ghost use Rattle.std.specs.Prelude.{cond, ◌≡◌, ◌<◌, ◌^◌, ◌++◌, ◌∷◌, [], ℕ, List, Option, Some, None, map, is_some, true, false, length, OnOk, IfOk};
+ghost use Rattle.std.specs.Prelude.{cond, ◌≡◌, ◌<◌, [], List, Some, None, map, is_some, OnOk, IfOk};
 ghost use Rattle.log_closure.specs.declared.tie.Tie.{Tie};
 ghost use Rattle.log_closure.specs.Events.{events_of};
 ghost use Rattle.log_closure.specs.Ties.{listed, key_tie, needs};

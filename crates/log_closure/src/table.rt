@@ -1,6 +1,6 @@
 //! The table of the check: which clock belongs to a key with a ticket.
 
-ghost use Rattle.std.specs.Prelude.{cond, ◌≡◌, ◌<◌, [], List, Some, None, is_some, vec_len, slice_set, slice_index_or, OnOk, IfOk};
+ghost use Rattle.std.specs.Prelude.{cond, ◌≡◌, ◌<◌, Some, None, is_some, vec_len, slice_set, slice_index_or, OnOk, IfOk};
 ghost use Rattle.std.specs.BTreeMap.{get};
 ghost use Rattle.log_closure.specs.declared.tie.Tie.{Tie};
 ghost use Rattle.log_closure.specs.Ties.{same};
