@@ -17,6 +17,6 @@ measure() {
 near_limit=67000000
 measure valid 3300000 valid_120000
 measure valid "$near_limit" valid_large
-for kind in chunks shortest one_key sixteen_keys wrong_tickets; do
+for kind in chunks shortest one_key sixteen_keys distinct_keys wrong_tickets; do
     measure "$kind" "$near_limit" "$kind"
 done

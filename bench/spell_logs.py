@@ -7,6 +7,7 @@ Kinds:
   shortest        the shortest records that there are
   one_key         one key in every record
   sixteen_keys    sixteen keys in every record
+  distinct_keys   sixteen keys in every record, each for the first time
   wrong_tickets   every ticket is wrong, and the log is cut short
 """
 import random
@@ -87,6 +88,11 @@ def small_records(log, size, keys):
         log.add(log.total % THREADS, RET, keys, b"\x01", 7)
 
 
+def distinct_keys(log, size):
+    while log.size < size:
+        log.add(log.total % THREADS, RET, [(USER, 16 * log.total + at) for at in range(16)], b"\x01", 7)
+
+
 def wrong_tickets(log, size):
     while log.size < size:
         mark = struct.pack(">BQI", USER, 0, 2 * log.total + 1)
@@ -105,6 +111,8 @@ def main():
         small_records(log, size, [(MUTEX, 0)])
     elif kind == "sixteen_keys":
         small_records(log, size, [(USER, value) for value in range(16)])
+    elif kind == "distinct_keys":
+        distinct_keys(log, size)
     elif kind == "wrong_tickets":
         wrong_tickets(log, size)
     else:

@@ -1,14 +1,10 @@
 -- Where the events of one thread stand.
-use Rattle.std.proofs.Common.{suc, zero, ◌≡◌, ◌++◌, ◌∷◌, [], ℕ, ◌+◌, List, map, Bool, true, false, refl, ap, ◌∙◌, sym, cond, arith, ◌<◌, ◌≤◌, ◌≢◌, length, get_or, take, subst, inl, ⊎_elim}
-use Rattle.std.specs.Prelude.{eqb, ltb}
+use Rattle.std.proofs.Common.{suc, zero, ◌≡◌, ◌++◌, ◌∷◌, [], ℕ, ◌+◌, List, map, Bool, true, false, refl, ap, ◌∙◌, sym, cond, arith, ◌<◌, ◌≤◌, length, get_or, subst, inl}
+use Rattle.std.specs.Prelude.{eqb}
 use Rattle.std.specs.List.{All, filter}
 use Rattle.std.specs.Global.{Vec}
-use Rattle.std.proofs.lemmas.Bool.{eqb-true, cases_eq, eq-eqb}
-use Rattle.std.proofs.lemmas.Bool.Decides.{nat_tests}
-use Rattle.std.proofs.lemmas.List.{take_more, get_or-set_same, get_or-set_other}
-use Rattle.std.proofs.lemmas.List.Elements.{filter-append}
+use Rattle.std.proofs.lemmas.Bool.{eqb-true}
 use Rattle.std.proofs.lemmas.List.Sums.{sum_by-cons, count_by-le-length, length-filter}
-use Rattle.std.proofs.Math.ListN.{set}
 use Rattle.logical_clock.specs.declared.event.Record.{Record}
 use Rattle.log_closure.specs.declared.place.Place.{Place}
 use Rattle.log_closure.specs.Chains.{CountUp, thread_count}
@@ -96,48 +92,8 @@ found_at rs order t k within counts lt =
 
 -- filling the lists
 
-pub places_next : (t : ℕ) (order : List Place) (i : ℕ) (d : Place) → i < length order → thread_places t (take (i + 1) order) ≡ cond (eqb (get_or order i d).thread t) (thread_places t (take i order) ++ (get_or order i d).at ∷ []) (thread_places t (take i order))
-places_next t order i d lt =
-    let p = get_or order i d in
-    ap (thread_places t) (take_more order i d lt)
-    ∙ ap (map (λ (q : Place). q.at)) (filter-append (of_place t) (take i order) (p ∷ []))
-    ∙ go p (filter (of_place t) (take i order)) (eqb p.thread t)
-  where
-    snoc : (ps : List Place) (p : Place) → map (λ (q : Place). q.at) (ps ++ p ∷ []) ≡ map (λ (q : Place). q.at) ps ++ p.at ∷ []
-    snoc [] p = refl
-    snoc (q ∷ ps) p = ap (λ (l : List ℕ). q.at ∷ l) (snoc ps p)
-
-    none : (ps : List Place) → map (λ (q : Place). q.at) (ps ++ []) ≡ map (λ (q : Place). q.at) ps
-    none [] = refl
-    none (q ∷ ps) = ap (λ (l : List ℕ). q.at ∷ l) (none ps)
-
-    go : (p : Place) (ps : List Place) (b : Bool) → map (λ (q : Place). q.at) (ps ++ cond b (p ∷ []) []) ≡ cond b (map (λ (q : Place). q.at) ps ++ p.at ∷ []) (map (λ (q : Place). q.at) ps)
-    go p ps true = snoc ps p
-    go p ps false = none ps
-
-pub lists_more : (lists : List (Vec ℕ)) (order : List Place) (i th : ℕ) (v : Vec ℕ) (p0 : Place) (d0 : Vec ℕ) → i < length order → th ≡ (get_or order i p0).thread → th < length lists → v.items ≡ (get_or lists th d0).items ++ (get_or order i p0).at ∷ []
-    → ((t : ℕ) → t < 256 → (d : Vec ℕ) → (get_or lists t d).items ≡ thread_places t (take i order)) → (t : ℕ) → t < 256 → (d : Vec ℕ) → (get_or (set lists th v) t d).items ≡ thread_places t (take (i + 1) order)
-lists_more lists order i th v p0 d0 lt eq within is h t b d =
-    let p = get_or order i p0 in
-    ⊎_elim
-    (λ e. let on : eqb p.thread t ≡ true = eq-eqb p.thread t (sym eq ∙ e) in
-    ap (λ (u : ℕ). (get_or (set lists th v) u d).items) (sym e) ∙ ap (λ (x : Vec ℕ). x.items) (get_or-set_same lists th v d within) ∙ is
-    ∙ ap (λ (l : List ℕ). l ++ p.at ∷ []) (ap (λ (u : ℕ). (get_or lists u d0).items) e ∙ h t b d0)
-    ∙ ap (λ (x : Bool). cond x (thread_places t (take i order) ++ p.at ∷ []) (thread_places t (take i order))) (sym on) ∙ sym (places_next t order i p0 lt))
-    (λ ne. let ne' : t ≢ th = λ q. ne (sym q) in
-    let off : eqb p.thread t ≡ false = grind (arith, nat_tests) in
-    ap (λ (x : Vec ℕ). x.items) (get_or-set_other lists th t v d ne') ∙ h t b d
-    ∙ ap (λ (x : Bool). cond x (thread_places t (take i order) ++ p.at ∷ []) (thread_places t (take i order))) (sym off) ∙ sym (places_next t order i p0 lt))
-    (cases_eq th t)
-
 pub filled_more : (xs : List (Vec ℕ)) (v : Vec ℕ) → v.items ≡ [] → ((t : ℕ) (d : Vec ℕ) → t < length xs → (get_or xs t d).items ≡ []) → (t : ℕ) (d : Vec ℕ) → t < length xs + 1 → (get_or (xs ++ v ∷ []) t d).items ≡ []
 filled_more [] v e h zero d lt = e
 filled_more [] v e h (suc t) d lt = absurd (omega arith)
 filled_more (x ∷ xs) v e h zero d lt = h 0 d (omega arith)
 filled_more (x ∷ xs) v e h (suc t) d lt = filled_more xs v e (λ u b k. h (suc u) b (omega arith)) t d (omega arith)
-
-pub ltb_on : (a b : ℕ) → a < b → true ≡ ltb a b
-ltb_on a b h = grind (arith, nat_tests)
-
-pub ltb_off : (a b : ℕ) → b ≤ a → false ≡ ltb a b
-ltb_off a b h = grind (arith, nat_tests)

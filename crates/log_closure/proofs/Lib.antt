@@ -14,6 +14,7 @@ mod Exact
 mod InFileOrder
 mod Counting
 mod TableSteps
+mod Rows
 mod PlaceSteps
 mod CheckSteps
 mod GrowSteps

@@ -1,6 +1,6 @@
 -- Steps of the passes, over plain values.
 use Rattle.std.proofs.Common.{◌≡◌, ◌++◌, ◌∷◌, [], ℕ, ◌+◌, List, Option, Some, None, Bool, true, false, refl, ap, ◌∙◌, sym, cond, arith, ◌<◌, length, take, drop, get_or}
-use Rattle.std.specs.Prelude.{◌&&◌, ◌||◌, eqb}
+use Rattle.std.specs.Prelude.{◌≤◌, ◌&&◌, ◌||◌, eqb, ltb}
 use Rattle.std.specs.declared.cmp.Ordering.{Ordering}
 use Rattle.std.specs.Ordering.{nat_cmp, ordering_then, is_eq}
 use Rattle.std.specs.BTreeMap.{is_at}
@@ -19,14 +19,20 @@ use Rattle.log_closure.specs.FirstWrong.{both, clock_at, first_wrong, or_else, w
 use Rattle.log_closure.specs.Tables.{Answers, tie_cmp}
 use Rattle.log_closure.specs.Ties.{keys, keys_of, listed, same, ties}
 
-is_eq_cmp : (a b : ℕ) → is_eq (nat_cmp a b) ≡ eqb a b
+pub is_eq_cmp : (a b : ℕ) → is_eq (nat_cmp a b) ≡ eqb a b
 is_eq_cmp a b = grind (arith, nat_tests)
 
-is_eq_then : (a b : ℕ) (o : Ordering) → is_eq (ordering_then (nat_cmp a b) o) ≡ (eqb a b && is_eq o)
+pub is_eq_then : (a b : ℕ) (o : Ordering) → is_eq (ordering_then (nat_cmp a b) o) ≡ (eqb a b && is_eq o)
 is_eq_then a b o = grind (arith, nat_tests)
 
 pub at_same : (s t : Tie) → is_at (tie_cmp s) t ≡ same s t
 at_same s t = simp (is_eq_then, is_eq_cmp)
+
+pub ltb_on : (a b : ℕ) → a < b → true ≡ ltb a b
+ltb_on a b h = grind (arith, nat_tests)
+
+pub ltb_off : (a b : ℕ) → b ≤ a → false ≡ ltb a b
+ltb_off a b h = grind (arith, nat_tests)
 
 pub both_zero : (r : Option ℕ) → both (Some 0) r ≡ r
 both_zero None = refl

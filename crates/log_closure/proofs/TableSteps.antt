@@ -1,7 +1,6 @@
 -- Steps of the passes that fill and read the table of clocks.
 use Rattle.std.proofs.Common.{suc, ◌≡◌, ◌++◌, ◌∷◌, [], ℕ, ◌+◌, List, map, Option, Some, None, Bool, true, false, refl, ap, ◌∙◌, sym, cond, arith, ◌<◌, length, take, drop, get_or, append_assoc, append-nil}
 use Rattle.std.specs.Prelude.{◌||◌, eqb, max, is_some}
-use Rattle.std.specs.BTreeMap.{BTreeMap, get}
 use Rattle.std.specs.Option.{option_or}
 use Rattle.std.proofs.lemmas.List.{take_more, drop_more, length-take}
 use Rattle.std.proofs.lemmas.List.Folds.{list_any-append}
@@ -12,7 +11,8 @@ use Rattle.logical_clock.specs.declared.event.Record.{Record}
 use Rattle.log_closure.specs.declared.tie.Tie.{Tie}
 use Rattle.log_closure.specs.Events.{LogEvent, event_of, events_behind, events_of}
 use Rattle.log_closure.specs.FirstWrong.{both, clock_at, first_twice, greatest, or_else, repeats}
-use Rattle.log_closure.specs.Tables.{Owns, tie_cmp}
+use Rattle.log_closure.specs.declared.table.Table.{Table}
+use Rattle.log_closure.specs.Tables.{Owns, clock_in}
 use Rattle.log_closure.specs.Ties.{earlier, key_tie, keys, keys_of, listed, needs, same, thread_tie, ties}
 use Rattle.log_closure.proofs.Numbers.{events_behind-append, seen_records}
 use Rattle.log_closure.proofs.Steps.{clock_at-append, listed_more, or_false, same_is}
@@ -54,20 +54,6 @@ own_more new mid old ts k q clock h up = up ∙ by (listed ts q) (same k q) old 
     by false true None mid h = rw h refl
     by false false (Some o) mid h = rw h refl
     by false false None mid h = rw h refl
-
--- a key that is there already changes nothing
-pub own_kept : (mid : Option ℕ) (test : Bool) (clock : ℕ) → (test ≡ true → true ≡ is_some mid) → mid ≡ cond test (or_else mid (Some clock)) mid
-own_kept None true clock h = absurd (let e = h refl in cc)
-own_kept (Some c) true clock h = refl
-own_kept mid false clock h = refl
-
-pub own_new : (mid new : Option ℕ) (test : Bool) (clock : ℕ) → (test ≡ true → false ≡ is_some mid) → new ≡ cond test (Some clock) mid → new ≡ cond test (or_else mid (Some clock)) mid
-own_new None new true clock h e = e
-own_new (Some c) new true clock h e = absurd (let f = h refl in cc)
-own_new mid new false clock h e = e
-
-pub at_tie : (m : BTreeMap Tie ℕ) (k q : Tie) (b : Bool) → b ≡ is_some (get tie_cmp m k) → (r : Bool) → b ≡ r → same k q ≡ true → r ≡ is_some (get tie_cmp m q)
-at_tie m k q b is r e at = sym e ∙ is ∙ ap (λ (t : Tie). is_some (get tie_cmp m t)) (same_is k q at)
 
 -- repeats, one key further
 pub repeats_more : (before ks : List Tie) (k : Tie) → repeats before (ks ++ k ∷ []) ≡ (repeats before ks || listed (before ++ ks) k)
@@ -111,8 +97,8 @@ listed_keys e t pos = go (same (thread_tie e) t) refl
     go false is = refl
     go true is = let z = ap (λ (x : Tie). x.class) (same_is (thread_tie e) t is) in absurd (omega (arith, z, pos))
 
-pub owns_more : (old new : BTreeMap Tie ℕ) (rs : List Record) (i : ℕ) (r : Record) (ms : List KeyMark) → i < length rs → r ≡ get_or rs i r → ms ≡ r.keys → Owns old (events_of (take i rs))
-    → ((t : Tie) → get tie_cmp new t ≡ or_else (get tie_cmp old t) (cond (listed (map key_tie ms) t) (Some r.clock) None))
+pub owns_more : (old new : Table) (rs : List Record) (i : ℕ) (r : Record) (ms : List KeyMark) → i < length rs → r ≡ get_or rs i r → ms ≡ r.keys → Owns old (events_of (take i rs))
+    → ((t : Tie) → clock_in new t ≡ or_else (clock_in old t) (cond (listed (map key_tie ms) t) (Some r.clock) None))
     → Owns new (events_of (take (i + 1) rs))
 owns_more old new rs i r ms lt is keys_is h up t pos =
     let e = event_of (take i rs) r in
@@ -128,7 +114,7 @@ listed_all (e ∷ es) t pos = go (listed (ties e) t) (listed_keys e t pos) (list
     go true is h = ap (λ (b : Bool). b || listed (keys_of es) t) is
     go false is h = h ∙ ap (λ (b : Bool). b || listed (keys_of es) t) is
 
-pub owns_listed : (m : BTreeMap Tie ℕ) (es : List LogEvent) → Owns m es → (t : Tie) → 0 < t.class → is_some (get tie_cmp m t) ≡ listed (keys_of es) t
+pub owns_listed : (m : Table) (es : List LogEvent) → Owns m es → (t : Tie) → 0 < t.class → is_some (clock_in m t) ≡ listed (keys_of es) t
 owns_listed m es h t pos = ap is_some (h t pos) ∙ listed_all es t pos
 
 twice_more : (n : ℕ) (before es : List LogEvent) (e : LogEvent) → first_twice n before (es ++ e ∷ []) ≡ or_else (first_twice n before es) (cond (repeats (keys_of (before ++ es)) (keys e)) (Some (n + length es)) None)

@@ -1,10 +1,13 @@
 -- What the tables of the check hold.
-use Rattle.std.specs.Prelude.{◌≡◌, ℕ, ◌<◌, ltb, length, slice_index_or, List, Option, Some, None, Result, Ok, Err}
+use Rattle.std.specs.Prelude.{◌≡◌, ℕ, ◌<◌, cond, ltb, length, slice_index_or, List, Option, Some, None, IfSome, Result, Ok, Err}
 use Rattle.std.specs.BTreeMap.{BTreeMap, get}
+use Rattle.std.specs.Global.{Vec}
 use Rattle.std.specs.BTreeSet.{contains}
 use Rattle.std.specs.declared.cmp.Ordering.{Ordering}
 use Rattle.std.specs.Ordering.{nat_cmp, ordering_then}
 use Rattle.log_closure.specs.declared.tie.Tie.{Tie}
+use Rattle.log_closure.specs.declared.tie.TieKey.{TieKey}
+use Rattle.log_closure.specs.declared.table.Table.{Table}
 use Rattle.log_closure.specs.declared.grow.Grown.{Grown}
 use Rattle.log_closure.specs.declared.error.OrderError.{OrderError}
 use Rattle.log_closure.specs.declared.error.OrderError.TheVariants.{Memory}
@@ -15,9 +18,28 @@ use Rattle.log_closure.specs.FirstWrong.{clock_at}
 abbrev pub tie_cmp : Tie → Tie → Ordering
 tie_cmp a b = ordering_then (nat_cmp a.class b.class) (ordering_then (nat_cmp a.value b.value) (nat_cmp a.number b.number))
 
--- the map has the clock of the first event with each key and ticket
-abbrev pub Owns : BTreeMap Tie ℕ → List LogEvent → Type 0
-Owns m es = (t : Tie) → 0 < t.class → get tie_cmp m t ≡ clock_at es t
+abbrev pub key_cmp : TieKey → TieKey → Ordering
+key_cmp a b = ordering_then (nat_cmp a.class b.class) (nat_cmp a.value b.value)
+
+abbrev pub tie_key : Tie → TieKey
+tie_key t = record { class = t.class; value = t.value }
+
+-- the clock in a row at a ticket, or the one apart where the row has no place for it
+abbrev pub clock_in_row : Option (Vec (Option ℕ)) → ℕ → Option ℕ → Option ℕ
+clock_in_row None n apart = apart
+clock_in_row (Some row) n apart = cond (ltb n (length row.items)) (slice_index_or row.items n None) apart
+
+-- the rows have no clock
+abbrev pub AreBlank : BTreeMap TieKey (Vec (Option ℕ)) → Type 0
+AreBlank rows = (k : TieKey) → IfSome (get key_cmp rows k) (λ row. (n : ℕ) → slice_index_or row.items n None ≡ None)
+
+-- the clock in the table at a key and ticket
+abbrev pub clock_in : Table → Tie → Option ℕ
+clock_in table t = clock_in_row (get key_cmp table.rows (tie_key t)) t.number (get tie_cmp table.rest t)
+
+-- the table has the clock of the first event with each key and ticket
+abbrev pub Owns : Table → List LogEvent → Type 0
+Owns table es = (t : Tie) → 0 < t.class → clock_in table t ≡ clock_at es t
 
 -- the keys and the lengths of threads are those of the part
 pub record IsGrown (g : Grown) (part : List LogEvent) : Type 0 where

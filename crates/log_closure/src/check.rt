@@ -2,12 +2,11 @@
 
 ghost use Rattle.std.specs.Prelude.{◌≡◌, ◌≢◌, [], Some, map, OnOk, IfOk};
 ghost use Rattle.std.specs.Bool.{OnTrue, OnFalse};
-ghost use Rattle.std.specs.BTreeMap.{get};
 ghost use Rattle.log_closure.specs.Events.{events_of};
 ghost use Rattle.log_closure.specs.Ties.{key_tie, needs};
 ghost use Rattle.log_closure.specs.Places.{places_from};
 ghost use Rattle.log_closure.specs.FirstWrong.{both, greatest, clock_wrong, first_wrong};
-ghost use Rattle.log_closure.specs.Tables.{Answers, tie_cmp};
+ghost use Rattle.log_closure.specs.Tables.{Answers, clock_in};
 
 use crate::clocks::{Clocks, clocks_of, greatest};
 use crate::error::OrderError;
@@ -34,9 +33,9 @@ fn check_clock(
     marks: &[KeyMark],
     last: u32,
 ) -> Result<(), OrderError>
-    ensures { Answers result (clock_wrong whole (record { thread = place.now.thread; index = place.now.index }) place.now.clock (both (Some last) (greatest (get tie_cmp clocks.now.by_tie) (needs (map key_tie marks.now))))) }
+    ensures { Answers result (clock_wrong whole (record { thread = place.now.thread; index = place.now.index }) place.now.clock (both (Some last) (greatest (clock_in clocks.now.table) (needs (map key_tie marks.now))))) }
 {
-    match greatest(&clocks.by_tie, marks, last) {
+    match greatest(&clocks.table, marks, last) {
         None if whole => Err(OrderError::Missing(place.name())),
         Some(clock) if u64::from(place.clock) != u64::from(clock) + 1 => {
             Err(OrderError::Clock(place.name()))

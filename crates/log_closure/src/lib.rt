@@ -9,6 +9,7 @@ mod error;
 mod grow;
 mod part;
 mod place;
+mod table;
 mod tie;
 
 pub use closing::closed;

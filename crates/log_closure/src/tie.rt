@@ -2,6 +2,7 @@
 
 ghost use Rattle.std.specs.Prelude.{◌≡◌, ◌<◌};
 ghost use Rattle.log_closure.specs.Ties.{key_tie, earlier};
+ghost use Rattle.log_closure.specs.Tables.{tie_key};
 
 use logical_clock::KeyMark;
 
@@ -11,6 +12,33 @@ pub struct Tie {
     pub class: u8,
     pub value: u64,
     pub number: u32,
+}
+
+/// A key, in 16 bytes: the number of its class, and its value.
+#[derive(Clone, Copy, Debug, PartialEq, Eq, PartialOrd, Ord)]
+pub struct TieKey {
+    pub class: u8,
+    pub value: u64,
+}
+
+impl Tie {
+    pub fn key(&self) -> TieKey
+        ensures { result ≡ tie_key self.now }
+    {
+        TieKey {
+            class: self.class,
+            value: self.value,
+        }
+    }
+}
+
+pub fn key_of(mark: &KeyMark) -> TieKey
+    ensures { result ≡ tie_key (key_tie mark.now) }
+{
+    TieKey {
+        class: mark.key.class.number(),
+        value: mark.key.value,
+    }
 }
 
 pub fn tie_of(mark: &KeyMark) -> Tie

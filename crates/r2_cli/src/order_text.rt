@@ -1,8 +1,8 @@
 //! The text that `order` prints.
 
-ghost use Rattle.std.specs.Prelude.{◌≡◌, ◌++◌, decimal, OnOk};
+ghost use Rattle.std.specs.Prelude.{◌≡◌, ◌++◌, codes, decimal, OnOk};
 ghost use Rattle.std.specs.List.{flat_map};
-ghost use Rattle.r2_cli.specs.OrderText.{kind_word, name_text, key_text, kind_text, event_line, end_line};
+ghost use Rattle.r2_cli.specs.OrderText.{kind_word, name_text, key_text, event_line, end_line};
 
 use logical_clock::{Event, EventName, KeyMark, Record};
 use std::alloc::AllocError;
@@ -57,14 +57,14 @@ fn put_keys(text: &mut Vec<u8>, keys: &[KeyMark]) -> Result<(), AllocError>
     Ok(())
 }
 
-/// Adds a space, the kind, a space and the steps.
-fn put_kind(text: &mut Vec<u8>, entry: &Record) -> Result<(), AllocError>
-    ensures { OnOk result (text.new.items ≡ text.old.items ++ kind_text entry.now) }
+/// Adds a space, the word of the kind, a space and the steps.
+fn put_kind(text: &mut Vec<u8>, word: &str, steps: u32) -> Result<(), AllocError>
+    ensures { OnOk result (text.new.items ≡ text.old.items ++ codes " " ++ word.now ++ codes " " ++ decimal steps) }
 {
     text.push(b' ')?;
-    text.extend_from_slice(kind_word(&entry.event).as_bytes())?;
+    text.extend_from_slice(word.as_bytes())?;
     text.push(b' ')?;
-    put_number(text, u64::from(entry.steps))
+    put_number(text, u64::from(steps))
 }
 
 /// Adds the line of the event with this name and record.
@@ -72,10 +72,14 @@ pub fn put_event(text: &mut Vec<u8>, name: EventName, entry: &Record) -> Result<
     ensures { OnOk result (text.new.items ≡ text.old.items ++ event_line
         (record { name = name; entry = entry.now })) }
 {
-    put_number(text, u64::from(entry.clock))?;
+    // A record lies far from the one before. What its line says is read first, so that the reads wait for memory together.
+    let clock = entry.clock;
+    let word = kind_word(&entry.event);
+    let steps = entry.steps;
+    put_number(text, u64::from(clock))?;
     text.push(b' ')?;
     put_name(text, name)?;
-    put_kind(text, entry)?;
+    put_kind(text, word, steps)?;
     put_keys(text, entry.keys.as_slice())?;
     text.push(b'\n')?;
     Ok(())

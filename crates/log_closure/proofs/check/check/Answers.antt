@@ -50,7 +50,7 @@ loop-at-preserved c =
     let apart = not_twice_here rs i r lt is (λ m k. c.loop-at.invariant.later m (tw ∙ k)) (λ k. other (tw ∙ k)) in
     let own : greatest (clock_at all) (needs (thread_tie e ∷ [])) ≡ Some (get_or c.loop-at.last c.from-thread.result 0) =
     subst (λ (u : ℕ). greatest (clock_at all) (needs (tie_of_thread u (of_thread u (take i rs)) ∷ [])) ≡ Some (get_or c.loop-at.last c.from-thread.result 0)) th (c.loop-at.invariant.last c.from-thread.result fits) in
-    let here = wrong_here rs c.args.whole c.in_ok-clocks.clocks.by_tie i r p c.as_slice.result.now (get_or c.loop-at.last c.from-thread.result 0) place c.as_slice.ensures c.in_ok-clocks.ensures.owns own apart in
+    let here = wrong_here rs c.args.whole c.in_ok-clocks.clocks.table i r p c.as_slice.result.now (get_or c.loop-at.last c.from-thread.result 0) place c.as_slice.ensures c.in_ok-clocks.ensures.owns own apart in
     let right = subst (Answers c.check_clock.result) here c.check_clock.ensures in
     record {
       wide = length-set c.loop-at.last c.from-thread.result r.clock ∙ c.loop-at.invariant.wide;
@@ -94,7 +94,7 @@ returns-in_err-check_clock c =
     let apart = not_twice_here rs i r lt is (λ m k. c.loop-at.invariant.later m (tw ∙ k)) (λ k. other (tw ∙ k)) in
     let own : greatest (clock_at all) (needs (thread_tie e ∷ [])) ≡ Some (get_or c.loop-at.last c.from-thread.result 0) =
     subst (λ (u : ℕ). greatest (clock_at all) (needs (tie_of_thread u (of_thread u (take i rs)) ∷ [])) ≡ Some (get_or c.loop-at.last c.from-thread.result 0)) th (c.loop-at.invariant.last c.from-thread.result fits) in
-    let here = wrong_here rs c.args.whole c.in_ok-clocks.clocks.by_tie i r p c.as_slice.result.now (get_or c.loop-at.last c.from-thread.result 0) place c.as_slice.ensures c.in_ok-clocks.ensures.owns own apart in
+    let here = wrong_here rs c.args.whole c.in_ok-clocks.clocks.table i r p c.as_slice.result.now (get_or c.loop-at.last c.from-thread.result 0) place c.as_slice.ensures c.in_ok-clocks.ensures.owns own apart in
     let wrong_is = subst (Answers {X = Unit {0}} (Err x)) here c.in_err-check_clock.ensures in
     let q = err_from_is_err_and c.from_residual-in_err-check_clock.result c.from_residual-in_err-check_clock.ensures.1 in
     rw (q.1, q.2) (first_found c.args.whole all i e (Err x) x (first_wrong c.args.whole all [] all) (omega (arith, length-events [] rs, lt)) (event_here rs i r lt is) refl wrong_is c.loop-at.invariant.same)

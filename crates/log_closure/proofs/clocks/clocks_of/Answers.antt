@@ -12,14 +12,14 @@ loop-at-preserved c =
     let i = c.loop-at.at in
     let r = c.index-records-at.result in
     let ms = c.as_slice.result.now in
-    let again : c.in_ok-repeats.repeats ≡ repeats (keys_of (events_of (take i rs))) (map key_tie ms) = c.in_ok-repeats.ensures.repeats (keys_of (events_of (take i rs))) (owns_listed c.loop-at.by_tie (events_of (take i rs)) c.loop-at.invariant.owns) in
+    let again : c.in_ok-repeats.repeats ≡ repeats (keys_of (events_of (take i rs))) (map key_tie ms) = c.in_ok-repeats.ensures.repeats (keys_of (events_of (take i rs))) (owns_listed c.loop-at.table (events_of (take i rs)) c.loop-at.invariant.owns) in
     let other : c.if-repeats.or ≡ cond c.in_ok-repeats.repeats (Some i) None =
     elim c.if-repeats.branch [
       | then-repeats w ↦ w.or-is ∙ ap (λ (b : Bool). cond b (Some i) None) (sym w.if-repeats.true)
       | else-repeats w ↦ w.or-is ∙ ap (λ (b : Bool). cond b (Some i) None) (sym w.if-repeats.false)
     ] in
     record {
-      owns = owns_more c.loop-at.by_tie c.add.new.by_tie rs i r ms c.loop-at-test.true c.index-records-at.is c.as_slice.ensures c.loop-at.invariant.owns c.in_ok-repeats.ensures.clocks;
+      owns = owns_more c.loop-at.table c.add.new.table rs i r ms c.loop-at-test.true c.index-records-at.is c.as_slice.ensures c.loop-at.invariant.owns c.in_ok-repeats.ensures.clocks;
       twice = twice_step rs i r ms c.loop-at.twice c.or-twice.result c.in_ok-repeats.repeats c.loop-at-test.true c.index-records-at.is c.as_slice.ensures c.loop-at.invariant.twice again
           (c.or-twice.ensures ∙ or_is c.loop-at.twice c.if-repeats.or ∙ ap (or_else c.loop-at.twice) other);
     }

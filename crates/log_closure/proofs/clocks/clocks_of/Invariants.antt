@@ -6,6 +6,6 @@ use Rattle.log_closure.proofs.clocks.clocks_of.Given as goal
 
 abbrev pub invariant-loop-at : goal.invariant-loop-at
 invariant-loop-at l = record {
-  owns : Owns l.by_tie (events_of (take l.at l.records));
+  owns : Owns l.table (events_of (take l.at l.records));
   twice : l.twice ≡ first_twice 0 [] (events_of (take l.at l.records));
 }

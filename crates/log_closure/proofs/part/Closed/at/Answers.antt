@@ -5,7 +5,8 @@ use Rattle.log_closure.specs.Events.{Part, In}
 use Rattle.log_closure.specs.Chains.{thread_count}
 use Rattle.log_closure.specs.Places.{thread_places, no_record}
 use Rattle.log_closure.proofs.GrowSteps.{at_any}
-use Rattle.log_closure.proofs.Index.{places_count, found_at, ltb_on, ltb_off}
+use Rattle.log_closure.proofs.Index.{places_count, found_at}
+use Rattle.log_closure.proofs.Steps.{ltb_off, ltb_on}
 use Rattle.log_closure.proofs.part.Closed.at.Goals as goal
 
 pub returns-then-index-places-clause-there : goal.returns-then-index-places-clause-there
