@@ -1,0 +1,30 @@
+-- The events of a file, one after the other.
+use Rattle.std.proofs.Common.{◌≡◌, ℕ, ◌+◌, ◌<◌, ◌≤◌, List, [], ◌∷◌, ◌++◌, length, get_or, take, drop, inl, inr, ⊎_elim, refl, sym, ap, ◌∙◌, subst, arith, append_assoc, append-nil}
+use Rattle.std.specs.Prelude.{◌⊎◌}
+use Rattle.std.proofs.lemmas.List.{take_more, take_all}
+use Rattle.logical_clock.specs.declared.key.KeyMark.{KeyMark}
+use Rattle.logical_clock.specs.declared.event.Record.{Record}
+use Rattle.log_closure.specs.Events.{LogEvent, In, HasMark, marks, event_of, events_behind, events_of}
+use Rattle.plain_order.proofs.Splits.{In-cases, split-in, split_at, Each, each_more}
+
+events_join : (acc xs ys : List Record) → events_behind acc (xs ++ ys) ≡ events_behind acc xs ++ events_behind (acc ++ xs) ys
+events_join acc [] ys = ap (λ (l : List Record). events_behind l ys) (sym (append-nil acc))
+events_join acc (r ∷ xs) ys = ap (λ (l : List LogEvent). event_of acc r ∷ l) (events_join (acc ++ r ∷ []) xs ys ∙ ap (λ (l : List Record). events_behind (acc ++ r ∷ []) xs ++ events_behind l ys) (append_assoc acc (r ∷ []) xs))
+
+-- the events of a front that is longer by one
+pub events_more : (rs : List Record) (i : ℕ) (r : Record) → i < length rs → r ≡ get_or rs i r → events_of (take (i + 1) rs) ≡ events_of (take i rs) ++ event_of (take i rs) r ∷ []
+events_more rs i r lt is = ap events_of (take_more rs i r lt ∙ ap (λ (x : Record). take i rs ++ x ∷ []) (sym is)) ∙ events_join [] (take i rs) (r ∷ [])
+
+-- all events, split at one
+pub events_split : (rs : List Record) (i : ℕ) (r : Record) → i < length rs → r ≡ get_or rs i r → events_of rs ≡ events_of (take i rs) ++ event_of (take i rs) r ∷ events_behind (take i rs ++ r ∷ []) (drop (i + 1) rs)
+events_split rs i r lt is = ap events_of (split_at rs i r lt ∙ ap (λ (x : Record). take i rs ++ x ∷ drop (i + 1) rs) (sym is)) ∙ events_join [] (take i rs) (r ∷ drop (i + 1) rs)
+
+pub event_in : (rs : List Record) (i : ℕ) (r : Record) → i < length rs → r ≡ get_or rs i r → In (event_of (take i rs) r) (events_of rs)
+event_in rs i r lt is = subst (In (event_of (take i rs) r)) (sym (events_split rs i r lt is)) (split-in (events_of (take i rs)) (event_of (take i rs) r) _)
+
+-- what holds at each event of a front, and at the event behind it
+pub each_event : (P : List LogEvent → LogEvent → Type 0) (rs : List Record) (i : ℕ) (r : Record) → i < length rs → r ≡ get_or rs i r → Each P (events_of (take i rs)) → P (events_of (take i rs)) (event_of (take i rs) r) → Each P (events_of (take (i + 1) rs))
+each_event P rs i r lt is all here = subst (Each P) (sym (events_more rs i r lt is)) (each_more P (events_of (take i rs)) (event_of (take i rs) r) all here)
+
+pub each_of_all : (P : List LogEvent → LogEvent → Type 0) (rs : List Record) (i : ℕ) → length rs ≤ i → Each P (events_of (take i rs)) → Each P (events_of rs)
+each_of_all P rs i le all = subst (λ (l : List Record). Each P (events_of l)) (take_all i rs le) all
