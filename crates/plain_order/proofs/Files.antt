@@ -1,10 +1,11 @@
 -- The events of a file, one after the other.
-use Rattle.std.proofs.Common.{◌≡◌, ℕ, ◌+◌, ◌<◌, ◌≤◌, List, [], ◌∷◌, ◌++◌, length, get_or, take, drop, inl, inr, ⊎_elim, refl, sym, ap, ◌∙◌, subst, arith, append_assoc, append-nil}
-use Rattle.std.specs.Prelude.{◌⊎◌}
+use Rattle.std.proofs.Common.{◌≡◌, ℕ, cond, ◌+◌, ◌<◌, ◌≤◌, List, [], ◌∷◌, ◌++◌, length, get_or, take, drop, inl, inr, ⊎_elim, refl, sym, ap, ◌∙◌, subst, arith, append_assoc, append-nil}
+use Rattle.std.specs.Prelude.{eqb, ◌⊎◌}
+use Rattle.std.proofs.lemmas.List.Sums.{sum_by-append, sum_by-cons}
 use Rattle.std.proofs.lemmas.List.{take_more, take_all}
 use Rattle.logical_clock.specs.declared.key.KeyMark.{KeyMark}
 use Rattle.logical_clock.specs.declared.event.Record.{Record}
-use Rattle.log_closure.specs.Events.{LogEvent, In, HasMark, marks, event_of, events_behind, events_of}
+use Rattle.log_closure.specs.Events.{LogEvent, In, HasMark, marks, event_of, events_behind, events_of, of_thread}
 use Rattle.plain_order.proofs.Splits.{In-cases, split-in, split_at, Each, each_more}
 
 events_join : (acc xs ys : List Record) → events_behind acc (xs ++ ys) ≡ events_behind acc xs ++ events_behind (acc ++ xs) ys
@@ -28,3 +29,10 @@ each_event P rs i r lt is all here = subst (Each P) (sym (events_more rs i r lt 
 
 pub each_of_all : (P : List LogEvent → LogEvent → Type 0) (rs : List Record) (i : ℕ) → length rs ≤ i → Each P (events_of (take i rs)) → Each P (events_of rs)
 each_of_all P rs i le all = subst (λ (l : List Record). Each P (events_of l)) (take_all i rs le) all
+
+-- the number of a thread's records in a front that is longer by one
+pub count_more : (t : ℕ) (rs : List Record) (i : ℕ) (r : Record) → i < length rs → r ≡ get_or rs i r → of_thread t (take (i + 1) rs) ≡ of_thread t (take i rs) + cond (eqb r.thread t) 1 0
+count_more t rs i r lt is =
+    ap (of_thread t) (take_more rs i r lt ∙ ap (λ (x : Record). take i rs ++ x ∷ []) (sym is))
+    ∙ sum_by-append (λ (x : Record). cond (eqb x.thread t) 1 0) (take i rs) (r ∷ [])
+    ∙ ap (λ (n : ℕ). of_thread t (take i rs) + n) (sum_by-cons (λ (x : Record). cond (eqb x.thread t) 1 0) r [] ∙ omega arith)

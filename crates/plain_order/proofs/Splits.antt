@@ -1,5 +1,5 @@
 -- Lists that are split at an item, and what holds of each item that stands before a place.
-use Rattle.std.proofs.Common.{◌≡◌, ℕ, ◌+◌, ◌<◌, ◌≤◌, List, [], ◌∷◌, ◌++◌, length, get_or, take, drop, inl, inr, ⊎_elim, refl, sym, ap, ◌∙◌, subst, arith, append_assoc}
+use Rattle.std.proofs.Common.{◌≡◌, ℕ, zero, suc, ◌+◌, ◌<◌, ◌≤◌, List, [], ◌∷◌, ◌++◌, length, get_or, take, drop, inl, inr, ⊎_elim, refl, sym, ap, ◌∙◌, subst, arith, append_assoc}
 use Rattle.std.specs.Prelude.{◌⊎◌}
 use Rattle.std.proofs.lemmas.List.{take_more, take_all, take-append-drop}
 use Rattle.log_closure.specs.Events.{In}
@@ -87,3 +87,9 @@ each_more P front e all here b x a is =
 pub split_at : {A : Type 0} (xs : List A) (i : ℕ) (d : A) → i < length xs → xs ≡ take i xs ++ get_or xs i d ∷ drop (i + 1) xs
 split_at xs i d lt =
     sym (take-append-drop (i + 1) xs) ∙ ap (λ (l : List _). l ++ drop (i + 1) xs) (take_more xs i d lt) ∙ append_assoc (take i xs) (get_or xs i d ∷ []) (drop (i + 1) xs)
+
+pub each_at : {A : Type 0} (P : List A → A → Type 0) (xs : List A) (i : ℕ) (d : A) → i < length xs → Each P (take i xs) → P (take i xs) (get_or xs i d) → Each P (take (i + 1) xs)
+each_at P xs i d lt all here = subst (Each P) (sym (take_more xs i d lt)) (each_more P (take i xs) (get_or xs i d) all here)
+
+pub each_all : {A : Type 0} (P : List A → A → Type 0) (xs : List A) (i : ℕ) → length xs ≤ i → Each P (take i xs) → Each P xs
+each_all P xs i le all = subst (Each P) (take_all i xs le) all

@@ -1,6 +1,6 @@
 //! The clock of an event, from the clocks of its direct predecessors.
 
-ghost use Rattle.std.specs.Prelude.{◌≡◌, ◌<◌, ◌^◌, ⊥, length};
+ghost use Rattle.std.specs.Prelude.{◌≡◌, ◌<◌, ◌^◌, length};
 ghost use Rattle.std.specs.Bool.{OnTrue, OnFalse};
 ghost use Rattle.logical_clock.specs.declared.key.KeyMark.{KeyMark};
 ghost use Rattle.log_closure.specs.Events.{In, HasMark, event_of, events_of};

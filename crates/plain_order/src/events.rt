@@ -1,7 +1,7 @@
 //! The events of a file, and which of them others need. An event is given by its name and its record, or by the records
 //! before it in the file and its own.
 
-ghost use Rattle.std.specs.Prelude.{◌≡◌, ◌<◌, ◌^◌, ⊥, length};
+ghost use Rattle.std.specs.Prelude.{◌≡◌, ◌<◌, ◌^◌, length};
 ghost use Rattle.std.specs.Bool.{OnTrue, OnFalse};
 ghost use Rattle.logical_clock.specs.declared.key.KeyMark.{KeyMark};
 ghost use Rattle.log_closure.specs.Events.{LogEvent, In, HasMark, event_of, events_of};

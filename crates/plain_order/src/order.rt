@@ -44,9 +44,8 @@ pub fn first_wrong_event(whole: bool, records: &[Record]) -> Option<OrderError>
     ensures wrong { (error : OrderError) → (result ≡ Some error) ↔ IsFirstWrong whole (events_of records.now) error }
 {
     for (at, entry) in records.iter().enumerate() {
-        let error = wrong(whole, records, &records[..at], entry);
-        if error.is_some() {
-            return error;
+        if let Some(error) = wrong(whole, records, &records[..at], entry) {
+            return Some(error);
         }
     }
     None
