@@ -26,9 +26,9 @@ first_one bytes m n a b =
     ⊎_elim
     (λ lt. absurd (a.here (less_begins bytes (m + 1) n (omega (arith, lt)) b.before)))
     (λ ge. ⊎_elim
-      (λ lt. absurd (b.here (less_begins bytes (n + 1) m (omega (arith, lt)) a.before)))
-      (λ le. omega (arith, ge, le))
-      (cases_lt n m))
+    (λ lt. absurd (b.here (less_begins bytes (n + 1) m (omega (arith, lt)) a.before)))
+    (λ le. omega (arith, ge, le))
+    (cases_lt n m))
     (cases_lt m n)
 
 -- and where a log text begins with all there is none

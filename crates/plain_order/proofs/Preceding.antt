@@ -70,6 +70,6 @@ greatest_whole all f g h =
     ⊎_elim
     (λ (none, zero). subst (IsGreatestBefore all f) (sym zero) (none_before (λ e p. let (before, after, is, leads) = predecessor_leads all e f p in none before e after is leads)))
     (λ (before, e, after, is, leads, clock). subst (IsGreatestBefore all f) clock (greatest_is e (leads_predecessor all e f before after is leads) (λ d p.
-      let (b, a, s, l) = predecessor_leads all d f p in
-      let z = h.most b d a s l in omega (arith, z, clock))))
+    let (b, a, s, l) = predecessor_leads all d f p in
+    let z = h.most b d a s l in omega (arith, z, clock))))
     h.reached

@@ -32,9 +32,9 @@ first_one whole all x y (b, e, a, is, front, wrong) (c, f, d, eq, front', wrong'
     ⊎_elim
     (λ (p, q). one_error whole all b e x y wrong (subst (λ (l : List LogEvent). IsWrong whole all l e y) (sym p) (subst (λ (g : LogEvent). IsWrong whole all c g y) (sym q) wrong')))
     (λ o. ⊎_elim
-      (λ (more, p). absurd (not_both whole all b e x (front' b e more p) wrong))
-      (λ (more, p). absurd (not_both whole all c f y (front c f more p) wrong'))
-      o)
+    (λ (more, p). absurd (not_both whole all b e x (front' b e more p) wrong))
+    (λ (more, p). absurd (not_both whole all c f y (front c f more p) wrong'))
+    o)
     (splits b e a c f d (sym is ∙ eq))
 
 -- the error names the event by its name

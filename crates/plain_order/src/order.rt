@@ -11,12 +11,7 @@ use log_closure::OrderError;
 use logical_clock::Record;
 
 /// What is wrong with the event that stands behind these in the file.
-fn wrong(
-    whole: bool,
-    records: &[Record],
-    before: &[Record],
-    entry: &Record,
-) -> Option<OrderError>
+fn wrong(whole: bool, records: &[Record], before: &[Record], entry: &Record) -> Option<OrderError>
     requires few { length records.now < 2 ^ 32 }
     requires short { length before.now < 2 ^ 32 }
     ensures right { IfNone result (IsRight whole (events_of records.now) (events_of before.now) (event_of before.now entry.now)) }

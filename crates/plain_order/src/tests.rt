@@ -1,4 +1,4 @@
-use crate::first_wrong_byte;
+use crate::{first_wrong_byte, first_wrong_event};
 use std::alloc::AllocError;
 
 #[test]
@@ -7,4 +7,9 @@ fn the_first_wrong_byte_is_named(rt: HostRuntime) -> Result<(), AllocError> {
     assert_eq!(rt; first_wrong_byte(alloc, b"R2LOG\x01")?, None);
     assert_eq!(rt; first_wrong_byte(alloc, b"R2LOG\x07")?, Some(5));
     Ok(())
+}
+
+#[test]
+fn no_events_fit(rt: HostRuntime) {
+    assert_eq!(rt; first_wrong_event(true, &[]), None);
 }

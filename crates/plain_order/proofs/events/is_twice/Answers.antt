@@ -11,7 +11,7 @@ returns-else-shares-clause-none c =
     let keys = sym c.as_slice-marks.ensures in
     if_false c.repeats.result
     (λ none (m, how). ⊎_elim
-      (λ (i, h). c.if-shares.ensures.none m (subst (In m) keys i) h)
-      (λ twice. none m (subst (λ (l : List KeyMark). StandsTwice m l) keys twice))
-      how)
+    (λ (i, h). c.if-shares.ensures.none m (subst (In m) keys i) h)
+    (λ twice. none m (subst (λ (l : List KeyMark). StandsTwice m l) keys twice))
+    how)
     c.repeats.ensures.none

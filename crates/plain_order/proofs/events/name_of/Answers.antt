@@ -24,14 +24,14 @@ loop-other-preserved c =
     let old = c.loop-other.invariant in
     elim c.if-other-entry.branch [
       | then-other-entry w ↦
-        let yes : eqb r.thread t ≡ true = eq-eqb r.thread t w.if-other-entry.true in
-        let step = more ∙ ap (λ (b : Bool). of_thread t (take i c.args.before.now) + cond b 1 0) yes in
-        record { below = omega (arith, w.index-is, old.below); count = omega (arith, w.index-is, old.count, step) }
+          let yes : eqb r.thread t ≡ true = eq-eqb r.thread t w.if-other-entry.true in
+          let step = more ∙ ap (λ (b : Bool). of_thread t (take i c.args.before.now) + cond b 1 0) yes in
+          record { below = omega (arith, w.index-is, old.below); count = omega (arith, w.index-is, old.count, step) }
       | else-other-entry w ↦
-        let other = w.if-other-entry.false in
-        let free : eqb r.thread t ≡ false = grind (arith, nat_tests) in
-        let step = more ∙ ap (λ (b : Bool). of_thread t (take i c.args.before.now) + cond b 1 0) free in
-        record { below = omega (arith, w.index-is, old.below); count = omega (arith, w.index-is, old.count, step) }
+          let other = w.if-other-entry.false in
+          let free : eqb r.thread t ≡ false = grind (arith, nat_tests) in
+          let step = more ∙ ap (λ (b : Bool). of_thread t (take i c.args.before.now) + cond b 1 0) free in
+          record { below = omega (arith, w.index-is, old.below); count = omega (arith, w.index-is, old.count, step) }
     ]
 
 pub returns : goal.returns

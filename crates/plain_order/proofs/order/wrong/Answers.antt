@@ -19,8 +19,8 @@ returns-then-lacks-clause-wrong c =
 pub returns-then-is_clock_wrong-clause-wrong : goal.returns-then-is_clock_wrong-clause-wrong
 returns-then-is_clock_wrong-clause-wrong c =
     let there : IsMissing c.args.whole (events_of c.args.records.now) (event_of c.args.before.now c.args.entry.now) → ⊥ =
-      elim c.else-whole.branch [
-        | else-whole-via-then-whole+else-lacks w ↦ λ (_, (m, i, free)). free (w.if-lacks.ensures.none m (subst (In (next m)) (sym w.as_slice.ensures) i))
-        | else-whole-via-else-whole w ↦ λ (on, (m, i, free)). let off = w.if-whole.false in absurd cc
-      ] in
+    elim c.else-whole.branch [
+      | else-whole-via-then-whole+else-lacks w ↦ λ (_, (m, i, free)). free (w.if-lacks.ensures.none m (subst (In (next m)) (sym w.as_slice.ensures) i))
+      | else-whole-via-else-whole w ↦ λ (on, (m, i, free)). let off = w.if-whole.false in absurd cc
+    ] in
     clock_named c.args.whole (events_of c.args.records.now) (events_of c.args.before.now) (event_of c.args.before.now c.args.entry.now) c.name_of-name.result c.name_of-name.ensures c.if-is_twice.ensures.none there c.if-is_clock_wrong.ensures.there
