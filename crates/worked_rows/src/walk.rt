@@ -1,5 +1,5 @@
-//! The program beside the plain definitions of a right log, at every change of one byte of a small log and at every
-//! beginning of a larger one.
+//! The program beside the plain definitions of a right log, at every change of one byte of a small log, and at every
+//! beginning of a larger one and every step of one of its bytes to the value next to it.
 
 ghost use Rattle.std.specs.Prelude.{◌≤◌, ◌<◌, length};
 
@@ -67,7 +67,7 @@ fn compare(rt: &impl Abort, alloc: Global, bytes: &[u8]) -> Result<(), AllocErro
     Ok(())
 }
 
-/// Every other value at one place of the small log.
+/// Each value at one place of the small log.
 fn change(rt: &impl Abort, alloc: Global, at: usize) -> Result<(), AllocError>
     requires { at < 72 }
 {
@@ -77,6 +77,18 @@ fn change(rt: &impl Abort, alloc: Global, at: usize) -> Result<(), AllocError>
         compare(rt, alloc, &bytes)?;
     }
     Ok(())
+}
+
+/// The log with the byte at one place raised by 1, and lowered by 1.
+fn step(rt: &impl Abort, alloc: Global, log: &[u8], at: usize) -> Result<(), AllocError>
+    requires here { at < length log.now }
+    requires few { length log.now ≤ 67108864 }
+{
+    let mut bytes = Vec::from_slice(alloc, log)?;
+    bytes[at] = log[at].wrapping_add(1);
+    compare(rt, alloc, &bytes)?;
+    bytes[at] = log[at].wrapping_sub(1);
+    compare(rt, alloc, &bytes)
 }
 
 #[test]
@@ -118,6 +130,17 @@ fn beginnings_are_read_as_far_as_they_go(rt: HostRuntime) -> Result<(), AllocErr
     assert_eq!(rt; log.len(), 658);
     for length in 0..659 {
         compare(&rt, alloc, &log[..length])?;
+    }
+    Ok(())
+}
+
+#[test]
+fn steps_of_each_byte_of_a_larger_log_are_found(rt: HostRuntime) -> Result<(), AllocError> {
+    let alloc = rt.alloc();
+    let log = two_threads(alloc)?;
+    assert_eq!(rt; log.len(), 658);
+    for at in 0..658 {
+        step(&rt, alloc, &log, at)?;
     }
     Ok(())
 }
