@@ -5,3 +5,5 @@ mod logs;
 #[cfg(test)]
 mod order;
 mod runs;
+#[cfg(test)]
+mod walk;
