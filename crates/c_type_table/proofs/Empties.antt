@@ -1,5 +1,5 @@
 -- Lists of types of which one is empty.
-use Rattle.std.proofs.Common.{◌≡◌, ℕ, zero, suc, ◌<◌, ◌+◌, ◌↔◌, Bool, IsTrue, List, [], ◌∷◌, length, nat_eq, refl, sym, ◌∙◌, arith}
+use Rattle.std.proofs.Common.{◌≡◌, ℕ, ◌<◌, ◌↔◌, Bool, IsTrue, List, [], ◌∷◌, length, nat_eq, refl, sym, ◌∙◌, arith}
 use borrow.Author.Tests.{eqb-true}
 use Rattle.c_type_model.specs.Types.{CType}
 use Rattle.c_type_table.specs.declared.ids.TypeId.{TypeId}

@@ -1,5 +1,5 @@
 -- Extents of types where those of structs are capped.
-use Rattle.std.proofs.Common.{◌≡◌, ℕ, zero, suc, ◌+◌, ◌-◌, ◌*◌, ◌^◌, ◌<◌, ◌≤◌, Bool, true, false, ltb, List, map, Option, Some, None, refl, sym, ap, ◌∙◌, arith}
+use Rattle.std.proofs.Common.{◌≡◌, ℕ, zero, suc, ◌-◌, ◌*◌, ◌^◌, ◌<◌, ◌≤◌, Bool, true, false, ltb, List, map, Option, Some, None, refl, sym, ap, ◌∙◌, arith}
 use Rattle.std.proofs.Math.Nat.{mul-le-mul_left, min-eq_right}
 use borrow.Author.Tests.{ltb-false, ltb-true}
 use Rattle.std.proofs.lemmas.Option.{slice_get-map}
@@ -14,8 +14,10 @@ array_capped n e = ap (λ s. record { size = s; align = e.align }) (sizes n e.si
   where
     over : (n s : ℕ) → 2 ^ 64 ≤ s → 2 ^ 64 ≤ suc n * s
     over n s h = let m : suc n * 2 ^ 64 ≤ suc n * s = mul-le-mul_left (suc n) h in omega arith
+
     top : (n : ℕ) → 2 ^ 64 - 1 ≤ suc n * (2 ^ 64 - 1)
     top n = omega arith
+
     by : (n s : ℕ) (t : Bool) → ltb s (2 ^ 64) ≡ t → capped (suc n * capped s) ≡ capped (suc n * s)
     by n s true h = let less : s < 2 ^ 64 = ltb-true s (2 ^ 64) h in let same : capped s ≡ s = omega arith in ap (λ x. capped (suc n * x)) same
     by n s false h =
@@ -24,6 +26,7 @@ array_capped n e = ap (λ s. record { size = s; align = e.align }) (sizes n e.si
         let a = over n s more in
         let b = top n in
         ap (λ x. capped (suc n * x)) cut ∙ (min-eq_right b ∙ sym (let c : 2 ^ 64 - 1 ≤ suc n * s = omega arith in min-eq_right c))
+
     sizes : (n s : ℕ) → capped (n * capped s) ≡ capped (n * s)
     sizes zero s = omega arith
     sizes (suc n) s = by n s (ltb s (2 ^ 64)) refl

@@ -1,5 +1,5 @@
 -- What the numbers of a table stand for.
-use Rattle.std.proofs.Common.{◌≡◌, ℕ, zero, suc, ◌+◌, ◌<◌, ◌≤◌, List, [], ◌∷◌, ◌++◌, length, get_or, Option, Some, None, refl, sym, ap, ◌∙◌, arith, add-one, length-append, subst, ◌⊎◌, inl, inr}
+use Rattle.std.proofs.Common.{◌≡◌, ℕ, zero, suc, ◌+◌, ◌<◌, List, [], ◌∷◌, ◌++◌, length, get_or, Some, refl, sym, ap, ◌∙◌, arith, length-append, subst, ◌⊎◌, inl, inr}
 use Rattle.std.specs.Prelude.{slice_get}
 use Rattle.std.specs.List.{All}
 use Rattle.std.proofs.Math.ListN.{get_or-append}
@@ -63,7 +63,7 @@ last_of (u ∷ ts) t d = last_of ts t d
 
 -- each type of a table is made of the types of the table
 made_at : (ts : List CType) (ns : List Ty) (k : ℕ) (n : Ty) → ((j : ℕ) (m : Ty) → slice_get ns j ≡ Some m → IsMadeOf (length ts + j) m) → slice_get ns k ≡ Some n
-  → made (types_after ts ns) n ≡ get_or (types_after ts ns) (length ts + k) types.Void
+    → made (types_after ts ns) n ≡ get_or (types_after ts ns) (length ts + k) types.Void
 unfolding Extends
 made_at ts [] k n h e = absurd cc
 made_at ts (m ∷ ns) zero n h e =

@@ -14,6 +14,9 @@ fn numbers_of_one_type_are_the_same(rt: HostRuntime) -> Result<(), Fail> {
     let longer = types.add(Ty::Array(int, 4))?;
     assert!(rt; types.is_same(rows, same_rows));
     assert!(rt; !types.is_same(rows, longer));
-    assert_eq!(rt; types.extent(&[], longer), Some(Extent { size: 16, align: 4 }));
+    assert_eq!(rt;
+        types.extent(&[], longer),
+        Some(Extent { size: 16, align: 4 })
+    );
     Ok(())
 }

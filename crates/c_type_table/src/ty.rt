@@ -13,8 +13,5 @@ pub enum Ty {
     /// An array, with its element and its length.
     Array(TypeId, u64),
     Struct(StructId),
-    Function {
-        result: TypeId,
-        params: TypeIds,
-    },
+    Function { result: TypeId, params: TypeIds },
 }
