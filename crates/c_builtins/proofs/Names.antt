@@ -1,7 +1,6 @@
 -- Going along a list to the first element that passes, and the builtin of a name.
 use Rattle.std.proofs.Common.{◌≡◌, ℕ, suc, ◌+◌, ◌<◌, ◌≤◌, ◌↔◌, Bool, true, false, cond, List, [], ◌∷◌, length, drop, get_or, drop-cons, add-one, Option, Some, None, refl, sym, subst, nat_eq}
 use Rattle.std.proofs.lemmas.List.{drop_all}
-use Rattle.std.proofs.lemmas.Option.{cond_some}
 use Rattle.std.proofs.lemmas.Slice.Eq.{bytes_eq-Decides}
 use Rattle.std.specs.List.{find}
 use Rattle.std.specs.Cmp.Lexicographic.{pointwise}
@@ -43,6 +42,8 @@ by_own_name Print = refl
 pub named_exactly : (name : List ℕ) (r : Option Builtin) → r ≡ find (λ b. pointwise nat_eq name (name_of b)) (Malloc ∷ Free ∷ Spawn ∷ Join ∷ Lock ∷ Unlock ∷ Print ∷ []) → (b : Builtin) → (r ≡ Some b) ↔ (name_of b ≡ name)
 unfolding named
 named_exactly name r e b =
-    let back : name_of b ≡ name → r ≡ Some b = λ h. let found : List ℕ → Type 0 = λ n. named n ≡ Some b in let k : named name ≡ Some b = subst found h (by_own_name b) in cc in
-    (λ h. let found : find (λ x. pointwise nat_eq name (name_of x)) (Malloc ∷ Free ∷ Spawn ∷ Join ∷ Lock ∷ Unlock ∷ Print ∷ []) ≡ Some b = cc in
-      sym ((bytes_eq-Decides name (name_of b)).0 (find-passes (λ x. pointwise nat_eq name (name_of x)) (Malloc ∷ Free ∷ Spawn ∷ Join ∷ Lock ∷ Unlock ∷ Print ∷ []) b found)), back)
+    let back : name_of b ≡ name → r ≡ Some b = λ h. let found : List ℕ → Type 0 = λ n. named n ≡ Some b in let k : named name ≡ Some b = subst found h (by_own_name b) in cc in (
+      λ h. let found : find (λ x. pointwise nat_eq name (name_of x)) (Malloc ∷ Free ∷ Spawn ∷ Join ∷ Lock ∷ Unlock ∷ Print ∷ []) ≡ Some b = cc in
+          sym ((bytes_eq-Decides name (name_of b)).0 (find-passes (λ x. pointwise nat_eq name (name_of x)) (Malloc ∷ Free ∷ Spawn ∷ Join ∷ Lock ∷ Unlock ∷ Print ∷ []) b found)),
+      back,
+    )

@@ -1,9 +1,9 @@
 -- Numbers that are cut at the greatest of 64 bits.
-use Rattle.std.proofs.Common.{◌≡◌, ℕ, ◌+◌, ◌-◌, ◌*◌, ◌^◌, ◌<◌, ◌≤◌, min, Bool, true, false, List, [], ◌∷◌, map, ltb, refl, sym, ap, ◌∙◌, arith}
+use Rattle.std.proofs.Common.{◌≡◌, ℕ, ◌+◌, ◌-◌, ◌^◌, ◌<◌, ◌≤◌, Bool, true, false, List, [], ◌∷◌, map, ltb, refl, sym, ap, ◌∙◌, arith}
 use Rattle.std.specs.Int.{next_multiple_of}
 use borrow.Author.Tests.{ltb-false, ltb-true}
 use Rattle.c_type_model.specs.declared.extent.Extent.{Extent}
-use Rattle.c_type_model.specs.Layouts.{capped, capped_extent, offsets_from, end_from, greatest_align, struct_of, repeated}
+use Rattle.c_type_model.specs.Layouts.{capped, offsets_from, end_from}
 
 top : ℕ
 top = 2 ^ 64 - 1

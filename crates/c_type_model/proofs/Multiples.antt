@@ -1,5 +1,5 @@
 -- The next multiple of a number.
-use Rattle.std.proofs.Common.{◌≡◌, ℕ, ◌+◌, ◌-◌, ◌*◌, ◌/◌, ◌%◌, ◌<◌, ◌≤◌, ◌⊎◌, Bool, true, false, ltb, inl, inr, refl, sym, ap, ◌∙◌, arith}
+use Rattle.std.proofs.Common.{◌≡◌, ℕ, ◌+◌, ◌-◌, ◌*◌, ◌/◌, ◌%◌, ◌<◌, ◌≤◌, ◌⊎◌, Bool, true, false, ltb, inl, inr, refl, ap, ◌∙◌, arith}
 use Rattle.std.specs.Int.{next_multiple_of}
 use Rattle.std.proofs.Math.Nat.{div-add-mod, mod-lt, mod-eq_of_lt, mod_self, mul-le-mul_right}
 use borrow.Author.Tests.{ltb-false, ltb-true}
@@ -10,6 +10,7 @@ multiples n a some = by (ltb 0 (n % a)) refl
   where
     split : a * (n / a) + n % a ≡ n
     split = div-add-mod n a
+
     by : (t : Bool) → ltb 0 (n % a) ≡ t → ((k : ℕ) × (n ≡ k * a) × (next_multiple_of n a ≡ k * a)) ⊎ ((k : ℕ) × (k * a < n) × (next_multiple_of n a ≡ (k + 1) * a))
     by true e =
         let rest : 0 < n % a = ltb-true 0 (n % a) e in

@@ -1,10 +1,10 @@
 -- Layouts of members with capped sizes, and what one more member adds.
-use Rattle.std.proofs.Common.{◌≡◌, ℕ, suc, ◌+◌, ◌-◌, ◌*◌, ◌^◌, ◌<◌, ◌≤◌, max, min, List, [], ◌∷◌, ◌++◌, map, length, drop, get_or, drop-cons, refl, sym, ap, ◌∙◌, arith, append_assoc}
+use Rattle.std.proofs.Common.{◌≡◌, ℕ, suc, ◌+◌, ◌<◌, ◌≤◌, max, List, [], ◌∷◌, ◌++◌, map, length, drop, get_or, drop-cons, refl, sym, ap, ◌∙◌, arith, append_assoc}
 use Rattle.std.proofs.lemmas.List.{drop_all}
 use Rattle.std.specs.Int.{next_multiple_of}
 use Rattle.c_type_model.specs.declared.extent.Extent.{Extent}
 use Rattle.c_type_model.specs.Layouts.{capped, capped_extent, offsets_from, end_from, greatest_align, struct_of}
-use Rattle.c_type_model.proofs.Capped.{capped_sum, capped_sums, capped_multiple, offsets_capped, end_capped}
+use Rattle.c_type_model.proofs.Capped.{capped_sum, capped_multiple, offsets_capped, end_capped}
 
 -- the sizes of members may be capped before they are laid
 pub offsets_of_capped : (ms : List Extent) (n : ℕ) → map capped (offsets_from n (map capped_extent ms)) ≡ map capped (offsets_from n ms)
@@ -34,7 +34,7 @@ pub struct_of_capped : (ms : List Extent) → capped_extent (struct_of (map capp
 struct_of_capped ms =
     let aligns = align_of_capped ms in
     let sizes : capped (struct_of (map capped_extent ms)).size ≡ capped (struct_of ms).size =
-      ap (λ a. capped (next_multiple_of (end_from 0 (map capped_extent ms)) a)) aligns ∙ size_by_end (greatest_align ms) (end_from 0 (map capped_extent ms)) (end_from 0 ms) (end_of_capped ms 0) in
+    ap (λ a. capped (next_multiple_of (end_from 0 (map capped_extent ms)) a)) aligns ∙ size_by_end (greatest_align ms) (end_from 0 (map capped_extent ms)) (end_from 0 ms) (end_of_capped ms 0) in
     ap (λ s. record { size = s; align = greatest_align (map capped_extent ms) }) sizes ∙ ap (λ a. record { size = capped (struct_of ms).size; align = a }) aligns
 
 -- a member more: its offset, and where the members after it are laid from
@@ -74,9 +74,9 @@ align_of_all ms i a y some past h =
     omega arith
 
 pub extent_of_all : (ms : List Extent) (i n a s : ℕ) → 0 < a → length ms ≤ i → s ≡ capped (next_multiple_of n a) → capped (end_from n (drop i ms)) ≡ capped (end_from 0 ms) → max a (greatest_align (drop i ms)) ≡ greatest_align ms
-  → ◌≡◌ {A = Extent} (record { size = s; align = a }) (capped_extent (struct_of ms))
+    → ◌≡◌ {A = Extent} (record { size = s; align = a }) (capped_extent (struct_of ms))
 extent_of_all ms i n a s some past rounded ends aligns =
     let align = align_of_all ms i a (greatest_align ms) some past aligns in
     let size : s ≡ capped (struct_of ms).size =
-      rounded ∙ (size_by_end a n (end_from 0 ms) (end_of_all ms i n (capped (end_from 0 ms)) past ends) ∙ ap (λ x. capped (next_multiple_of (end_from 0 ms) x)) align) in
+    rounded ∙ (size_by_end a n (end_from 0 ms) (end_of_all ms i n (capped (end_from 0 ms)) past ends) ∙ ap (λ x. capped (next_multiple_of (end_from 0 ms) x)) align) in
     ap (λ x. record { size = x; align = a }) size ∙ ap (λ x. record { size = capped (struct_of ms).size; align = x }) align

@@ -7,4 +7,5 @@ invariant-loop-member l = record {
   aligned : 0 < l.align;
   offsets : l.offsets.items ++ map capped (offsets_from l.end (drop l.member-index l.members)) ≡ map capped (offsets_from 0 l.members);
   ends : capped (end_from l.end (drop l.member-index l.members)) ≡ capped (end_from 0 l.members);
-  aligns : max l.align (greatest_align (drop l.member-index l.members)) ≡ greatest_align l.members }
+  aligns : max l.align (greatest_align (drop l.member-index l.members)) ≡ greatest_align l.members;
+}

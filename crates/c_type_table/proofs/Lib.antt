@@ -1,0 +1,4 @@
+mod TypeLists
+mod Extents
+mod Weights
+mod Empties
