@@ -1,9 +1,10 @@
 // Whole sources.
 
-ghost use Rattle.std.specs.Prelude.{IfOk, IfErr};
+ghost use Rattle.std.specs.Prelude.{◌≡◌, IfOk, IfErr};
 ghost use Rattle.c_parser.specs.Parsed.{IsParsed, IsRefused};
 
 use c_lexer::Token;
+use c_postfix::{PostfixError, actions};
 use c_syntax::Tree;
 use std::alloc::{AllocError, Global};
 
@@ -39,6 +40,9 @@ pub fn parse(alloc: Global, tokens: &[Token]) -> Result<Tree, ParseError>
     // Tokens are refused that no source has, or a source with a node that more than 200 others hold.
     ensures refused { IfErr result (λ e. IsRefused tokens.now e) }
 {
-    let _ = (alloc, tokens);
-    Err(ParseError::Memory)
+    match actions(alloc, tokens) {
+        Ok(_) => Err(ParseError::Memory),
+        Err(PostfixError::Token(place)) => Err(ParseError::Token(place)),
+        Err(PostfixError::Memory) => Err(ParseError::Memory),
+    }
 }
