@@ -1,1 +1,9 @@
 pub mod Grow
+pub mod Ends
+pub mod Likewise
+pub mod LikeExpr
+pub mod LikeDecl
+pub mod LikeAnnot
+pub mod LikeStmt
+pub mod LikeAll
+pub mod Broken

@@ -4,7 +4,7 @@ use Rattle.c_tree.specs.declared.piece.Piece.{Piece}
 use Rattle.c_tree.specs.declared.builder.Builder.{Builder}
 use Rattle.c_tree.specs.declared.builder.BuildError.{BuildError}
 use Rattle.c_tree.specs.declared.builder.BuildError.TheVariants as errors
-use Rattle.c_tree.specs.Made.{Built}
+use Rattle.c_tree.specs.Built.{Built}
 use Rattle.c_tree.specs.Seen.{nodes_seen, stack_seen}
 
 -- the builder holds this, or there is none and the actions are unfit

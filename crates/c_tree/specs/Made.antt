@@ -1,71 +1,37 @@
 -- What actions make of nodes and pieces: as `act` of `c_postfix`, with numbers of nodes in place of trees.
-use Rattle.std.specs.Prelude.{ℕ, List, [], ◌∷◌, ◌++◌, length, reverse, Option, Some, None}
-use Rattle.c_syntax.specs.declared.expression.ExprKind.{ExprKind}
+use Rattle.std.specs.Prelude.{ℕ, List, [], ◌∷◌, ◌++◌, length, Option, Some, None}
 use Rattle.c_syntax.specs.declared.expression.ExprKind.TheVariants as exprs
-use Rattle.c_syntax.specs.declared.statement.StmtKind.{StmtKind}
 use Rattle.c_syntax.specs.declared.statement.StmtKind.TheVariants as stmts
 use Rattle.c_syntax.specs.declared.statement.Entry.TheVariants as entries
 use Rattle.c_syntax.specs.declared.statement.First.TheVariants as firsts
-use Rattle.c_syntax.specs.declared.declaration.Base.TheVariants as bases
 use Rattle.c_syntax.specs.declared.declaration.Atom.TheVariants as atoms
-use Rattle.c_syntax.specs.declared.declaration.PartKind.{PartKind}
 use Rattle.c_syntax.specs.declared.declaration.PartKind.TheVariants as parts
-use Rattle.c_syntax.specs.declared.declaration.Rest.{Rest}
 use Rattle.c_syntax.specs.declared.declaration.Rest.TheVariants as rests
 use Rattle.c_syntax.specs.declared.declaration.Value.{roll-Value}
 use Rattle.c_syntax.specs.declared.declaration.Value.TheOpen.{Value-F}
 use Rattle.c_syntax.specs.Nodes.{Nodes}
 use Rattle.c_postfix.specs.declared.action.Action.{Action}
 use Rattle.c_postfix.specs.declared.action.Action.TheVariants as acts
-use Rattle.c_tree.specs.declared.piece.Declarator.{Declarator}
-use Rattle.c_tree.specs.declared.piece.Shared.{Shared}
 use Rattle.c_tree.specs.declared.piece.Piece.{Piece}
 use Rattle.c_tree.specs.declared.piece.Piece.TheVariants as pieces
-use Rattle.c_tree.specs.Nodes.{with_decl, with_stmt, with_expr}
-use Rattle.c_tree.specs.Takes.{expr_in, exprs_in, maybe_in, declarator_in, shared_in, decl_in, decls_in, annots_in, annot_in, item_in, atom_in, value_in, values_in, entries_in, stmt_in, first_in, tag_in}
+use Rattle.c_tree.specs.Built.{Built, taking, puts, put_expr, put_stmt, add_part, declare, with_struct}
+use Rattle.c_tree.specs.Takes.{expr_in, exprs_in, maybe_in, shared_in, decl_in, decls_in, annots_in, annot_in, item_in, atom_in, value_in, values_in, entries_in, stmt_in, first_in, tag_in}
 
-pub record Built : Type 0 where
-  pub nodes : Nodes
-  pub stack : List Piece
-
--- what is made of what is taken, if it is there
-abbrev pub taking : {A : Type 0} → Option (A × List Piece) → (A → List Piece → Option Built) → Option Built
-taking None k = None
-taking (Some (a, R)) k = k a R
-
--- a piece comes on top
-abbrev pub puts : Nodes → Piece → List Piece → Option Built
-puts N p R = Some (record { nodes = N; stack = p ∷ R })
-
--- a new expression comes on top
-abbrev pub put_expr : Nodes → ℕ → ExprKind → List Piece → Option Built
-put_expr N f k R = puts (with_expr N (record { from = f; kind = k })) (pieces.Expr (record { 0 = length N.exprs })) R
-
--- a new statement comes on top
-abbrev pub put_stmt : Nodes → ℕ → StmtKind → List Piece → Option Built
-put_stmt N f k R = puts (with_stmt N (record { from = f; kind = k })) (pieces.Stmt (record { 0 = length N.stmts })) R
-
--- a new declaration comes on top, above what it shares with others
-abbrev pub put_decl : Nodes → Declarator → Shared → Rest → List Piece → Option Built
-put_decl N d s q R =
-    puts (with_decl N (record { from = d.from; annots = s.annots; base = s.base; parts = reverse d.parts; name = d.name; rest = q })) (pieces.Decl (record { 0 = length N.decls })) (pieces.Shared s ∷ R)
-
--- a declarator with one more part
-abbrev pub with_part : Declarator → ℕ → PartKind → Declarator
-with_part d f k = record { parts = d.parts ++ record { from = f; kind = k } ∷ []; name = d.name; from = d.from }
+unfoldable pub made_control : Action → Nodes → List Piece → Option Built
+made_control (acts.If f) N R = taking (stmt_in R) (λ s R. taking (expr_in R) (λ x R. put_stmt N f (stmts.If x s None) R))
+made_control (acts.IfElse f) N R = taking (stmt_in R) (λ z R. taking (stmt_in R) (λ s R. taking (expr_in R) (λ x R. put_stmt N f (stmts.If x s (Some z)) R)))
+made_control (acts.While f) N R = taking (stmt_in R) (λ s R. taking (expr_in R) (λ x R. put_stmt N f (stmts.While x s) R))
+made_control (acts.Do f) N R = taking (expr_in R) (λ x R. taking (stmt_in R) (λ s R. put_stmt N f (stmts.Do s x) R))
+made_control (acts.For f) N R = taking (stmt_in R) (λ s R. taking (maybe_in R) (λ y R. taking (maybe_in R) (λ x R. taking (first_in R) (λ a R. put_stmt N f (stmts.For a x y s) R))))
+made_control _ N R = None
 
 unfoldable pub made_stmt : Action → Nodes → List Piece → Option Built
 made_stmt (acts.Block f) N R = taking (entries_in R) (λ es R. put_stmt N f (stmts.Block es) R)
 made_stmt (acts.Expression f) N R = taking (maybe_in R) (λ x R. put_stmt N f (stmts.Expr x) R)
-made_stmt (acts.If f) N R = taking (stmt_in R) (λ s R. taking (expr_in R) (λ x R. put_stmt N f (stmts.If x s None) R))
-made_stmt (acts.IfElse f) N R = taking (stmt_in R) (λ z R. taking (stmt_in R) (λ s R. taking (expr_in R) (λ x R. put_stmt N f (stmts.If x s (Some z)) R)))
-made_stmt (acts.While f) N R = taking (stmt_in R) (λ s R. taking (expr_in R) (λ x R. put_stmt N f (stmts.While x s) R))
-made_stmt (acts.Do f) N R = taking (expr_in R) (λ x R. taking (stmt_in R) (λ s R. put_stmt N f (stmts.Do s x) R))
-made_stmt (acts.For f) N R = taking (stmt_in R) (λ s R. taking (maybe_in R) (λ y R. taking (maybe_in R) (λ x R. taking (first_in R) (λ a R. put_stmt N f (stmts.For a x y s) R))))
 made_stmt (acts.Break f) N R = put_stmt N f stmts.Break R
 made_stmt (acts.Continue f) N R = put_stmt N f stmts.Continue R
 made_stmt (acts.Return f) N R = taking (maybe_in R) (λ x R. put_stmt N f (stmts.Return x) R)
-made_stmt _ N R = None
+made_stmt a N R = made_control a N R
 
 -- what statements hold
 unfoldable pub made_entry : Action → Nodes → List Piece → Option Built
@@ -105,15 +71,14 @@ unfoldable pub made_list : Action → Nodes → List Piece → Option Built
 made_list acts.NoDecls N R = puts N (pieces.Decls []) R
 made_list acts.AddName N R = taking (decl_in R) (λ d R. taking (shared_in R) (λ s R. taking (decls_in R) (λ ds R. puts N (pieces.Shared s) (pieces.Decls (ds ++ d ∷ []) ∷ R))))
 made_list (acts.Tag f n) N R = puts N (pieces.Tag (record { from = f; name = n })) R
-made_list acts.Struct N R =
-    taking (decls_in R) (λ ms R. taking (tag_in R) (λ t R. taking (decls_in R) (λ ds R. puts (with_decl N (record { from = t.from; annots = []; base = bases.Struct t.name; parts = []; name = None; rest = rests.Members ms })) (pieces.Decls (ds ++ record { 0 = length N.decls } ∷ [])) R)))
+made_list acts.Struct N R = taking (decls_in R) (λ ms R. taking (tag_in R) (λ t R. taking (decls_in R) (λ ds R. puts (with_struct N t ms) (pieces.Decls (ds ++ record { 0 = length N.decls } ∷ [])) R)))
 made_list a N R = made_annot a N R
 
 unfoldable pub made_decl : Action → Nodes → List Piece → Option Built
 made_decl (acts.Specs b) N R = taking (annots_in R) (λ an R. puts N (pieces.Shared (record { annots = an; base = b })) R)
-made_decl acts.Declare N R = taking (declarator_in R) (λ d R. taking (shared_in R) (λ s R. put_decl N d s rests.None R))
-made_decl acts.DeclareValue N R = taking (value_in R) (λ v R. taking (declarator_in R) (λ d R. taking (shared_in R) (λ s R. put_decl N d s (rests.Value v) R)))
-made_decl acts.DeclareBody N R = taking (stmt_in R) (λ b R. taking (declarator_in R) (λ d R. taking (shared_in R) (λ s R. put_decl N d s (rests.Body b) R)))
+made_decl acts.Declare N R = declare N rests.None R
+made_decl acts.DeclareValue N R = taking (value_in R) (λ v R. declare N (rests.Value v) R)
+made_decl acts.DeclareBody N R = taking (stmt_in R) (λ s R. declare N (rests.Body s) R)
 made_decl acts.EndSpecs N R = taking (shared_in R) (λ s R. Some (record { nodes = N; stack = R }))
 made_decl acts.DropSpecs N R = taking (decl_in R) (λ d R. taking (shared_in R) (λ s R. puts N (pieces.Decl d) R))
 made_decl a N R = made_list a N R
@@ -121,9 +86,9 @@ made_decl a N R = made_list a N R
 unfoldable pub made_declr : Action → Nodes → List Piece → Option Built
 made_declr (acts.Named f n) N R = puts N (pieces.Declarator (record { parts = []; name = Some n; from = f })) R
 made_declr (acts.Nameless f) N R = puts N (pieces.Declarator (record { parts = []; name = None; from = f })) R
-made_declr (acts.Pointer f) N R = taking (declarator_in R) (λ d R. puts N (pieces.Declarator (with_part d f parts.Pointer)) R)
-made_declr (acts.Array f) N R = taking (expr_in R) (λ x R. taking (declarator_in R) (λ d R. puts N (pieces.Declarator (with_part d f (parts.Array x))) R))
-made_declr (acts.Params f) N R = taking (decls_in R) (λ ds R. taking (declarator_in R) (λ d R. puts N (pieces.Declarator (with_part d f (parts.Params ds))) R))
+made_declr (acts.Pointer f) N R = add_part N f parts.Pointer R
+made_declr (acts.Array f) N R = taking (expr_in R) (λ x R. add_part N f (parts.Array x) R)
+made_declr (acts.Params f) N R = taking (decls_in R) (λ ds R. add_part N f (parts.Params ds) R)
 made_declr a N R = made_decl a N R
 
 -- lists of expressions, and expressions that may lack
@@ -144,16 +109,20 @@ made_several (acts.Index f) N R = taking (expr_in R) (λ y R. taking (expr_in R)
 made_several (acts.Call f) N R = taking (exprs_in R) (λ xs R. taking (expr_in R) (λ x R. put_expr N f (exprs.Call x xs) R))
 made_several a N R = made_exprs a N R
 
--- expressions of one part or none
-unfoldable pub made_expr : Action → Nodes → List Piece → Option Built
-made_expr (acts.Name f n) N R = put_expr N f (exprs.Name n) R
-made_expr (acts.Number f v s d) N R = put_expr N f (exprs.Number v s d) R
-made_expr (acts.Char f v) N R = put_expr N f (exprs.Char v) R
-made_expr (acts.Text f n) N R = put_expr N f (exprs.Text n) R
-made_expr (acts.Prefix f s) N R = taking (expr_in R) (λ x R. put_expr N f (exprs.Prefix s x) R)
-made_expr (acts.Postfix f s) N R = taking (expr_in R) (λ x R. put_expr N f (exprs.Postfix s x) R)
-made_expr (acts.SizeofExpr f) N R = taking (expr_in R) (λ x R. put_expr N f (exprs.SizeofExpr x) R)
-made_expr (acts.SizeofType f) N R = taking (decl_in R) (λ d R. put_expr N f (exprs.SizeofType d) R)
-made_expr (acts.Member f n) N R = taking (expr_in R) (λ x R. put_expr N f (exprs.Member x n) R)
-made_expr (acts.Arrow f n) N R = taking (expr_in R) (λ x R. put_expr N f (exprs.Arrow x n) R)
-made_expr a N R = made_several a N R
+-- expressions of one part
+unfoldable pub made_part : Action → Nodes → List Piece → Option Built
+made_part (acts.Prefix f s) N R = taking (expr_in R) (λ x R. put_expr N f (exprs.Prefix s x) R)
+made_part (acts.Postfix f s) N R = taking (expr_in R) (λ x R. put_expr N f (exprs.Postfix s x) R)
+made_part (acts.SizeofExpr f) N R = taking (expr_in R) (λ x R. put_expr N f (exprs.SizeofExpr x) R)
+made_part (acts.SizeofType f) N R = taking (decl_in R) (λ d R. put_expr N f (exprs.SizeofType d) R)
+made_part (acts.Member f n) N R = taking (expr_in R) (λ x R. put_expr N f (exprs.Member x n) R)
+made_part (acts.Arrow f n) N R = taking (expr_in R) (λ x R. put_expr N f (exprs.Arrow x n) R)
+made_part a N R = made_several a N R
+
+-- expressions without parts
+unfoldable pub made_leaf : Action → Nodes → List Piece → Option Built
+made_leaf (acts.Name f n) N R = put_expr N f (exprs.Name n) R
+made_leaf (acts.Number f v s d) N R = put_expr N f (exprs.Number v s d) R
+made_leaf (acts.Char f v) N R = put_expr N f (exprs.Char v) R
+made_leaf (acts.Text f n) N R = put_expr N f (exprs.Text n) R
+made_leaf a N R = made_part a N R

@@ -13,7 +13,7 @@ use Rattle.c_syntax.specs.declared.statement.Entry.{Entry}
 use Rattle.c_syntax.specs.declared.statement.First.{First as Begin}
 use Rattle.c_syntax.specs.Nodes.{Nodes}
 use Rattle.c_syntax.specs.Syntax.{Expr, Exprs, MaybeExpr, Decl, Decls, Annots, Items, Item as Factors, Atom, Parts, Value, Values, Stmt, Entries, First}
-use Rattle.c_syntax.specs.Stands.{Stands, StandExprs, StandsMaybe, StandsDecl, StandDecls, StandAnnots, StandsItem, StandItems, StandsAtom, StandParts, StandsValue, StandValues, StandsStmt, StandEntries, StandsFirst}
+use Rattle.c_syntax.specs.Stands.{Stands, StandExprs, StandsMaybe, StandsDecl, StandDecls, StandAnnots, StandsItem, StandItems, StandsAtom, StandParts, StandsValue, StandValues, StandsStmt, StandEntries, StandsFirst, Holds}
 use Rattle.c_postfix.specs.declared.action.Action.{Action}
 use Rattle.c_postfix.specs.Pieces.{Piece as Tree, PExpr, PExprs, PMaybe, PDeclr, PSpecs, PDecl, PDecls, PAnnots, PAnnot, PItem, PAtom, PValue, PValues, PEntries, PStmt, PFirst, PTag, PBroken, act}
 use Rattle.c_tree.specs.declared.piece.Piece.{Piece}
@@ -61,3 +61,9 @@ Follows (Err errors.Memory) b P = Unit {0}
 -- the builder does what the action does to each stack that its own stands for
 abbrev pub Steps : Action → Builder → Result (Unit {0}) BuildError → Builder → Type 0
 Steps a b r c = (P : List Tree) → Holding b P → Follows r c (act a P)
+
+-- the tree holds each source that alone waits, and there is none where the actions are unfit
+abbrev pub IsFinished : Result Nodes BuildError → Builder → Type 0
+IsFinished (Ok t) b = (ds : Decls) → Holding b (PDecls ds ∷ []) → Holds t ds
+IsFinished (Err errors.Unfit) b = (ds : Decls) → Holding b (PDecls ds ∷ []) → ⊥
+IsFinished (Err errors.Memory) b = Unit {0}

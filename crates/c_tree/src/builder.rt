@@ -2,7 +2,7 @@
 
 ghost use Rattle.std.specs.Prelude.{◌≡◌, ◌∷◌, ◌++◌, [], length, IfOk, IfErr, OnOk, MatchOption, reverse};
 ghost use Rattle.c_tree.specs.IsMade.{IsMade};
-ghost use Rattle.c_tree.specs.Made.{puts, put_expr, put_stmt, put_decl};
+ghost use Rattle.c_tree.specs.Built.{puts, put_expr, put_stmt, put_decl};
 ghost use Rattle.c_tree.specs.Seen.{nodes_seen, stack_seen};
 ghost use Rattle.c_tree.specs.Nodes.{with_decl, with_stmt, with_expr, no_nodes};
 
@@ -62,6 +62,13 @@ pub fn with_last<T: Drop>(items: Seq<T>, last: T) -> Result<Seq<T>, BuildError>
     Ok(Seq::from(items))
 }
 
+/// No items.
+pub fn empty<T>(alloc: Global) -> Seq<T>
+    ensures { result ≡ [] }
+{
+    Seq::from(Vec::new(alloc))
+}
+
 /// The list from back to front.
 fn reversed<T>(items: Seq<T>) -> Seq<T>
     ensures { result ≡ reverse items }
@@ -84,6 +91,7 @@ fn next_number(count: usize) -> Result<u32, BuildError>
 
 impl Builder {
     /// Nothing has been built.
+    #[tactic(auto, unfolding(crate::specs::Seen::nodes_seen, crate::specs::Seen::stack_seen))]
     pub fn new(alloc: Global) -> Builder
         ensures nodes { nodes_seen result ≡ no_nodes }
         ensures stack { stack_seen result ≡ [] }
@@ -101,7 +109,7 @@ impl Builder {
     pub fn put(&mut self, piece: Piece) -> Result<(), BuildError>
         ensures made { IsMade result self.new (puts (nodes_seen self.old) piece (stack_seen self.old)) }
         ensures stack { OnOk result (stack_seen self.new ≡ piece ∷ stack_seen self.old) }
-        ensures nodes { OnOk result (nodes_seen self.new ≡ nodes_seen self.old) }
+        ensures nodes { nodes_seen self.new ≡ nodes_seen self.old }
         ensures memory { IfErr result (λ e. e ≡ BuildError.Memory) }
     {
         append(&mut self.stack, piece)
@@ -116,8 +124,9 @@ impl Builder {
     }
 
     /// A new expression.
+    #[tactic(auto, unfolding(crate::specs::Seen::nodes_seen, crate::specs::Seen::stack_seen))]
     fn add_expr(&mut self, expr: Expr) -> Result<ExprId, BuildError>
-        ensures number { IfOk result (λ i. i.0 ≡ length (nodes_seen self.old).exprs) }
+        ensures number { IfOk result (λ i. i ≡ record { 0 = length (nodes_seen self.old).exprs }) }
         ensures nodes { OnOk result (nodes_seen self.new ≡ with_expr (nodes_seen self.old) expr) }
         ensures stack { OnOk result (stack_seen self.new ≡ stack_seen self.old) }
         ensures memory { IfErr result (λ e. e ≡ BuildError.Memory) }
@@ -128,8 +137,9 @@ impl Builder {
     }
 
     /// A new statement.
+    #[tactic(auto, unfolding(crate::specs::Seen::nodes_seen, crate::specs::Seen::stack_seen))]
     fn add_stmt(&mut self, stmt: Stmt) -> Result<StmtId, BuildError>
-        ensures number { IfOk result (λ i. i.0 ≡ length (nodes_seen self.old).stmts) }
+        ensures number { IfOk result (λ i. i ≡ record { 0 = length (nodes_seen self.old).stmts }) }
         ensures nodes { OnOk result (nodes_seen self.new ≡ with_stmt (nodes_seen self.old) stmt) }
         ensures stack { OnOk result (stack_seen self.new ≡ stack_seen self.old) }
         ensures memory { IfErr result (λ e. e ≡ BuildError.Memory) }
@@ -140,8 +150,9 @@ impl Builder {
     }
 
     /// A new declaration.
+    #[tactic(auto, unfolding(crate::specs::Seen::nodes_seen, crate::specs::Seen::stack_seen))]
     pub fn add_decl(&mut self, decl: Decl) -> Result<DeclId, BuildError>
-        ensures number { IfOk result (λ i. i.0 ≡ length (nodes_seen self.old).decls) }
+        ensures number { IfOk result (λ i. i ≡ record { 0 = length (nodes_seen self.old).decls }) }
         ensures nodes { OnOk result (nodes_seen self.new ≡ with_decl (nodes_seen self.old) decl) }
         ensures stack { OnOk result (stack_seen self.new ≡ stack_seen self.old) }
         ensures memory { IfErr result (λ e. e ≡ BuildError.Memory) }
