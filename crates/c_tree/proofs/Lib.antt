@@ -7,3 +7,6 @@ pub mod LikeAnnot
 pub mod LikeStmt
 pub mod LikeAll
 pub mod Broken
+pub mod Run
+pub mod Braced
+pub mod Finished

@@ -38,10 +38,17 @@ impl Builder {
     fn finish(mut self) -> Result<Tree, BuildError>
         ensures { IsFinished result self }
     {
-        let tops = self.pop_decls()?;
-        match self.pop() {
-            None => Ok(Tree::new(self.decls, self.stmts, self.exprs, tops.into_vec())),
-            Some(_) => Err(BuildError::Unfit),
+        match self.pop_decls() {
+            Ok(tops) => match self.pop() {
+                None => Ok(Tree::new(
+                    self.decls,
+                    self.stmts,
+                    self.exprs,
+                    tops.into_vec(),
+                )),
+                Some(_) => Err(BuildError::Unfit),
+            },
+            Err(error) => Err(error),
         }
     }
 }
