@@ -13,3 +13,6 @@ mod takes;
 
 pub use building::build;
 pub use builder::BuildError;
+
+#[cfg(test)]
+mod tests;
