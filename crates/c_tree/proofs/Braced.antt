@@ -1,5 +1,5 @@
 -- Lists of values in braces.
-use Rattle.std.proofs.Common.{◌≡◌, ◌∙◌, ℕ, List, [], ◌∷◌, Option, Some, None, Result, Ok, Err, OnOk, IfErr, Vec, refl, ap}
+use Rattle.std.proofs.Common.{◌≡◌, ◌∙◌, ℕ, List, ◌∷◌, Some, Result, Ok, Err, OnOk, IfErr, Vec, refl, ap}
 use Rattle.std.specs.declared.alloc.Global.{Global}
 use Rattle.c_syntax.specs.declared.declaration.Value.{Value, roll-Value}
 use Rattle.c_syntax.specs.declared.declaration.Value.TheViews.{out-roll-Value}

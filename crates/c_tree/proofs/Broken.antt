@@ -1,5 +1,5 @@
 -- A broken stack stays broken.
-use Rattle.std.proofs.Common.{◌≡◌, List, [], ◌∷◌, ◌++◌}
+use Rattle.std.proofs.Common.{List, [], ◌∷◌}
 use Rattle.c_postfix.specs.declared.action.Action.{Action}
 use Rattle.c_postfix.specs.declared.action.Action.TheVariants as acts
 use Rattle.c_postfix.specs.Pieces.{Piece, PExpr, PExprs, PMaybe, PDeclr, PSpecs, PDecl, PDecls, PAnnots, PAnnot, PItem, PAtom, PValue, PValues, PEntries, PStmt, PFirst, PTag, PBroken, act, acted}

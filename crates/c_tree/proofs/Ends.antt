@@ -1,8 +1,6 @@
 -- Lists with one more at their end, and nodes that are new.
-use Rattle.std.proofs.Common.{◌≡◌, ℕ, zero, suc, List, [], ◌∷◌, ◌++◌, length, slice_get, Option, Some, None, refl, ap, sym, ◌∙◌}
-use Rattle.std.proofs.lemmas.List.{reverse-append}
+use Rattle.std.proofs.Common.{◌≡◌, ℕ, zero, suc, List, [], ◌∷◌, ◌++◌, length, slice_get, Some, refl}
 use Rattle.c_syntax.specs.declared.id.DeclId.{DeclId}
-use Rattle.c_syntax.specs.declared.id.StmtId.{StmtId}
 use Rattle.c_syntax.specs.declared.id.ExprId.{ExprId}
 use Rattle.c_syntax.specs.declared.expression.Expr.{Expr as ExprNode}
 use Rattle.c_syntax.specs.declared.expression.ExprKind.{ExprKind}

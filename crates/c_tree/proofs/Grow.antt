@@ -1,5 +1,5 @@
 -- What stands in some nodes stands where there are more.
-use Rattle.std.proofs.Common.{◌≡◌, ℕ, List, Option, Some, length, slice_get, ◌++◌, ◌∷◌, []}
+use Rattle.std.proofs.Common.{◌≡◌, ℕ, List, Option, Some}
 use Rattle.c_syntax.specs.declared.id.DeclId.{DeclId}
 use Rattle.c_syntax.specs.declared.id.StmtId.{StmtId}
 use Rattle.c_syntax.specs.declared.id.ExprId.{ExprId}

@@ -1,5 +1,4 @@
 -- Each action does to pieces with numbers what it does to trees.
-use Rattle.std.proofs.Common.{◌≡◌, refl}
 use Rattle.c_postfix.specs.declared.action.Action.{Action}
 use Rattle.c_postfix.specs.declared.action.Action.TheVariants as acts
 use Rattle.c_tree.specs.Made.{made_leaf, made_part, made_several, made_exprs, made_declr, made_decl, made_list, made_annot, made_item, made_value, made_entry, made_stmt, made_control}

@@ -1,29 +1,14 @@
 -- Actions on annotations and values do to pieces with numbers what they do to trees.
-use Rattle.std.proofs.Common.{◌≡◌, ℕ, ℤ, Bool, List, [], ◌∷◌, ◌++◌, length, reverse, Option, Some, None, refl}
-use Rattle.std.proofs.lemmas.List.{reverse-append}
-use Rattle.c_lexer.specs.declared.token.Sign.{Sign}
-use Rattle.c_lexer.specs.declared.token.Suffix.{Suffix}
-use Rattle.c_syntax.specs.declared.expression.ExprKind.TheVariants as exprs
-use Rattle.c_syntax.specs.declared.statement.StmtKind.TheVariants as stmts
-use Rattle.c_syntax.specs.declared.statement.Entry.TheVariants as entries
-use Rattle.c_syntax.specs.declared.statement.First.TheVariants as firsts
-use Rattle.c_syntax.specs.declared.declaration.Decl.{Decl as DeclNode}
-use Rattle.c_syntax.specs.declared.declaration.Base.{Base}
-use Rattle.c_syntax.specs.declared.declaration.Base.TheVariants as bases
+use Rattle.std.proofs.Common.{ℕ, List, [], refl}
 use Rattle.c_syntax.specs.declared.declaration.Atom.TheVariants as atoms
-use Rattle.c_syntax.specs.declared.declaration.PartKind.TheVariants as parts
-use Rattle.c_syntax.specs.declared.declaration.Rest.TheVariants as rests
 use Rattle.c_syntax.specs.declared.declaration.Value.TheViews.{roll-Value, out-roll-Value}
 use Rattle.c_syntax.specs.declared.declaration.Value.TheOpen.{Value-F}
-use Rattle.c_syntax.specs.Nodes.{Nodes}
 use Rattle.c_syntax.specs.Syntax as c
 use Rattle.c_postfix.specs.declared.action.Action.TheVariants as acts
-use Rattle.c_tree.specs.Nodes.{with_decl, with_stmt, with_expr}
 use Rattle.c_tree.specs.Made.{made_annot, made_item, made_value}
 use Rattle.c_tree.specs.Stacked as on
-use Rattle.c_tree.proofs.Grow.{Grows, grow, grow_exprs, grow_maybe, grow_decl, grow_decls, grow_annots, grow_parts, grow_value, grow_stmt, grow_entries, grow_first}
-use Rattle.c_tree.proofs.Ends.{new_expr, new_stmt, new_decl, grows_expr, grows_stmt, grows_decl, exprs_end, decls_end, annots_end, items_end, values_end, entries_end}
-use Rattle.c_tree.proofs.Likewise.{Likewise, grow_stack}
+use Rattle.c_tree.proofs.Ends.{annots_end, items_end, values_end}
+use Rattle.c_tree.proofs.Likewise.{Likewise}
 
 pub like_no_annots : Likewise (made_annot acts.NoAnnots) acts.NoAnnots
 unfolding made_annot

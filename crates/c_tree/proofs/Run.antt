@@ -1,5 +1,5 @@
 -- Actions from first to last.
-use Rattle.std.proofs.Common.{◌≡◌, ◌∙◌, ℕ, List, [], ◌∷◌, ◌++◌, length, reverse, Option, Some, None, Result, Ok, Err, IfOk, IfErr, refl, sym, ap, arith}
+use Rattle.std.proofs.Common.{◌≡◌, ◌∙◌, ℕ, List, [], ◌∷◌, ◌++◌, length, reverse, Option, Result, Ok, Err, IfOk, IfErr, refl, sym, ap, arith}
 use Rattle.std.proofs.lemmas.List.{reverse-append}
 use Rattle.c_syntax.specs.Nodes.{Nodes}
 use Rattle.c_syntax.specs.Stands.{Holds}
@@ -7,7 +7,7 @@ use Rattle.c_syntax.specs.Syntax.{Decls}
 use Rattle.c_postfix.specs.declared.action.Action.{Action}
 use Rattle.c_postfix.specs.declared.action.Action.TheVariants as acts
 use Rattle.c_postfix.specs.Builds.{Builds}
-use Rattle.c_postfix.specs.Pieces.{Piece as Tree, PDecls, PBroken, act, acted}
+use Rattle.c_postfix.specs.Pieces.{Piece as Tree, PDecls, act, acted}
 use Rattle.c_tree.specs.declared.builder.Builder.{Builder}
 use Rattle.c_tree.specs.declared.builder.BuildError.{BuildError}
 use Rattle.c_tree.specs.declared.builder.BuildError.TheVariants as errors
@@ -54,9 +54,9 @@ is_other _ h = tt
 pub unfit_on : (e : BuildError) (c : Builder) (a : Action) (rest v : List Action) (P : List Tree) → Follows (Err e) c (act a P) → acted (reverse (a ∷ rest)) P ≡ acted (reverse v) [] → IsUnfit v e
 unfit_on errors.Unfit c a rest v P h k =
     λ ds built.
-      let broken : IsBroken (acted (reverse rest) (act a P)) = broken_acted (reverse rest) (act a P) (rw h tt) in
-      let e : acted (reverse rest) (act a P) ≡ PDecls ds ∷ [] = sym (acted_next rest a P) ∙ k ∙ built in
-      rw e at broken
+    let broken : IsBroken (acted (reverse rest) (act a P)) = broken_acted (reverse rest) (act a P) (rw h tt) in
+    let e : acted (reverse rest) (act a P) ≡ PDecls ds ∷ [] = sym (acted_next rest a P) ∙ k ∙ built in
+    rw e at broken
 unfit_on errors.Memory c a rest v P h k = tt
 
 pub built_end : (r : Result Nodes BuildError) (b : Builder) (v : List Action) (P : List Tree) → IsFinished r b → Holding b P → P ≡ acted (reverse v) [] → IfOk r (λ t. (ds : Decls) → Builds v ds → Holds t ds)

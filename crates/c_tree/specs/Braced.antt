@@ -1,5 +1,5 @@
 -- What closes a list of values in braces.
-use Rattle.std.specs.Prelude.{◌≡◌, ℕ, List, ◌∷◌, Option, Some, None, Result, Ok, Err, Vec}
+use Rattle.std.specs.Prelude.{◌≡◌, ℕ, List, ◌∷◌, Some, None, Result, Ok, Err, Vec}
 use Rattle.std.specs.declared.alloc.Global.{Global}
 use Rattle.c_syntax.specs.declared.declaration.Value.{Value, roll-Value}
 use Rattle.c_syntax.specs.declared.declaration.Value.TheOpen.{Value-F}

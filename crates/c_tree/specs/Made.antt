@@ -1,5 +1,5 @@
 -- What actions make of nodes and pieces: as `act` of `c_postfix`, with numbers of nodes in place of trees.
-use Rattle.std.specs.Prelude.{ℕ, List, [], ◌∷◌, ◌++◌, length, Option, Some, None}
+use Rattle.std.specs.Prelude.{List, [], ◌∷◌, ◌++◌, length, Option, Some, None}
 use Rattle.c_syntax.specs.declared.expression.ExprKind.TheVariants as exprs
 use Rattle.c_syntax.specs.declared.statement.StmtKind.TheVariants as stmts
 use Rattle.c_syntax.specs.declared.statement.Entry.TheVariants as entries

@@ -1,5 +1,5 @@
 -- What lies on top of a stack, where it is a piece of the kind that is named, and the pieces below.
-use Rattle.std.specs.Prelude.{List, [], ◌∷◌, Option, Some, None}
+use Rattle.std.specs.Prelude.{List, ◌∷◌, Option, Some, None}
 use Rattle.c_syntax.specs.declared.id.DeclId.{DeclId}
 use Rattle.c_syntax.specs.declared.id.StmtId.{StmtId}
 use Rattle.c_syntax.specs.declared.id.ExprId.{ExprId}

@@ -60,7 +60,11 @@ impl Builder {
             Action::TwoFactors(from) => {
                 let b = self.pop_atom()?;
                 let a = self.pop_atom()?;
-                self.put(Piece::Item(Item { from, a, b: Some(b) }))
+                self.put(Piece::Item(Item {
+                    from,
+                    a,
+                    b: Some(b),
+                }))
             }
             other => self.make_value(other),
         }

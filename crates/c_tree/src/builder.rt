@@ -7,7 +7,7 @@ ghost use Rattle.c_tree.specs.Seen.{nodes_seen, stack_seen};
 ghost use Rattle.c_tree.specs.Nodes.{with_decl, with_stmt, with_expr, no_nodes};
 
 use crate::copy::{copy_annots, copy_base};
-use crate::piece::{Piece, Shared, Declarator};
+use crate::piece::{Declarator, Piece, Shared};
 use c_syntax::{Decl, DeclId, Expr, ExprId, ExprKind, Rest, Seq, Stmt, StmtId, StmtKind};
 use std::alloc::{AllocError, Global};
 
@@ -179,7 +179,12 @@ impl Builder {
     }
 
     /// Puts back what a declaration's names share, and on top of it a new declaration with a copy of that.
-    pub fn put_decl(&mut self, declarator: Declarator, shared: Shared, rest: Rest) -> Result<(), BuildError>
+    pub fn put_decl(
+        &mut self,
+        declarator: Declarator,
+        shared: Shared,
+        rest: Rest,
+    ) -> Result<(), BuildError>
         ensures { IsMade result self.new (put_decl (nodes_seen self.old) declarator shared rest (stack_seen self.old)) }
     {
         let annots = copy_annots(self.alloc, shared.annots.as_slice())?;

@@ -40,12 +40,7 @@ impl Builder {
     {
         match self.pop_decls() {
             Ok(tops) => match self.pop() {
-                None => Ok(Tree::new(
-                    self.decls,
-                    self.stmts,
-                    self.exprs,
-                    tops.into_vec(),
-                )),
+                None => Ok(Tree::new(self.decls, self.stmts, self.exprs, tops.into_vec())),
                 Some(_) => Err(BuildError::Unfit),
             },
             Err(error) => Err(error),

@@ -2,8 +2,8 @@
 #![tactic(auto)]
 
 mod annotation;
-mod building;
 mod builder;
+mod building;
 mod copy;
 mod declaration;
 mod expression;
@@ -11,8 +11,8 @@ mod piece;
 mod statement;
 mod takes;
 
-pub use building::build;
 pub use builder::BuildError;
+pub use building::build;
 
 #[cfg(test)]
 mod tests;

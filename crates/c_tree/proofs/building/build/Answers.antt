@@ -1,5 +1,5 @@
-use Rattle.std.proofs.Common.{◌≡◌, ◌∙◌, List, [], ◌∷◌, length, reverse, Result, Ok, Err, IfErr, IsErrAnd, refl, sym, ap, rules, arith}
-use Rattle.std.specs.Vec.Iter.{into_iter_items, into_iter_len}
+use Rattle.std.proofs.Common.{◌≡◌, ◌∙◌, List, [], ◌∷◌, length, reverse, Result, Ok, Err, IfErr, IsErrAnd, sym, ap, rules, arith}
+use Rattle.std.specs.Vec.Iter.{into_iter_items}
 use Rattle.c_postfix.specs.declared.action.Action.{Action}
 use Rattle.c_postfix.specs.Pieces.{act, acted}
 use Rattle.c_syntax.specs.Nodes.{Nodes}
@@ -16,12 +16,13 @@ pub loop-action-preserved : goal.loop-action-preserved
 loop-action-preserved c =
     let at = c.loop-action in
     let a = c.in-Some.action in
-    let steps : into_iter_items at.action-iterator ≡ a ∷ into_iter_items c.next.new.self = c.in-Some.ensures.steps.0 in
-    ((act a at.invariant.0.0, c.in_ok-step.ensures at.invariant.0.0 at.invariant.0.1, sym (acted_next (into_iter_items c.next.new.self) a at.invariant.0.0) ∙ (rw steps at at.invariant.0.2)),
+    let steps : into_iter_items at.action-iterator ≡ a ∷ into_iter_items c.next.new.self = c.in-Some.ensures.steps.0 in (
+      (act a at.invariant.0.0, c.in_ok-step.ensures at.invariant.0.0 at.invariant.0.1, sym (acted_next (into_iter_items c.next.new.self) a at.invariant.0.0) ∙ (rw steps at at.invariant.0.2)),
       let was = at.invariant.1 in
-      let gone = c.in-Some.ensures.steps.1 in
-      let short = ap length steps in
-      omega arith)
+          let gone = c.in-Some.ensures.steps.1 in
+          let short = ap length steps in
+          omega arith,
+    )
 
 passed : (r : Result Nodes BuildError) (e : BuildError) (v : List Action) → IsErrAnd r (λ x. x ≡ e) → IsUnfit v e → IfErr r (λ x. IsUnfit v x)
 passed (Ok _) e v h k = tt
