@@ -1,0 +1,9 @@
+//! The tree of a C source, from its tokens.
+#![tactic(auto)]
+
+mod parsing;
+
+pub use parsing::{ParseError, parse};
+
+#[cfg(test)]
+mod tests;
