@@ -1,3 +1,4 @@
+pub mod Foretold
 pub mod Runs
 pub mod Moves
 pub mod Firsts
@@ -10,5 +11,6 @@ pub mod Good
 pub mod Sound
 pub mod SoundDeclr
 pub mod SoundSource
+pub mod Onward
 pub mod Less
 pub mod Exact

@@ -1,5 +1,6 @@
 pub mod Marks
 pub mod Words
+pub mod Ahead
 pub mod Machine
 pub mod Seen
 pub mod Pieces

@@ -4,14 +4,16 @@ ghost use Rattle.std.specs.Prelude.{◌≡◌, ◌++◌, ◌∷◌, [], IfOk, Op
 ghost use Rattle.c_postfix.specs.Machine.{moved, groups, unnamed, in_group, give_name, declr, params, direct, end_acts, end_next, with_value, with_body, named, param_end, type_end, type_closes, declared, annotated, typed, targeted, placed, move, named_group, is_top};
 ghost use Rattle.c_postfix.specs.Seen.{acts_seen, opens_seen, seen};
 ghost use Rattle.c_postfix.specs.Words.{lists, skip_consts, take_specs};
+ghost use Rattle.c_postfix.specs.Ahead.{Foretells};
 ghost use Rattle.c_postfix.specs.Marks.{mark_at};
 ghost use Rattle.c_syntax.specs.Levels.{lone_void, from_of};
 
 use crate::action::Action;
+use crate::ahead::annots_follow;
 use crate::frame::{Frame, Naming, Next, Place, Target};
 use crate::mark::{Mark, from_first, mark_first, void_first};
 use crate::parser::{Parser, Went, copy, skip_one};
-use crate::words::{after_consts, annots_follow, specs};
+use crate::words::{after_consts, specs};
 use c_lexer::{Kind, Sign, Text, Token};
 use std::alloc::Global;
 
@@ -25,7 +27,8 @@ fn names_group(naming: Naming) -> bool
 }
 
 #[tactic(auto, unfolding(crate::specs::Machine::groups))]
-fn opens_group(naming: Naming, rest: &[Token]) -> bool
+fn opens_group(ahead: &[bool], naming: Naming, rest: &[Token]) -> bool
+    requires { Foretells ahead.now rest.now }
     ensures { result ≡ groups naming rest.now }
 {
     match rest {
@@ -36,14 +39,14 @@ fn opens_group(naming: Naming, rest: &[Token]) -> bool
                 Kind::Name(_) => names_group(naming),
                 Kind::Sign(Sign::Star) => true,
                 Kind::Sign(Sign::OpenParenthesis) => true,
-                Kind::Sign(Sign::OpenBracket) => !annots_follow(others),
+                Kind::Sign(Sign::OpenBracket) => !annots_follow(ahead, others),
                 _ => false,
             },
         },
     }
 }
 
-fn at_top(target: Target) -> bool
+pub fn at_top(target: Target) -> bool
     ensures { result ≡ is_top target }
 {
     match target {
@@ -91,14 +94,16 @@ impl Parser {
     #[tactic(auto, unfolding(crate::specs::Machine::in_group))]
     fn in_brackets<'a>(
         &mut self,
+        ahead: &[bool],
         naming: Naming,
         from: u32,
         whole: &'a [Token],
         rest: &'a [Token],
     ) -> Went<'a>
+        requires { Foretells ahead.now rest.now }
         ensures { IfOk result (λ x. seen x.0 x.1.now self.new ≡ moved (in_group (groups naming rest.now) naming from whole.now rest.now (opens_seen self.old)) (acts_seen self.old)) }
     {
-        if opens_group(naming, rest) {
+        if opens_group(ahead, naming, rest) {
             self.open(Frame::Grouped)?;
             Ok((Next::Declr(naming, from), rest))
         } else {
@@ -110,12 +115,14 @@ impl Parser {
     pub fn start_declr<'a>(
         &mut self,
         alloc: Global,
+        ahead: &[bool],
         naming: Naming,
         from: u32,
         first: &'a Token,
         whole: &'a [Token],
         rest: &'a [Token],
     ) -> Went<'a>
+        requires { Foretells ahead.now rest.now }
         ensures { IfOk result (λ x. seen x.0 x.1.now self.new ≡ moved (declr first.now.kind naming from first.now.from whole.now rest.now (opens_seen self.old)) (acts_seen self.old)) }
     {
         match &first.kind {
@@ -124,7 +131,7 @@ impl Parser {
                 self.open(Frame::Pointer(first.from))?;
                 Ok((Next::Declr(naming, from), after_consts(rest)))
             }
-            Kind::Sign(Sign::OpenParenthesis) => self.in_brackets(naming, from, whole, rest),
+            Kind::Sign(Sign::OpenParenthesis) => self.in_brackets(ahead, naming, from, whole, rest),
             _ => self.without_name(naming, from, whole),
         }
     }

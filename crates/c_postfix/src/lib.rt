@@ -2,6 +2,7 @@
 #![tactic(auto)]
 
 mod action;
+mod ahead;
 mod annotation;
 mod declarator;
 mod expression;
@@ -11,6 +12,7 @@ mod law;
 mod mark;
 mod parser;
 mod postfix;
+mod refusal;
 mod statement;
 mod step;
 mod top;
@@ -19,3 +21,6 @@ mod words;
 pub use action::Action;
 pub use law::one_tree;
 pub use postfix::{PostfixError, actions};
+
+#[cfg(test)]
+mod tests;

@@ -38,6 +38,11 @@ impl Parser {
         self.frames.pop()
     }
 
+    /// The construct that was opened last, which stays open.
+    pub fn newest(&self) -> Option<Frame> {
+        self.frames.last().copied()
+    }
+
     pub fn emit(&mut self, action: Action) -> Result<(), AllocError>
         ensures acts { OnOk result (acts_seen self.new ≡ action ∷ acts_seen self.old) }
         ensures opens { OnOk result (opens_seen self.new ≡ opens_seen self.old) }

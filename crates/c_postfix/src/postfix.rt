@@ -5,8 +5,10 @@ ghost use Rattle.c_postfix.specs.Machine.{works};
 ghost use Rattle.c_postfix.specs.Builds.{Found, Only, Refused};
 
 use crate::action::Action;
+use crate::ahead::look_ahead;
 use crate::frame::Next;
 use crate::parser::Parser;
+use crate::refusal::Step;
 use c_lexer::Token;
 use std::alloc::{AllocError, Global};
 
@@ -41,6 +43,7 @@ pub fn actions(alloc: Global, tokens: &[Token]) -> Result<Vec<Action>, PostfixEr
     // What is refused has no tree.
     ensures none { IfErr result (λ e. Refused tokens.now e) }
 {
+    let ahead = look_ahead(alloc, tokens)?;
     let mut parser = Parser {
         actions: Vec::new(alloc),
         frames: Vec::new(alloc),
@@ -48,16 +51,24 @@ pub fn actions(alloc: Global, tokens: &[Token]) -> Result<Vec<Action>, PostfixEr
     parser.emit(Action::NoDecls)?;
     let mut next = Next::Top;
     let mut rest = tokens;
-    let mut at = tokens;
+    let mut at = Step {
+        next,
+        open: None,
+        rest,
+    };
     while is_working(next) {
-        at = rest;
-        let (then, others) = parser.step(alloc, next, rest)?;
+        at = Step {
+            next,
+            open: parser.newest(),
+            rest,
+        };
+        let (then, others) = parser.step(alloc, &ahead, next, rest)?;
         next = then;
         rest = others;
     }
     match next {
         Next::End => Ok(parser.into_actions()),
-        _ => Err(PostfixError::Token(place(tokens, at))),
+        _ => Err(PostfixError::Token(at.refusal(alloc, tokens)?)),
     }
 }
 
@@ -67,14 +78,5 @@ fn is_working(next: Next) -> bool
     match next {
         Next::Fail | Next::End => false,
         _ => true,
-    }
-}
-
-/// The offset of the first of the tokens that are left, or of the end.
-fn place(tokens: &[Token], rest: &[Token]) -> u32 {
-    match (rest, tokens) {
-        ([first, ..], _) => first.from,
-        ([], [.., last]) => last.to,
-        _ => 0,
     }
 }

@@ -3,6 +3,7 @@
 ghost use Rattle.std.specs.Prelude.{◌≡◌, ◌++◌, ◌∷◌, [], IfOk};
 ghost use Rattle.c_postfix.specs.Machine.{moved, step, give_next, take_next, read_next};
 ghost use Rattle.c_postfix.specs.Seen.{acts_seen, opens_seen, seen};
+ghost use Rattle.c_postfix.specs.Ahead.{Foretells};
 
 use crate::frame::{Frame, Next, Target};
 use crate::mark::{after_first, begin_kind, from_first, mark_first, type_first};
@@ -34,16 +35,20 @@ impl Parser {
     fn take<'a>(
         &mut self,
         alloc: Global,
+        ahead: &[bool],
         next: Next,
         first: &'a Token,
         whole: &'a [Token],
         rest: &'a [Token],
     ) -> Went<'a>
+        requires { Foretells ahead.now rest.now }
         ensures { IfOk result (λ x. seen x.0 x.1.now self.new ≡ moved (take_next next first.now whole.now rest.now (opens_seen self.old)) (acts_seen self.old)) }
     {
         match next {
             Next::Operand => self.start_operand(alloc, first, rest),
-            Next::Declr(naming, from) => self.start_declr(alloc, naming, from, first, whole, rest),
+            Next::Declr(naming, from) => self.start_declr(
+                alloc, ahead, naming, from, first, whole, rest,
+            ),
             Next::Annot => self.start_annot(alloc, first, rest),
             Next::Atom => self.start_atom(alloc, first, rest),
             Next::Stmt => self.start_stmt(begin_kind(&first.kind), first.from, whole, rest),
@@ -82,9 +87,16 @@ impl Parser {
         }
     }
 
-    /// One step.
+    /// One step, by what the table has of the tokens ahead.
     #[tactic(auto, unfolding(crate::specs::Machine::step))]
-    pub fn step<'a>(&mut self, alloc: Global, next: Next, rest: &'a [Token]) -> Went<'a>
+    pub fn step<'a>(
+        &mut self,
+        alloc: Global,
+        ahead: &[bool],
+        next: Next,
+        rest: &'a [Token],
+    ) -> Went<'a>
+        requires { Foretells ahead.now rest.now }
         ensures { IfOk result (λ x. seen x.0 x.1.now self.new ≡ moved (step next rest.now (opens_seen self.old)) (acts_seen self.old)) }
     {
         match next {
@@ -102,7 +114,7 @@ impl Parser {
             Next::Operand | Next::Declr(_, _) | Next::Annot | Next::Atom | Next::Stmt => {
                 match rest {
                     [] => Ok((Next::Fail, rest)),
-                    [first, others @ ..] => self.take(alloc, next, first, rest, others),
+                    [first, others @ ..] => self.take(alloc, ahead, next, first, rest, others),
                 }
             }
             _ => self.read(alloc, next, rest),

@@ -1,10 +1,9 @@
 // What is read without a construct that stays open.
 
 ghost use Rattle.std.specs.Prelude.{◌≡◌, IfOk, Option, List, false};
-ghost use Rattle.c_postfix.specs.Words.{put_word, take_words, take_specs, skip_consts, lists, scan, step_of, Becomes, SpecsAre, WordsAre};
-ghost use Rattle.c_syntax.specs.TypeWords.{with_core, with_word, with_tag, base_of, no_words, put_sign};
+ghost use Rattle.c_postfix.specs.Words.{put_word, take_words, take_specs, skip_consts, step_of, Becomes, SpecsAre, WordsAre};
+ghost use Rattle.c_syntax.specs.TypeWords.{with_core, with_word, with_tag, base_of, no_words as no_words_yet, put_sign};
 
-use crate::mark::{Mark, mark_kind, type_first};
 use crate::parser::copy;
 use c_lexer::{Kind, Text, Token, Word};
 use c_syntax::{Base, Core, Signedness, Specifiers};
@@ -120,19 +119,25 @@ fn put(
     }
 }
 
+fn no_words() -> Specifiers
+    ensures { result ≡ no_words_yet }
+{
+    Specifiers {
+        core: Core::Absent,
+        sign: Signedness::Absent,
+        storage: false,
+    }
+}
+
 /// The words of a type at the front of the tokens, and what is after them.
 fn words<'a>(
     alloc: Global,
     top: bool,
     tokens: &'a [Token],
 ) -> Result<Option<(Specifiers, &'a [Token])>, AllocError>
-    ensures { IfOk result (λ r. WordsAre r (take_words top false no_words tokens.now)) }
+    ensures { IfOk result (λ r. WordsAre r (take_words top false no_words_yet tokens.now)) }
 {
-    let mut words = Specifiers {
-        core: Core::Absent,
-        sign: Signedness::Absent,
-        storage: false,
-    };
+    let mut words = no_words();
     let mut pending = false;
     let mut rest = tokens;
     while let [first, others @ ..] = rest {
@@ -199,32 +204,15 @@ pub fn after_consts(tokens: &[Token]) -> &[Token]
     rest
 }
 
-/// What follows the square bracket that closes.
-fn after_bracket(tokens: &[Token]) -> &[Token]
-    ensures { result.now ≡ scan 0 tokens.now }
-{
-    let mut rest = tokens;
-    let mut open: usize = 0;
-    while let [first, others @ ..] = rest {
-        rest = others;
-        match mark_kind(&first.kind) {
-            Mark::OpenBracket => open += 1,
-            Mark::CloseBracket => {
-                if open == 0 {
-                    return rest;
-                }
-                open -= 1;
-            }
-            _ => {}
+/// How many tokens at the front are words of one type.
+pub fn words_read(alloc: Global, top: bool, tokens: &[Token]) -> Result<usize, AllocError> {
+    let mut words = no_words();
+    let mut pending = false;
+    for (at, token) in tokens.iter().enumerate() {
+        match put(alloc, &mut words, top, pending, &token.kind)? {
+            Took::More(wants_name) => pending = wants_name,
+            _ => return Ok(at),
         }
     }
-    rest
-}
-
-/// The square bracket before the tokens is that of annotations.
-#[tactic(auto, unfolding(crate::specs::Words::lists))]
-pub fn annots_follow(tokens: &[Token]) -> bool
-    ensures { result ≡ lists tokens.now }
-{
-    type_first(after_bracket(tokens))
+    Ok(tokens.len())
 }

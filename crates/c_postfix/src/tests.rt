@@ -1,0 +1,5 @@
+// Worked examples, by hand from the grammar, and the worst inputs.
+
+mod shown;
+mod tables;
+mod worst;
