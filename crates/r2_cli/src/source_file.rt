@@ -19,7 +19,7 @@ use std::alloc::Global;
 const SOURCE_LIMIT: usize = 1_048_576;
 
 /// How many bytes are asked for at once.
-const PIECE: usize = 65_536;
+const PIECE: usize = 4_096;
 
 fn refused<'a>(rule: SourceRule, at: u32) -> Ending<'a>
     ensures { result ≡ Ending.Source (record { rule = rule; at = at }) }
