@@ -4,3 +4,6 @@
 mod parsing;
 
 pub use parsing::{ParseError, parse};
+
+#[cfg(test)]
+mod tests;

@@ -10,7 +10,7 @@ use Rattle.c_syntax.specs.Syntax.{Decls}
 use Rattle.c_syntax.specs.Sources.{Spells}
 use Rattle.c_syntax.specs.Depth.{LieDecls}
 use Rattle.c_postfix.proofs.Exact as grammar
-use Rattle.c_parser.specs.Parsed.{IsDeepAt}
+use Rattle.c_depth.specs.Deep.{IsDeepAt}
 use Rattle.r2_cli.specs.declared.source_fault.SourceRule.{SourceRule}
 use Rattle.r2_cli.specs.declared.source_fault.SourceRule.TheVariants as rules
 use Rattle.r2_cli.specs.declared.status.Status.TheVariants as status

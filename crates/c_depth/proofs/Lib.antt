@@ -1,0 +1,5 @@
+pub mod Longest
+pub mod Lists
+pub mod Measures
+pub mod Follows
+pub mod Answer

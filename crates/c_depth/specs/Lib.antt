@@ -1,0 +1,4 @@
+pub mod Deep
+pub mod Chains
+pub mod Effects
+pub mod Seen

@@ -1,0 +1,12 @@
+pub mod Grow
+pub mod Ends
+pub mod Likewise
+pub mod LikeExpr
+pub mod LikeDecl
+pub mod LikeAnnot
+pub mod LikeStmt
+pub mod LikeAll
+pub mod Broken
+pub mod Run
+pub mod Braced
+pub mod Finished

@@ -1,0 +1,9 @@
+pub mod Nodes
+pub mod Seen
+pub mod Takes
+pub mod Built
+pub mod IsMade
+pub mod Made
+pub mod Stacked
+pub mod Braced
+pub mod Unfit
