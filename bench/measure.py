@@ -2,18 +2,9 @@
 """Runs `PROGRAM order LOG` and prints its time over that of `sort -n --parallel=1` on its own output, and its peak memory
 over the size of the log."""
 import os
-import subprocess
 import sys
-import time
 
-
-def timed(words, out):
-    """The wall time, the exit status and the peak memory in bytes of a program."""
-    start = time.monotonic()
-    with open(out, "wb") as file:
-        child = subprocess.Popen(words, stdout=file, stderr=subprocess.DEVNULL)
-    _, status, usage = os.wait4(child.pid, 0)
-    return time.monotonic() - start, os.waitstatus_to_exitcode(status), usage.ru_maxrss * 1024
+from timing import timed
 
 
 def main():

@@ -9,8 +9,8 @@ trap 'rm -rf "$scratch"' EXIT
 program=../crates/r2_main/out/r2_main
 
 measure() {
-    python3 spell_logs.py "$1" "$2" "$scratch/$3"
-    python3 measure.py "$program" "$scratch/$3" "$scratch"
+    python3 -B spell_logs.py "$1" "$2" "$scratch/$3"
+    python3 -B measure.py "$program" "$scratch/$3" "$scratch"
     rm -f "$scratch/$3"
 }
 

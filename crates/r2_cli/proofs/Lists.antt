@@ -18,11 +18,23 @@ two_items (a ∷ []) x y some few is it = absurd (omega arith)
 two_items (a ∷ b ∷ []) x y some few is it = ap (λ z. z ∷ b ∷ []) (sym is) ∙ ap (λ z. x ∷ z ∷ []) (sym it)
 two_items (a ∷ b ∷ d ∷ ds) x y some few is it = absurd (omega arith)
 
+pub three_items : {A : Type 0} (xs : List A) (x y z : A) → 3 ≤ length xs → length xs < 4 → x ≡ get_or xs 0 x → y ≡ get_or xs 1 y → z ≡ get_or xs 2 z → xs ≡ x ∷ y ∷ z ∷ []
+three_items [] x y z some few is it at = absurd (omega arith)
+three_items (a ∷ []) x y z some few is it at = absurd (omega arith)
+three_items (a ∷ b ∷ []) x y z some few is it at = absurd (omega arith)
+three_items (a ∷ b ∷ d ∷ []) x y z some few is it at = ap (λ w. w ∷ b ∷ d ∷ []) (sym is) ∙ ap (λ w. x ∷ w ∷ d ∷ []) (sym it) ∙ ap (λ w. x ∷ y ∷ w ∷ []) (sym at)
+three_items (a ∷ b ∷ d ∷ e ∷ es) x y z some few is it at = absurd (omega arith)
+
 pub one_word : {A B : Type 0} (f : A → B) (xs : List A) (x : A) (w : B) → 1 ≤ length xs → length xs < 2 → x ≡ get_or xs 0 x → f x ≡ w → map f xs ≡ w ∷ []
 one_word f xs x w some few is e = ap (map f) (one_item xs x some few is) ∙ ap (λ z. z ∷ []) e
 
 pub two_words : {A B : Type 0} (f : A → B) (xs : List A) (x y : A) (w v : B) → 2 ≤ length xs → length xs < 3 → x ≡ get_or xs 0 x → y ≡ get_or xs 1 y → f x ≡ w → f y ≡ v → map f xs ≡ w ∷ v ∷ []
 two_words f xs x y w v some few is it e d = ap (map f) (two_items xs x y some few is it) ∙ ap (λ z. z ∷ f y ∷ []) e ∙ ap (λ z. w ∷ z ∷ []) d
+
+pub three_words : {A B : Type 0} (f : A → B) (xs : List A) (x y z : A) (w v u : B) → 3 ≤ length xs → length xs < 4 → x ≡ get_or xs 0 x → y ≡ get_or xs 1 y → z ≡ get_or xs 2 z
+    → f x ≡ w → f y ≡ v → f z ≡ u → map f xs ≡ w ∷ v ∷ u ∷ []
+three_words f xs x y z w v u some few is it at e d g = ap (map f) (three_items xs x y z some few is it at)
+    ∙ ap (λ k. k ∷ f y ∷ f z ∷ []) e ∙ ap (λ k. w ∷ k ∷ f z ∷ []) d ∙ ap (λ k. w ∷ v ∷ k ∷ []) g
 
 pub same_bytes : (a b : List ℕ) → bytes_eq a b ≡ true → a ≡ b
 same_bytes a b e = (bytes_eq-Decides a b).0 e

@@ -1,14 +1,14 @@
--- The words and the files decide one outcome.
-use Rattle.std.proofs.Common.{◌≡◌, ◌≢◌, ◌↔◌, ◌<◌, ◌≤◌, ◌+◌, ◌++◌, ◌∷◌, [], ◌⊎◌, inl, inr, ℕ, List, Bool, true, false, IsTrue, Option, Some, None, take, drop, length, sym, ◌∙◌, ap, refl, subst, arith, rules, append_assoc, codes, decimal, min}
+-- The words and the files decide one outcome, but for the place at which tokens are refused.
+use Rattle.std.proofs.Common.{◌≡◌, ◌↔◌, ◌<◌, ◌≤◌, ◌+◌, ◌++◌, ◌∷◌, [], ◌⊎◌, inl, inr, ℕ, List, Bool, true, false, IsTrue, Option, Some, None, take, drop, length, sym, ◌∙◌, ap, refl, subst, arith, append_assoc, codes, decimal, min}
 use Rattle.std.proofs.lemmas.List.{take-append-drop, take-append-le, length-take}
-use Rattle.log_codec.specs.LogText.{Chunk, BeginsLog, IsLog}
+use Rattle.log_codec.specs.LogText.{BeginsLog}
 use Rattle.log_codec.specs.Kept as byte_place
 use Rattle.log_codec.specs.Kept.{KeptLog, StandInFull}
 use Rattle.log_closure.specs.Events.{LogEvent, Part, In, events_of}
 use Rattle.log_closure.specs.Closed.{Precedes, Ordered, IsClosedPart}
 use Rattle.log_closure.specs.Wrong as wrong
 use Rattle.log_closure.specs.declared.error.OrderError.{OrderError}
-use Rattle.r2_cli.specs.Words.{Form, help, version, order, words_of, IsForm, IsUsage}
+use Rattle.r2_cli.specs.Words.{Form, help, version, order, check, words_of, IsForm}
 use Rattle.r2_cli.specs.Outcome.{Outcome, refusal, line_of}
 use Rattle.r2_cli.specs.declared.status.Status.TheVariants as status
 use Rattle.r2_cli.specs.Log.{IsKept, IsLogPart, IsBadLog, bad_byte, bad_event, order_words}
@@ -16,7 +16,9 @@ use Rattle.r2_cli.specs.Order as cases
 use Rattle.r2_cli.specs.Order.{IsOrder}
 use Rattle.r2_cli.specs.OrderText.{order_text}
 use Rattle.r2_cli.specs.Run as run
-use Rattle.r2_cli.specs.Run.{IsAnswerTo, IsAnswer}
+use Rattle.r2_cli.specs.Run.{IsAnswerTo, IsAnswer, SameOutcome}
+use Rattle.r2_cli.specs.Check.{IsCheck}
+use Rattle.r2_cli.proofs.OneCheck.{one_check}
 
 -- ---- lists
 
@@ -195,25 +197,41 @@ one_form : (f g : Form) → words_of f ≡ words_of g → f ≡ g
 one_form help help e = refl
 one_form help version e = absurd (let letter : ◌≡◌ {A = ℕ} 104 118 = cc in omega (arith, letter))
 one_form help (order log) e = absurd cc
+one_form help (check src cut) e = absurd cc
 one_form version help e = absurd (let letter : ◌≡◌ {A = ℕ} 118 104 = cc in omega (arith, letter))
 one_form version version e = refl
 one_form version (order log) e = absurd cc
+one_form version (check src cut) e = absurd cc
 one_form (order log) help e = absurd cc
 one_form (order log) version e = absurd cc
 one_form (order log) (order other) e = ap order (let same : log ≡ other = cc in same)
+one_form (order log) (check src cut) e = absurd cc
+one_form (check src cut) help e = absurd cc
+one_form (check src cut) version e = absurd cc
+one_form (check src cut) (order log) e = absurd cc
+one_form (check src cut) (check other another) e =
+    ap (λ (w : List ℕ). check w cut) (let same : src ≡ other = cc in same) ∙ ap (λ (w : List ℕ). check other w) (let same : cut ≡ another = cc in same)
 
-one_answer_to : (held : List ℕ → Option (List ℕ)) (form : Form) (o p : Outcome) → IsAnswerTo held form o → IsAnswerTo held form p → o ≡ p
-one_answer_to held form o p run.helped run.helped = refl
-one_answer_to held form o p run.versioned run.versioned = refl
-one_answer_to held form o p (run.no_log a) (run.no_log b) = refl
-one_answer_to held form o p (run.no_log a) (run.ordered {bytes = bytes} b is) = absurd (let both : None ≡ Some bytes = sym a ∙ b in cc)
-one_answer_to held form o p (run.ordered {bytes = bytes} a is) (run.no_log b) = absurd (let both : None ≡ Some bytes = sym b ∙ a in cc)
-one_answer_to held form o p (run.ordered {bytes = bytes} a is) (run.ordered {bytes = others} b it) =
-    one_order others o p (subst (λ (w : List ℕ). IsOrder w o) (let both : Some bytes ≡ Some others = sym a ∙ b in cc) is) it
+equal : (words : List (List ℕ)) (o p : Outcome) → o ≡ p → SameOutcome words o p
+equal words o p e = subst (λ (q : Outcome). SameOutcome words o q) e run.same
 
-pub one_answer : (words : List (List ℕ)) (held : List ℕ → Option (List ℕ)) (o p : Outcome) → IsAnswer words held o → IsAnswer words held p → o ≡ p
-one_answer words held o p (run.no_form a) (run.no_form b) = refl
+one_answer_to : (words : List (List ℕ)) (held : List ℕ → Option (List ℕ)) (form : Form) (o p : Outcome) → IsForm words form → IsAnswerTo held form o → IsAnswerTo held form p → SameOutcome words o p
+one_answer_to words held form o p of run.helped run.helped = run.same
+one_answer_to words held form o p of run.versioned run.versioned = run.same
+one_answer_to words held form o p of (run.no_log a) (run.no_log b) = run.same
+one_answer_to words held form o p of (run.no_log a) (run.ordered {bytes = bytes} b is) = absurd (let both : None ≡ Some bytes = sym a ∙ b in cc)
+one_answer_to words held form o p of (run.ordered {bytes = bytes} a is) (run.no_log b) = absurd (let both : None ≡ Some bytes = sym b ∙ a in cc)
+one_answer_to words held form o p of (run.ordered {bytes = bytes} a is) (run.ordered {bytes = others} b it) =
+    equal words o p (one_order others o p (subst (λ (w : List ℕ). IsOrder w o) (let both : Some bytes ≡ Some others = sym a ∙ b in cc) is) it)
+one_answer_to words held form o p of (run.no_source a) (run.no_source b) = run.same
+one_answer_to words held form o p of (run.no_source a) (run.checked {bytes = bytes} b is) = absurd (let both : None ≡ Some bytes = sym a ∙ b in cc)
+one_answer_to words held form o p of (run.checked {bytes = bytes} a is) (run.no_source b) = absurd (let both : None ≡ Some bytes = sym b ∙ a in cc)
+one_answer_to words held form o p of (run.checked {src = src} {cut = cut} {bytes = bytes} a is) (run.checked {bytes = others} b it) =
+    one_check words (check src cut, of, tt) others o p (subst (λ (w : List ℕ). IsCheck w o) (let both : Some bytes ≡ Some others = sym a ∙ b in cc) is) it
+
+pub one_answer : (words : List (List ℕ)) (held : List ℕ → Option (List ℕ)) (o p : Outcome) → IsAnswer words held o → IsAnswer words held p → SameOutcome words o p
+one_answer words held o p (run.no_form a) (run.no_form b) = run.same
 one_answer words held o p (run.no_form a) (run.formed {form = form} is b) = absurd (a form is)
 one_answer words held o p (run.formed {form = form} is a) (run.no_form b) = absurd (b form is)
 one_answer words held o p (run.formed {form = form} is a) (run.formed {form = other} it b) =
-    one_answer_to held other o p (subst (λ (f : Form). IsAnswerTo held f o) (one_form form other (sym is.0 ∙ it.0)) a) b
+    one_answer_to words held other o p it (subst (λ (f : Form). IsAnswerTo held f o) (one_form form other (sym is.0 ∙ it.0)) a) b

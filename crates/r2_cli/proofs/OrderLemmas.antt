@@ -13,9 +13,9 @@ use Rattle.log_closure.specs.declared.error.OrderError.{OrderError}
 use Rattle.log_closure.specs.declared.error.OrderError.TheVariants as order_error
 use Rattle.r2_cli.specs.Endings.{order_ending, print_ending}
 use Rattle.r2_cli.specs.declared.ending.Ending.{Ending}
-use Rattle.r2_cli.specs.declared.ending.Ending.TheVariants.{Done, Usage, Short, LogByte, LogEvent, ReadFault, NoFile, WriteFault, LogLimit, NoMemory}
+use Rattle.r2_cli.specs.declared.ending.Ending.TheVariants.{Done, Usage, Source, Short, LogByte, LogEvent, ReadFault, NoFile, WriteFault, SourceLimit, LogLimit, NoMemory}
 use Rattle.r2_cli.specs.declared.status.Status.TheVariants as status
-use Rattle.r2_cli.specs.Words.{Form, order}
+use Rattle.r2_cli.specs.Words.{Form, order, ReadsLog}
 use Rattle.r2_cli.specs.Outcome.{Outcome, refusal, line_of}
 use Rattle.r2_cli.specs.Log.{IsKept, order_words, bad_byte, bad_event}
 use Rattle.r2_cli.specs.Order.{too_long, wrong, whole, short}
@@ -31,18 +31,21 @@ Held = List ℕ → Option (List ℕ)
 pub cause_of_log : (log : List ℕ) (r s f g : ℕ) (ending : Ending) → LogCause log r s ending → EndingCause (order log) r s f g ending
 cause_of_log log r s f g Done cause = absurd cause
 cause_of_log log r s f g Usage cause = absurd cause
+cause_of_log log r s f g (Source fault) cause = absurd cause
 cause_of_log log r s f g Short cause = absurd cause
 cause_of_log log r s f g (LogByte n) cause = tt
-cause_of_log log r s f g (LogEvent error) cause = cause
+cause_of_log log r s f g (LogEvent error) cause = (tt, cause)
 cause_of_log log r s f g ReadFault cause = cause
 cause_of_log log r s f g (NoFile name) cause = cause
 cause_of_log log r s f g WriteFault cause = absurd cause
+cause_of_log log r s f g SourceLimit cause = absurd cause
 cause_of_log log r s f g LogLimit cause = tt
 cause_of_log log r s f g NoMemory cause = tt
 
 pub refused_log : (log : List ℕ) (held : Held) (r s : ℕ) (told : Option (List ℕ)) (ending : Ending) → LogCause log r s ending → EndsLog (held log) ending → Performs (order log) held told told ending
 refused_log log held r s told Done cause ends = absurd cause
 refused_log log held r s told Usage cause ends = absurd cause
+refused_log log held r s told (Source fault) cause ends = absurd cause
 refused_log log held r s told Short cause ends = absurd cause
 refused_log log held r s told (LogByte n) cause ends = record {
   settles = λ _. record {
@@ -79,6 +82,7 @@ refused_log log held r s told (NoFile name) cause ends = record {
   prints = inl refl;
 }
 refused_log log held r s told WriteFault cause ends = absurd cause
+refused_log log held r s told SourceLimit cause ends = absurd cause
 refused_log log held r s told LogLimit cause ends = record {
   settles = λ _. record {
     outcome = refusal status.Limit (codes "limit log 67108864");
@@ -149,12 +153,12 @@ printed_log log held part old new w (Err fault.Missing) holds is grown =
     record { settles = λ never. absurd never; lacks = tt; prints = prints_prefix log held part old new fault.Missing holds grown w is }
 
 -- the cause of how a print ended
-pub cause_of_print : (form : Form) (r s f g : ℕ) (w : Bool) (result : Result (Unit {0}) Fault) → IfErr result (IsWriteCause f g) → EndingCause form r s f g (print_ending w result)
-cause_of_print form r s f g true (Ok tt) cause = tt
-cause_of_print form r s f g false (Ok tt) cause = tt
-cause_of_print form r s f g w (Err fault.Memory) cause = tt
-cause_of_print form r s f g w (Err fault.Failed) cause = cause
-cause_of_print form r s f g w (Err fault.Missing) cause = absurd cause
+pub cause_of_print : (form : Form) (r s f g : ℕ) (w : Bool) (result : Result (Unit {0}) Fault) → (w ≡ false → ReadsLog form) → IfErr result (IsWriteCause f g) → EndingCause form r s f g (print_ending w result)
+cause_of_print form r s f g true (Ok tt) reads cause = tt
+cause_of_print form r s f g false (Ok tt) reads cause = reads refl
+cause_of_print form r s f g w (Err fault.Memory) reads cause = tt
+cause_of_print form r s f g w (Err fault.Failed) reads cause = cause
+cause_of_print form r s f g w (Err fault.Missing) reads cause = absurd cause
 
 -- a command that printed was not refused before
 pub not_early : (w : Bool) (result : Result (Unit {0}) Fault) → IsEarly (print_ending w result) → ⊥

@@ -8,10 +8,10 @@ use Rattle.r2_cli.proofs.Told.{adds_nothing, adds_grown, prefix_grown, whole_pre
 use Rattle.log_closure.specs.declared.error.OrderError.{OrderError}
 use Rattle.log_closure.specs.declared.error.OrderError.TheVariants as order_error
 use Rattle.r2_cli.specs.declared.ending.Ending.{Ending}
-use Rattle.r2_cli.specs.declared.ending.Ending.TheVariants.{Done, Usage, Short, LogByte, LogEvent, ReadFault, NoFile, WriteFault, LogLimit, NoMemory}
+use Rattle.r2_cli.specs.declared.ending.Ending.TheVariants.{Done, Usage, Source, Short, LogByte, LogEvent, ReadFault, NoFile, WriteFault, SourceLimit, LogLimit, NoMemory}
 use Rattle.r2_cli.specs.declared.status.Status.{Status}
 use Rattle.r2_cli.specs.declared.status.Status.TheVariants as status
-use Rattle.r2_cli.specs.Words.{Form, help, version, IsForm, IsUsage}
+use Rattle.r2_cli.specs.Words.{Form, help, version, IsForm, IsUsage, IsOfLog}
 use Rattle.r2_cli.specs.declared.words.Command.{Command}
 use Rattle.r2_cli.specs.declared.help.TheConstants.{HELP, VERSION}
 use Rattle.r2_cli.specs.Forms.{form_of}
@@ -21,7 +21,7 @@ use Rattle.r2_cli.specs.Written.{Adds}
 use Rattle.r2_cli.specs.Endings.{status_of, line_of_ending, print_ending}
 use Rattle.r2_cli.specs.Run as run
 use Rattle.r2_cli.specs.Run.{IsAnswer, IsAnswerTo, Leaves, IsDecided, IsStopped, IsRefused, IsInput, IsLine, SaysLine, FaultsReading, PrintsPrefix}
-use Rattle.r2_cli.specs.Performed.{IsOrderFault, WordsCause, IsSettled, IsEarly, Settles, LacksFile, Performs, Does}
+use Rattle.r2_cli.specs.Performed.{IsOrderFault, EndingCause, WordsCause, IsSettled, IsEarly, Settles, LacksFile, Performs, Does}
 use Rattle.r2_cli.specs.Finishing.{LeavesLine, Finishes, status_after, in_full, failed, no_memory}
 
 abbrev Words : Type 0
@@ -38,36 +38,42 @@ Told = Option (List ℕ)
 settled_of : (ending : Ending) → IsDecided (status_of ending) → IsSettled ending
 settled_of Done is = tt
 settled_of Usage is = tt
+settled_of (Source fault) is = tt
 settled_of Short is = tt
 settled_of (LogByte n) is = tt
 settled_of (LogEvent error) is = tt
 settled_of ReadFault is = absurd is
 settled_of (NoFile name) is = tt
 settled_of WriteFault is = absurd is
+settled_of SourceLimit is = tt
 settled_of LogLimit is = tt
 settled_of NoMemory is = absurd is
 
 pub early_of : (ending : Ending) → IsRefused (status_of ending) → IsEarly ending
 early_of Done is = absurd is
 early_of Usage is = tt
+early_of (Source fault) is = tt
 early_of Short is = absurd is
 early_of (LogByte n) is = tt
 early_of (LogEvent error) is = tt
 early_of ReadFault is = tt
 early_of (NoFile name) is = tt
 early_of WriteFault is = absurd is
+early_of SourceLimit is = tt
 early_of LogLimit is = tt
 early_of NoMemory is = absurd is
 
 usage_of : (words : Words) (r s f g : ℕ) (ending : Ending) → WordsCause words r s f g ending → status_of ending ≡ status.Usage → IsUsage words
 usage_of words r s f g Done cause is = absurd cc
 usage_of words r s f g Usage cause is = cause
+usage_of words r s f g (Source fault) cause is = absurd cc
 usage_of words r s f g Short cause is = absurd cc
 usage_of words r s f g (LogByte n) cause is = absurd cc
 usage_of words r s f g (LogEvent error) cause is = absurd cc
 usage_of words r s f g ReadFault cause is = absurd cc
 usage_of words r s f g (NoFile name) cause is = absurd cc
 usage_of words r s f g WriteFault cause is = absurd cc
+usage_of words r s f g SourceLimit cause is = absurd cc
 usage_of words r s f g LogLimit cause is = absurd cc
 usage_of words r s f g NoMemory cause is = absurd cc
 
@@ -75,33 +81,37 @@ usage_of words r s f g NoMemory cause is = absurd cc
 usage_is : (words : Words) (r s f g : ℕ) (ending : Ending) → WordsCause words r s f g ending → IsUsage words → status_of ending ≡ status.Usage
 usage_is words r s f g Usage cause none = refl
 usage_is words r s f g Done (form, is, cause) none = absurd (none form is)
+usage_is words r s f g (Source fault) (form, is, cause) none = absurd (none form is)
 usage_is words r s f g Short (form, is, cause) none = absurd (none form is)
 usage_is words r s f g (LogByte n) (form, is, cause) none = absurd (none form is)
 usage_is words r s f g (LogEvent error) (form, is, cause) none = absurd (none form is)
 usage_is words r s f g ReadFault (form, is, cause) none = absurd (none form is)
 usage_is words r s f g (NoFile name) (form, is, cause) none = absurd (none form is)
 usage_is words r s f g WriteFault (form, is, cause) none = absurd (none form is)
+usage_is words r s f g SourceLimit (form, is, cause) none = absurd (none form is)
 usage_is words r s f g LogLimit (form, is, cause) none = absurd (none form is)
 usage_is words r s f g NoMemory (form, is, cause) none = absurd (none form is)
 
 -- ---- lines of endings
 
-order_line : (words : Words) (error : OrderError) → IsOrderFault error → IsLine words status.BadLog (line_of (order_words error))
-order_line words (order_error.Twice name) is = run.of_twice name
-order_line words (order_error.Missing name) is = run.of_missing name
-order_line words (order_error.Clock name) is = run.of_clock name
-order_line words order_error.Memory is = absurd is
+order_line : (words : Words) (error : OrderError) → IsOfLog words → IsOrderFault error → IsLine words status.BadLog (line_of (order_words error))
+order_line words (order_error.Twice name) of is = run.of_twice name of
+order_line words (order_error.Missing name) of is = run.of_missing name of
+order_line words (order_error.Clock name) of is = run.of_clock name of
+order_line words order_error.Memory of is = absurd is
 
 ending_line : (words : Words) (r s f g : ℕ) (ending : Ending) → WordsCause words r s f g ending → IsLine words (status_of ending) (line_of_ending ending)
 ending_line words r s f g Done cause = run.of_done
 ending_line words r s f g Usage cause = run.of_usage
-ending_line words r s f g Short cause = run.of_short
-ending_line words r s f g (LogByte n) cause = run.of_byte n
-ending_line words r s f g (LogEvent error) (form, is, cause) = order_line words error cause
+ending_line words r s f g (Source fault) (form, is, cause) = run.of_source fault.rule fault.at (form, is, cause)
+ending_line words r s f g Short (form, is, cause) = run.of_short (form, is, cause)
+ending_line words r s f g (LogByte n) (form, is, cause) = run.of_byte n (form, is, cause)
+ending_line words r s f g (LogEvent error) (form, is, cause) = order_line words error (form, is, cause.0) cause.1
 ending_line words r s f g ReadFault cause = run.of_read_fault
 ending_line words r s f g (NoFile name) (form, is, cause) = run.of_no_file name.now (form, is, cause)
 ending_line words r s f g WriteFault cause = run.of_write_fault
-ending_line words r s f g LogLimit cause = run.of_limit
+ending_line words r s f g SourceLimit (form, is, cause) = run.of_source_limit (form, is, cause)
+ending_line words r s f g LogLimit (form, is, cause) = run.of_log_limit (form, is, cause)
 ending_line words r s f g NoMemory cause = run.of_no_memory
 
 -- ---- the clauses of a run
@@ -134,10 +144,12 @@ complete_of words held WriteFault old new said_old said_new r s f g (form, is, c
 complete_of words held NoMemory old new said_old said_new r s f g cause does read write adds = inl refl
 complete_of words held Done old new said_old said_new r s f g cause does read write adds = inr (leaves words held Done old new said_old said_new (does.settles tt) adds)
 complete_of words held Usage old new said_old said_new r s f g cause does read write adds = inr (leaves words held Usage old new said_old said_new (does.settles tt) adds)
+complete_of words held (Source fault) old new said_old said_new r s f g cause does read write adds = inr (leaves words held (Source fault) old new said_old said_new (does.settles tt) adds)
 complete_of words held Short old new said_old said_new r s f g cause does read write adds = inr (leaves words held Short old new said_old said_new (does.settles tt) adds)
 complete_of words held (LogByte n) old new said_old said_new r s f g cause does read write adds = inr (leaves words held (LogByte n) old new said_old said_new (does.settles tt) adds)
 complete_of words held (LogEvent error) old new said_old said_new r s f g cause does read write adds = inr (leaves words held (LogEvent error) old new said_old said_new (does.settles tt) adds)
 complete_of words held (NoFile name) old new said_old said_new r s f g cause does read write adds = inr (leaves words held (NoFile name) old new said_old said_new (does.settles tt) adds)
+complete_of words held SourceLimit old new said_old said_new r s f g cause does read write adds = inr (leaves words held SourceLimit old new said_old said_new (does.settles tt) adds)
 complete_of words held LogLimit old new said_old said_new r s f g cause does read write adds = inr (leaves words held LogLimit old new said_old said_new (does.settles tt) adds)
 
 pub completes : (words : Words) (held : Held) (ending : Ending) (old new said_old said_new : Told) (r s f g b n : ℕ) (result : Status) → WordsCause words r s f g ending → Does words held old new ending
@@ -170,12 +182,14 @@ read_fault_of : (words : Words) (tells : Bool) (held : Held) (ending : Ending) (
     → Adds said_old said_new (line_of_ending ending) → status_of ending ≡ status.ReadFault → FaultsReading words tells held r s said_old said_new
 read_fault_of words tells held Done said_old said_new r s f g cause lacks adds is = absurd cc
 read_fault_of words tells held Usage said_old said_new r s f g cause lacks adds is = absurd cc
+read_fault_of words tells held (Source fault) said_old said_new r s f g cause lacks adds is = absurd cc
 read_fault_of words tells held Short said_old said_new r s f g cause lacks adds is = absurd cc
 read_fault_of words tells held (LogByte n) said_old said_new r s f g cause lacks adds is = absurd cc
 read_fault_of words tells held (LogEvent error) said_old said_new r s f g cause lacks adds is = absurd cc
 read_fault_of words tells held ReadFault said_old said_new r s f g (form, of, cause) lacks adds is = run.rose cause adds
 read_fault_of words tells held (NoFile name) said_old said_new r s f g (form, of, cause) lacks adds is = run.no_file name.now (form, of, cause) lacks adds
 read_fault_of words tells held WriteFault said_old said_new r s f g cause lacks adds is = absurd cc
+read_fault_of words tells held SourceLimit said_old said_new r s f g cause lacks adds is = absurd cc
 read_fault_of words tells held LogLimit said_old said_new r s f g cause lacks adds is = absurd cc
 read_fault_of words tells held NoMemory said_old said_new r s f g cause lacks adds is = absurd cc
 
@@ -191,12 +205,14 @@ faults_reading words tells held ending said_old said_new r s f g b n result caus
 write_fault_of : (words : Words) (ending : Ending) (r s f g : ℕ) → WordsCause words r s f g ending → status_of ending ≡ status.WriteFault → Rose f g
 write_fault_of words Done r s f g cause is = absurd cc
 write_fault_of words Usage r s f g cause is = absurd cc
+write_fault_of words (Source fault) r s f g cause is = absurd cc
 write_fault_of words Short r s f g cause is = absurd cc
 write_fault_of words (LogByte n) r s f g cause is = absurd cc
 write_fault_of words (LogEvent error) r s f g cause is = absurd cc
 write_fault_of words ReadFault r s f g cause is = absurd cc
 write_fault_of words (NoFile name) r s f g cause is = absurd cc
 write_fault_of words WriteFault r s f g (form, of, cause) is = cause
+write_fault_of words SourceLimit r s f g cause is = absurd cc
 write_fault_of words LogLimit r s f g cause is = absurd cc
 write_fault_of words NoMemory r s f g cause is = absurd cc
 
@@ -240,6 +256,20 @@ put_left state line old new b n (Err fault.Missing) grown cause = absurd cause
 
 -- ---- the work of the words
 
+pub form_cause : (words : Words) (form : Form) (r s f g : ℕ) (ending : Ending) → IsForm words form → EndingCause form r s f g ending → WordsCause words r s f g ending
+form_cause words form r s f g Done is cause = (form, is, cause)
+form_cause words form r s f g Usage is cause = absurd cause
+form_cause words form r s f g (Source fault) is cause = (form, is, cause)
+form_cause words form r s f g Short is cause = (form, is, cause)
+form_cause words form r s f g (LogByte n) is cause = (form, is, cause)
+form_cause words form r s f g (LogEvent error) is cause = (form, is, cause)
+form_cause words form r s f g ReadFault is cause = (form, is, cause)
+form_cause words form r s f g (NoFile name) is cause = (form, is, cause)
+form_cause words form r s f g WriteFault is cause = (form, is, cause)
+form_cause words form r s f g SourceLimit is cause = (form, is, cause)
+form_cause words form r s f g LogLimit is cause = (form, is, cause)
+form_cause words form r s f g NoMemory is cause = (form, is, cause)
+
 pub usage_does : (words : Words) (held : Held) (told : Told) → IsUsage words → Does words held told told Usage
 usage_does words held told none = record {
   settles = λ _. record { outcome = refusal status.Usage (codes "usage"); answer = run.no_form none; same_status = refl; same_line = refl; printed = adds_nothing told told refl };
@@ -259,7 +289,7 @@ form_does words held form old new ending is performs = record {
   prints = prints_formed words held form old new is performs.prints;
 }
 
-text_performs : (held : Held) (form : Form) (text : List ℕ) (old new : Told) (r : Result (Unit {0}) Fault) → IsAnswerTo held form (record { status = status.Done; output = text; line = [] }) → TellsGrowth old new r text
+pub text_performs : (held : Held) (form : Form) (text : List ℕ) (old new : Told) (r : Result (Unit {0}) Fault) → IsAnswerTo held form (record { status = status.Done; output = text; line = [] }) → TellsGrowth old new r text
     → Performs form held old new (print_ending true r)
 text_performs held form text old new (Ok done) answer grown = record {
   settles = λ _. record { outcome = record { status = status.Done; output = text; line = [] }; answer = answer; same_status = refl; same_line = refl; printed = adds_grown old new text grown };

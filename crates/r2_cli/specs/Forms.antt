@@ -1,9 +1,10 @@
 -- The commands of the code as forms of the command line.
 use Rattle.r2_cli.specs.declared.words.Command.{Command}
-use Rattle.r2_cli.specs.declared.words.Command.TheVariants.{Help, Version, Order}
-use Rattle.r2_cli.specs.Words.{Form, help, version, order}
+use Rattle.r2_cli.specs.declared.words.Command.TheVariants.{Help, Version, Order, Check}
+use Rattle.r2_cli.specs.Words.{Form, help, version, order, check}
 
 abbrev pub form_of : Command → Form
 form_of Help = help
 form_of Version = version
 form_of (Order log) = order log.now
+form_of (Check source cut) = check source.now cut.now

@@ -7,9 +7,12 @@ pub mod Reading
 pub mod Log
 pub mod OrderText
 pub mod Order
+pub mod Source
+pub mod Check
 pub mod Endings
 pub mod Run
 pub mod Performed
 pub mod LogEndings
+pub mod SourceEndings
 pub mod Sending
 pub mod Finishing

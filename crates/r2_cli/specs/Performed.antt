@@ -4,8 +4,8 @@ use Rattle.log_closure.specs.declared.error.OrderError.{OrderError}
 use Rattle.log_closure.specs.declared.error.OrderError.TheVariants as order_error
 use Rattle.r2_base.specs.Causes.{Rose}
 use Rattle.r2_cli.specs.declared.ending.Ending.{Ending}
-use Rattle.r2_cli.specs.declared.ending.Ending.TheVariants.{Done, Usage, Short, LogByte, LogEvent, ReadFault, NoFile, WriteFault, LogLimit, NoMemory}
-use Rattle.r2_cli.specs.Words.{Form, IsForm, IsUsage}
+use Rattle.r2_cli.specs.declared.ending.Ending.TheVariants.{Done, Usage, Source, Short, LogByte, LogEvent, ReadFault, NoFile, WriteFault, SourceLimit, LogLimit, NoMemory}
+use Rattle.r2_cli.specs.Words.{Form, IsForm, IsUsage, ReadsLog, ReadsSource}
 use Rattle.r2_cli.specs.Outcome.{Outcome}
 use Rattle.r2_cli.specs.Written.{Adds}
 use Rattle.r2_cli.specs.Endings.{status_of, line_of_ending}
@@ -18,7 +18,12 @@ IsOrderFault error = Unit {0}
 -- what holds of an ending, whether or not files and sinks tell what they hold
 abbrev pub EndingCause : Form → ℕ → ℕ → ℕ → ℕ → Ending → Type 0
 EndingCause form reads reads_now faults faults_now Usage = ⊥
-EndingCause form reads reads_now faults faults_now (LogEvent error) = IsOrderFault error
+EndingCause form reads reads_now faults faults_now (Source fault) = ReadsSource form
+EndingCause form reads reads_now faults faults_now SourceLimit = ReadsSource form
+EndingCause form reads reads_now faults faults_now Short = ReadsLog form
+EndingCause form reads reads_now faults faults_now (LogByte n) = ReadsLog form
+EndingCause form reads reads_now faults faults_now (LogEvent error) = ReadsLog form × IsOrderFault error
+EndingCause form reads reads_now faults faults_now LogLimit = ReadsLog form
 EndingCause form reads reads_now faults faults_now ReadFault = Rose reads reads_now
 EndingCause form reads reads_now faults faults_now (NoFile name) = IsInputOf form name.now
 EndingCause form reads reads_now faults faults_now WriteFault = Rose faults faults_now
@@ -33,6 +38,15 @@ LogCause log reads reads_now (NoFile name) = name.now ≡ log
 LogCause log reads reads_now LogLimit = Unit {0}
 LogCause log reads reads_now NoMemory = Unit {0}
 LogCause log reads reads_now ending = ⊥
+
+-- the same of an ending of reading a source
+abbrev pub SourceCause : List ℕ → ℕ → ℕ → Ending → Type 0
+SourceCause src reads reads_now (Source fault) = Unit {0}
+SourceCause src reads reads_now ReadFault = Rose reads reads_now
+SourceCause src reads reads_now (NoFile name) = name.now ≡ src
+SourceCause src reads reads_now SourceLimit = Unit {0}
+SourceCause src reads reads_now NoMemory = Unit {0}
+SourceCause src reads reads_now ending = ⊥
 
 -- the same of an ending of any words
 abbrev pub WordsCause : List (List ℕ) → ℕ → ℕ → ℕ → ℕ → Ending → Type 0

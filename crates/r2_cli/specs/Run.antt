@@ -3,12 +3,16 @@ use Rattle.std.specs.Prelude.{◌≡◌, ◌⊎◌, ◌++◌, [], ℕ, List, Boo
 use Rattle.logical_clock.specs.declared.event.EventName.{EventName}
 use Rattle.r2_base.specs.Causes.{Rose}
 use Rattle.r2_cli.specs.declared.status.Status.{Status}
-use Rattle.r2_cli.specs.declared.status.Status.TheVariants.{Done, Usage, Short, BadLog, ReadFault, WriteFault, Limit, NoMemory}
+use Rattle.r2_cli.specs.declared.status.Status.TheVariants.{Done, Usage, Source, Short, BadLog, ReadFault, WriteFault, Limit, NoMemory}
 use Rattle.r2_cli.specs.declared.help.TheConstants.{HELP, VERSION}
-use Rattle.r2_cli.specs.Words.{Form, help, version, order, IsForm, IsUsage}
+use Rattle.r2_cli.specs.Words.{Form, help, version, order, check, IsForm, IsUsage, IsOfLog, IsOfSource}
 use Rattle.r2_cli.specs.Outcome.{Outcome, refusal, line_of}
 use Rattle.r2_cli.specs.Written.{Adds, AddsPrefix}
 use Rattle.r2_cli.specs.Order.{IsOrder}
+use Rattle.r2_cli.specs.Check.{IsCheck}
+use Rattle.r2_cli.specs.Source.{source_words}
+use Rattle.r2_cli.specs.declared.source_fault.SourceRule.{SourceRule}
+use Rattle.r2_cli.specs.declared.source_fault.SourceRule.TheVariants.{Token, Deep}
 use Rattle.r2_cli.specs.OrderText.{name_text}
 
 -- the outcome of a command, by what the names hold
@@ -17,11 +21,19 @@ pub data IsAnswerTo (held : List ℕ → Option (List ℕ)) : Form → Outcome �
   versioned : IsAnswerTo held version (record { status = Done; output = VERSION.now; line = [] })
   no_log : {log : List ℕ} → held log ≡ None → IsAnswerTo held (order log) (refusal ReadFault (codes "no file " ++ log))
   ordered : {log bytes : List ℕ} {outcome : Outcome} → held log ≡ Some bytes → IsOrder bytes outcome → IsAnswerTo held (order log) outcome
+  no_source : {src cut : List ℕ} → held src ≡ None → IsAnswerTo held (check src cut) (refusal ReadFault (codes "no file " ++ src))
+  checked : {src cut bytes : List ℕ} {outcome : Outcome} → held src ≡ Some bytes → IsCheck bytes outcome → IsAnswerTo held (check src cut) outcome
 
 -- the outcome of the words: that of the command whose form they have, or else Usage
 pub data IsAnswer (words : List (List ℕ)) (held : List ℕ → Option (List ℕ)) : Outcome → Type 0 where
   no_form : IsUsage words → IsAnswer words held (refusal Usage (codes "usage"))
   formed : {form : Form} {outcome : Outcome} → IsForm words form → IsAnswerTo held form outcome → IsAnswer words held outcome
+
+-- the outcomes are the same, but for the offset at which a source without a tree, or with one too deep, is refused
+pub data SameOutcome (words : List (List ℕ)) : Outcome → Outcome → Type 0 where
+  same : {outcome : Outcome} → SameOutcome words outcome outcome
+  no_tree : (n m : ℕ) → IsOfSource words → SameOutcome words (refusal Source (source_words Token n)) (refusal Source (source_words Token m))
+  too_deep : (n m : ℕ) → IsOfSource words → SameOutcome words (refusal Source (source_words Deep n)) (refusal Source (source_words Deep m))
 
 -- the outcome is an answer, and status, output and line are the outcome's
 pub record Leaves (words : List (List ℕ)) (held : List ℕ → Option (List ℕ)) (status : Status) (out_old out_new err_old err_new : Option (List ℕ)) : Type 0 where
@@ -47,6 +59,7 @@ IsStopped status = ⊥
 -- the status says that the run was refused before its first write
 abbrev pub IsRefused : Status → Type 0
 IsRefused Usage = Unit {0}
+IsRefused Source = Unit {0}
 IsRefused BadLog = Unit {0}
 IsRefused ReadFault = Unit {0}
 IsRefused Limit = Unit {0}
@@ -61,6 +74,7 @@ abbrev pub IsInputOf : Form → List ℕ → Type 0
 IsInputOf help name = ⊥
 IsInputOf version name = ⊥
 IsInputOf (order log) name = name ≡ log
+IsInputOf (check src cut) name = name ≡ src
 
 abbrev pub IsInput : List (List ℕ) → List ℕ → Type 0
 IsInput words name = (form : Form) × IsForm words form × IsInputOf form name
@@ -74,15 +88,17 @@ pub data FaultsReading (words : List (List ℕ)) (tells : Bool) (held : List ℕ
 pub data IsLine (words : List (List ℕ)) : Status → List ℕ → Type 0 where
   of_done : IsLine words Done []
   of_usage : IsLine words Usage (line_of (codes "usage"))
-  of_short : IsLine words Short (line_of (codes "short"))
-  of_byte : (n : ℕ) → IsLine words BadLog (line_of (codes "log byte " ++ decimal n))
-  of_twice : (name : EventName) → IsLine words BadLog (line_of (codes "log twice " ++ name_text name))
-  of_missing : (name : EventName) → IsLine words BadLog (line_of (codes "log missing " ++ name_text name))
-  of_clock : (name : EventName) → IsLine words BadLog (line_of (codes "log clock " ++ name_text name))
+  of_source : (rule : SourceRule) (n : ℕ) → IsOfSource words → IsLine words Source (line_of (source_words rule n))
+  of_short : IsOfLog words → IsLine words Short (line_of (codes "short"))
+  of_byte : (n : ℕ) → IsOfLog words → IsLine words BadLog (line_of (codes "log byte " ++ decimal n))
+  of_twice : (name : EventName) → IsOfLog words → IsLine words BadLog (line_of (codes "log twice " ++ name_text name))
+  of_missing : (name : EventName) → IsOfLog words → IsLine words BadLog (line_of (codes "log missing " ++ name_text name))
+  of_clock : (name : EventName) → IsOfLog words → IsLine words BadLog (line_of (codes "log clock " ++ name_text name))
   of_read_fault : IsLine words ReadFault (line_of (codes "read fault"))
   of_no_file : (name : List ℕ) → IsInput words name → IsLine words ReadFault (line_of (codes "no file " ++ name))
   of_write_fault : IsLine words WriteFault (line_of (codes "write fault"))
-  of_limit : IsLine words Limit (line_of (codes "limit log 67108864"))
+  of_source_limit : IsOfSource words → IsLine words Limit (line_of (codes "limit source 1048576"))
+  of_log_limit : IsOfLog words → IsLine words Limit (line_of (codes "limit log 67108864"))
   of_no_memory : IsLine words NoMemory (line_of (codes "no memory"))
 
 -- a line of the status was written, or the run stopped while it wrote a line

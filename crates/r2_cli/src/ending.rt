@@ -6,6 +6,7 @@ ghost use Rattle.r2_cli.specs.Log.{order_words};
 ghost use Rattle.r2_cli.specs.OrderText.{name_text};
 
 use crate::order_text::{put_name, put_number};
+use crate::source_fault::{SourceFault, put_source_fault};
 use crate::status::Status;
 use log_closure::OrderError;
 use logical_clock::EventName;
@@ -17,6 +18,8 @@ use std::alloc::{AllocError, Global};
 pub enum Ending<'a> {
     Done,
     Usage,
+    /// What is wrong with the source.
+    Source(SourceFault),
     Short,
     /// The first wrong byte of the log.
     LogByte(u64),
@@ -26,6 +29,8 @@ pub enum Ending<'a> {
     /// The file that isn't there.
     NoFile(&'a str),
     WriteFault,
+    /// The source is too long.
+    SourceLimit,
     /// The log is too long.
     LogLimit,
     NoMemory,
@@ -39,12 +44,14 @@ impl Ending<'_> {
         match self {
             Ending::Done => Status::Done,
             Ending::Usage => Status::Usage,
+            Ending::Source(_) => Status::Source,
             Ending::Short => Status::Short,
             Ending::LogByte(_) => Status::BadLog,
             Ending::LogEvent(_) => Status::BadLog,
             Ending::ReadFault => Status::ReadFault,
             Ending::NoFile(_) => Status::ReadFault,
             Ending::WriteFault => Status::WriteFault,
+            Ending::SourceLimit => Status::Limit,
             Ending::LogLimit => Status::Limit,
             Ending::NoMemory => Status::NoMemory,
         }
@@ -70,6 +77,7 @@ impl Ending<'_> {
         match self {
             Ending::Done => Ok(()),
             Ending::Usage => line.extend_from_slice(b"usage"),
+            Ending::Source(fault) => put_source_fault(line, fault),
             Ending::Short => line.extend_from_slice(b"short"),
             Ending::LogByte(at) => {
                 line.extend_from_slice(b"log byte ")?;
@@ -82,6 +90,7 @@ impl Ending<'_> {
                 line.extend_from_slice(name.as_bytes())
             }
             Ending::WriteFault => line.extend_from_slice(b"write fault"),
+            Ending::SourceLimit => line.extend_from_slice(b"limit source 1048576"),
             Ending::LogLimit => line.extend_from_slice(b"limit log 67108864"),
             Ending::NoMemory => line.extend_from_slice(b"no memory"),
         }

@@ -1,6 +1,7 @@
 //! The commands of the program, over any files and sinks.
 #![tactic(auto)]
 
+mod check;
 mod ending;
 mod finish;
 mod help;
@@ -10,6 +11,8 @@ mod order_text;
 mod printing;
 mod reading;
 mod running;
+mod source_fault;
+mod source_file;
 mod status;
 mod words;
 

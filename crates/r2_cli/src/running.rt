@@ -5,8 +5,9 @@ ghost use Rattle.r2_base.specs.Causes.{Rose};
 ghost use Rattle.r2_cli.specs.Outcome.{Outcome};
 ghost use Rattle.r2_cli.specs.Words.{texts_of, IsUsage};
 ghost use Rattle.r2_cli.specs.Performed.{WordsCause, IsEarly, Does};
-ghost use Rattle.r2_cli.specs.Run.{IsAnswer, Leaves, IsDecided, IsStopped, IsRefused, PrintsPrefix, SaysLine, FaultsReading};
+ghost use Rattle.r2_cli.specs.Run.{IsAnswer, SameOutcome, Leaves, IsDecided, IsStopped, IsRefused, PrintsPrefix, SaysLine, FaultsReading};
 
+use crate::check::check;
 use crate::ending::{Ending, print_ending};
 use crate::finish::finish;
 use crate::help::{HELP, VERSION};
@@ -43,6 +44,7 @@ fn work<'a, F: Files, S: Sink>(
         Command::Help => print_ending(true, out.put(HELP.as_bytes())),
         Command::Version => print_ending(true, out.put(VERSION.as_bytes())),
         Command::Order { log } => order(alloc, log, files, out),
+        Command::Check { source, .. } => check(alloc, source, files, out),
     }
 }
 
@@ -69,9 +71,10 @@ pub fn run<F: Files, S: Sink, E: Sink>(
         → (result ≡ Status.NoMemory)
         ⊎ Leaves (texts_of words.now) (F.held files.old) result
         (S.told out.old) (S.told out.new) (E.told err.old) (E.told err.new) }
-    // they decide one outcome at most
+    // they decide one outcome at most, but for the offset at which the tokens of a source are refused
     ensures one_outcome { (o p : Outcome) → IsAnswer (texts_of words.now) (F.held files.old) o
-        → IsAnswer (texts_of words.now) (F.held files.old) p → o ≡ p }
+        → IsAnswer (texts_of words.now) (F.held files.old) p
+        → SameOutcome (texts_of words.now) o p }
     // the words alone decide Usage
     ensures usage { result ≡ Status.Usage → IsUsage (texts_of words.now) }
     ensures no_form { IsUsage (texts_of words.now) → (result ≡ Status.Usage) ⊎ IsStopped result }

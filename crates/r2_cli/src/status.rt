@@ -10,6 +10,8 @@ pub enum Status {
     Done,
     /// The words have none of the forms of the command line.
     Usage,
+    /// The source breaks a rule of tokens or grammar.
+    Source,
     /// The log is a proper prefix of a log text. Its closed part was printed.
     Short,
     /// The bytes of the log, or the order of its events, are wrong.
@@ -32,6 +34,7 @@ impl Status {
         match self {
             Status::Done => 0,
             Status::Usage => 2,
+            Status::Source => 3,
             Status::Short => 8,
             Status::BadLog => 9,
             Status::ReadFault => 11,

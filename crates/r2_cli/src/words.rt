@@ -10,6 +10,7 @@ pub enum Command<'a> {
     Help,
     Version,
     Order { log: &'a str },
+    Check { source: &'a str, cut: &'a str },
 }
 
 /// The command that the words say; None where they have none of the forms.
@@ -23,6 +24,12 @@ pub fn command_of(words: &[String]) -> Option<Command<'_>>
         [word, log] if word.as_str() == "order" && !log.as_str().is_empty() => Some(Command::Order {
             log: log.as_str(),
         }),
+        [word, source, cut] if word.as_str() == "check" && !source.as_str().is_empty() => Some(
+            Command::Check {
+                source: source.as_str(),
+                cut: cut.as_str(),
+            },
+        ),
         _ => None,
     }
 }

@@ -12,7 +12,7 @@ returns-in-Err-clause-performs g c = λ told. refused_log _ _ _ _ _ c.in-Err.end
 
 pub returns-clause-cause : goal.returns-clause-cause
 returns-clause-cause g c =
-    subst (EndingCause (order c.args.log.now) _ _ _ _) (sym c.print_ending.ensures) (cause_of_print (order c.args.log.now) _ _ _ _ c.whole.result c.print_order-printed.result c.print_order-printed.ensures.cause)
+    subst (EndingCause (order c.args.log.now) _ _ _ _) (sym c.print_ending.ensures) (cause_of_print (order c.args.log.now) _ _ _ _ c.whole.result c.print_order-printed.result (λ _. tt) c.print_order-printed.ensures.cause)
 
 pub returns-clause-early : goal.returns-clause-early
 returns-clause-early g c = λ early. absurd (not_early _ _ (subst IsEarly c.print_ending.ensures early))

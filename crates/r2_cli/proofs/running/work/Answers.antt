@@ -1,7 +1,7 @@
 use Rattle.std.proofs.Common.{subst, sym}
-use Rattle.r2_cli.specs.Words.{help, version, order}
+use Rattle.r2_cli.specs.Words.{help, version, order, check}
 use Rattle.r2_cli.specs.Performed.{Does}
-use Rattle.r2_cli.proofs.RunLemmas.{usage_does, form_does, text_does, is_form_of, is_help, is_version}
+use Rattle.r2_cli.proofs.RunLemmas.{form_cause, usage_does, form_does, text_does, is_form_of, is_help, is_version}
 use Rattle.r2_cli.proofs.running.work.Goals as goal
 
 pub returns-in_default-clause-does : goal.returns-in_default-clause-does
@@ -21,3 +21,11 @@ returns-in-Version-clause-does g c = λ told.
 pub returns-in-Order-clause-does : goal.returns-in-Order-clause-does
 returns-in-Order-clause-does g c = λ told.
     form_does _ _ (order c.in-Order.log.now) _ _ _ (is_form_of _ c.in-Some.command _ c.in-Some.ensures.form c.in-Order.is) (c.order.ensures.performs told)
+
+pub returns-in-Check-clause-cause : goal.returns-in-Check-clause-cause
+returns-in-Check-clause-cause g c =
+    form_cause _ (check c.in-Check.source.now c.in-Check.cut.now) _ _ _ _ c.check.result (is_form_of _ c.in-Some.command _ c.in-Some.ensures.form c.in-Check.is) (c.check.ensures.cause c.in-Check.cut.now)
+
+pub returns-in-Check-clause-does : goal.returns-in-Check-clause-does
+returns-in-Check-clause-does g c = λ told.
+    form_does _ _ (check c.in-Check.source.now c.in-Check.cut.now) _ _ _ (is_form_of _ c.in-Some.command _ c.in-Some.ensures.form c.in-Check.is) (c.check.ensures.performs c.in-Check.cut.now told)

@@ -1,0 +1,11 @@
+#!/usr/bin/env bash
+# Measures `r2 check` on ordinary code of 1 MiB: its time over that of `gcc -fsyntax-only` on the same text without its
+# annotations, and its peak memory over the size of the source. Never a gate. The aims are 1.0 and 150.
+set -eu
+cd "$(dirname "${BASH_SOURCE[0]}")"
+../r2 --version
+scratch=$(mktemp -d)
+trap 'rm -rf "$scratch"' EXIT
+
+python3 -B spell_source.py 1048576 "$scratch/ordinary.c" "$scratch/plain.c"
+python3 -B measure_check.py ../crates/r2_main/out/r2_main "$scratch/ordinary.c" "$scratch/plain.c" "$scratch"
