@@ -1,0 +1,46 @@
+//! A program to be timed: the same accesses over the memory of a run, and over plain bytes.
+//!
+//! With the word `spaces` or `plain` it does one of the two. It prints the last number stored, which is the same.
+#![tactic(auto)]
+
+mod accesses;
+
+use accesses::{SIZE, over_bytes, over_spaces};
+use anyhow::Context;
+use marks::Side;
+use places::{Flags, Placed, Places};
+use space_memory::Spaces;
+use std::alloc::Global;
+use std::env;
+
+/// The last number stored over the memory of a run: a block above the cut.
+fn spaces(alloc: Global) -> anyhow::Result<u64> {
+    let placed = Placed {
+        globals: Places::new(alloc),
+        strings: Places::new(alloc),
+        replay: Flags::new(alloc),
+        system: Flags::new(alloc),
+        faces: Flags::new(alloc),
+    };
+    let mut spaces = Spaces::new(alloc, &placed)?;
+    let base = spaces.alloc_in(Side::Replay, SIZE).context("no block")?;
+    Ok(over_spaces(&mut spaces, base)?)
+}
+
+/// The last number stored over plain bytes.
+fn plain(alloc: Global) -> anyhow::Result<u64> {
+    let mut bytes = vec![in alloc; 0u8; SIZE as usize]?;
+    Ok(over_bytes(&mut bytes))
+}
+
+fn main(rt: HostRuntime) -> anyhow::Result<()> {
+    let word = env::args(&rt)?.nth(1);
+    let word = word.as_deref().unwrap_or("both");
+    if word != "plain" {
+        println!(rt; "spaces {}", spaces(rt.alloc())?)?;
+    }
+    if word != "spaces" {
+        println!(rt; "plain {}", plain(rt.alloc())?)?;
+    }
+    Ok(())
+}
