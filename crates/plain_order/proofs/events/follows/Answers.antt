@@ -1,4 +1,4 @@
-use Rattle.std.proofs.Common.{◌-◌, ◌+◌, arith}
+use Rattle.std.proofs.Common.{◌-◌, arith}
 use Rattle.plain_order.proofs.Equal.{if_false}
 use Rattle.plain_order.proofs.events.follows.Goals as goal
 
