@@ -2,7 +2,7 @@
 
 use crate::{ParseError, parse};
 use c_lexer::lex;
-use std::alloc::Global;
+use std::alloc::{AllocError, Global};
 
 const MOST: usize = 1_048_576;
 
@@ -21,7 +21,7 @@ fn has_tree(alloc: Global, source: &[u8]) -> Result<usize, ParseError> {
 fn negated(alloc: Global, count: usize) -> Result<usize, ParseError> {
     let mut source: Vec<u8> = Vec::from_slice(alloc, b"int main(void) { return ")?;
     for _ in 0..count {
-        source.push(b'!')?;
+        source.push(b'!').map_err(AllocError::from)?;
     }
     source.extend_from_slice(b"0; }")?;
     has_tree(alloc, source.as_slice())
