@@ -15,7 +15,7 @@ use std::alloc::{AllocError, Global};
 #[derive(Debug, Drop, thiserror::Error)]
 pub enum ParseError {
     /// No source of the grammar has these tokens. The offset is that of the first token that can't go on, or of the
-    /// source's end.
+    /// end of the last one.
     #[error("no source has the token at {0}")]
     Token(u32),
     /// A source of the grammar has these tokens, and more than 200 nodes hold one of its nodes, which is at this offset.

@@ -2,7 +2,7 @@
 
 use crate::{ParseError, parse};
 use c_lexer::lex;
-use std::alloc::Global;
+use std::alloc::{AllocError, Global};
 
 const MOST: usize = 1_048_576;
 
@@ -21,7 +21,7 @@ fn has_tree(alloc: Global, source: &[u8]) -> Result<usize, ParseError> {
 fn negated(alloc: Global, count: usize) -> Result<usize, ParseError> {
     let mut source: Vec<u8> = Vec::from_slice(alloc, b"int main(void) { return ")?;
     for _ in 0..count {
-        source.push(b'!')?;
+        source.push(b'!').map_err(AllocError::from)?;
     }
     source.extend_from_slice(b"0; }")?;
     has_tree(alloc, source.as_slice())
@@ -36,12 +36,20 @@ fn takes_200_nodes_above_another(rt: HostRuntime) {
 #[test]
 fn tells_sources_from_others(rt: HostRuntime) {
     for (source, tops) in [
-        ("int f(int a) { if (a) if (a > 1) return 2; else return 1; return 0; }", 1),
+        (
+            "int f(int a) { if (a) if (a > 1) return 2; else return 1; return 0; }",
+            1,
+        ),
         ("int a, *b[3]; struct s { int x; }; long f(void);", 4),
         ("int f(int a) { return sizeof (int) * 2 - -a; }", 1),
         ("", 0),
     ] {
         assert!(rt; matches!(has_tree(rt.alloc(), source.as_bytes()), Ok(n) if n == tops));
     }
-    assert!(rt; matches!(has_tree(rt.alloc(), b"int f(void) { else return 1; }"), Err(ParseError::Token(_))));
+    assert!(rt;
+        matches!(
+            has_tree(rt.alloc(), b"int f(void) { else return 1; }"),
+            Err(ParseError::Token(_))
+        )
+    );
 }

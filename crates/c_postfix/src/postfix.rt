@@ -16,7 +16,7 @@ use std::alloc::{AllocError, Global};
 #[derive(Debug, Drop, thiserror::Error)]
 pub enum PostfixError {
     /// No source of the grammar has these tokens. The offset is that of the first token that can't go on, or of the
-    /// source's end.
+    /// end of the last one.
     #[error("no source has the token at {0}")]
     Token(u32),
     #[error("out of memory")]

@@ -1,12 +1,11 @@
 -- The events of a file, one after the other.
-use Rattle.std.proofs.Common.{◌≡◌, ℕ, cond, ◌+◌, ◌<◌, ◌≤◌, List, [], ◌∷◌, ◌++◌, length, get_or, take, drop, inl, inr, ⊎_elim, refl, sym, ap, ◌∙◌, subst, arith, append_assoc, append-nil}
-use Rattle.std.specs.Prelude.{eqb, ◌⊎◌}
+use Rattle.std.proofs.Common.{◌≡◌, ℕ, cond, ◌+◌, ◌<◌, ◌≤◌, List, [], ◌∷◌, ◌++◌, length, get_or, take, drop, sym, ap, ◌∙◌, subst, arith, append_assoc, append-nil}
+use Rattle.std.specs.Prelude.{eqb}
 use Rattle.std.proofs.lemmas.List.Sums.{sum_by-append, sum_by-cons}
 use Rattle.std.proofs.lemmas.List.{take_more, take_all}
-use Rattle.logical_clock.specs.declared.key.KeyMark.{KeyMark}
 use Rattle.logical_clock.specs.declared.event.Record.{Record}
-use Rattle.log_closure.specs.Events.{LogEvent, In, HasMark, marks, event_of, events_behind, events_of, of_thread}
-use Rattle.plain_order.proofs.Splits.{In-cases, split-in, split_at, Each, each_more}
+use Rattle.log_closure.specs.Events.{LogEvent, In, event_of, events_behind, events_of, of_thread}
+use Rattle.plain_order.proofs.Splits.{split-in, split_at, Each, each_more}
 
 events_join : (acc xs ys : List Record) → events_behind acc (xs ++ ys) ≡ events_behind acc xs ++ events_behind (acc ++ xs) ys
 events_join acc [] ys = ap (λ (l : List Record). events_behind l ys) (sym (append-nil acc))

@@ -1,6 +1,6 @@
 pub mod Splits
 pub mod Files
-pub mod Tests
+pub mod Equal
 pub mod Preceding
 pub mod Right
 pub mod Fronts

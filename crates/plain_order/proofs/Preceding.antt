@@ -1,15 +1,11 @@
 -- The greatest clock of the direct predecessors, found along the file.
-use Rattle.std.proofs.Common.{◌≡◌, ℕ, ◌+◌, ◌<◌, ◌≤◌, List, [], ◌∷◌, ◌++◌, length, get_or, take, inl, inr, ⊎_elim, refl, sym, ap, ◌∙◌, subst, arith, append_assoc}
+use Rattle.std.proofs.Common.{◌≡◌, ℕ, ◌≤◌, List, [], ◌∷◌, ◌++◌, inl, inr, ⊎_elim, refl, sym, ap, ◌∙◌, subst, arith, append_assoc}
 use Rattle.std.specs.Prelude.{max, ◌⊎◌}
 use Rattle.std.proofs.lemmas.Bool.{cases_lt}
-use Rattle.logical_clock.specs.declared.key.KeyMark.{KeyMark}
-use Rattle.logical_clock.specs.declared.event.Record.{Record}
-use Rattle.log_closure.specs.Events.{LogEvent, In, HasMark, marks, event_of, events_of}
-use Rattle.log_closure.specs.Predecessors.{next}
+use Rattle.log_closure.specs.Events.{LogEvent, In}
 use Rattle.log_closure.specs.Wrong.{IsPredecessor, IsGreatestBefore, none_before, greatest_is}
 use Rattle.plain_order.specs.Preceding.{LeadsTo}
 use Rattle.plain_order.proofs.Splits.{Each, each_none, each_more, In-split, split-in}
-use Rattle.plain_order.proofs.Files.{events_more, each_of_all}
 
 -- an event leads to f where it is a direct predecessor of it
 

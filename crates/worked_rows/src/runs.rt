@@ -29,11 +29,21 @@ pub struct Left {
 
 /// Runs `order a` where `a` holds these bytes, and reads give at most 10 bytes.
 pub fn order_of(alloc: Global, bytes: &[u8]) -> Result<Left, AllocError> {
-    let mut files = MemFiles::new(alloc, 10, Vec::new(alloc));
+    left_of(alloc, &["order", "a"], bytes, 10)
+}
+
+/// Runs `check a top` where `a` holds these bytes.
+pub fn check_of(alloc: Global, bytes: &[u8]) -> Result<Left, AllocError> {
+    left_of(alloc, &["check", "a", "top"], bytes, 4096)
+}
+
+/// Runs the program with these words where `a` holds these bytes, and reads give at most so many.
+fn left_of(alloc: Global, words: &[&str], bytes: &[u8], at_once: u64) -> Result<Left, AllocError> {
+    let mut files = MemFiles::new(alloc, at_once, Vec::new(alloc));
     files.hold(alloc, "a", bytes)?;
     let mut out = MemSink::new(alloc, Vec::new(alloc));
     let mut err = MemSink::new(alloc, Vec::new(alloc));
-    let status = run_words(alloc, &["order", "a"], &mut files, &mut out, &mut err)?;
+    let status = run_words(alloc, words, &mut files, &mut out, &mut err)?;
     Ok(Left {
         status,
         out: Vec::from_slice(alloc, out.bytes())?,

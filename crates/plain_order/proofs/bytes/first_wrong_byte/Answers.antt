@@ -1,4 +1,4 @@
-use Rattle.std.proofs.Common.{◌≡◌, ℕ, Some, ap, sym, subst}
+use Rattle.std.proofs.Common.{◌≡◌, ℕ, Some, ap, subst}
 use Rattle.log_codec.specs.Kept.{IsFirstWrong}
 use Rattle.plain_order.proofs.Fronts.{none_begin, whole_begins, first_one, begins_none}
 use Rattle.plain_order.proofs.bytes.first_wrong_byte.Goals as goal

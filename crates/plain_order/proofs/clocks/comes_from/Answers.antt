@@ -1,7 +1,7 @@
 use Rattle.std.proofs.Common.{sym, ◌∙◌, subst}
 use Rattle.logical_clock.specs.declared.key.KeyMark.{KeyMark}
 use Rattle.log_closure.specs.Events.{In, HasMark, events_of}
-use Rattle.plain_order.proofs.Tests.{if_not, anyway, next_one}
+use Rattle.plain_order.proofs.Equal.{if_not, anyway, next_one}
 use Rattle.plain_order.proofs.clocks.comes_from.Goals as goal
 
 pub returns-then-has-clause-none : goal.returns-then-has-clause-none

@@ -1,8 +1,7 @@
-use Rattle.std.proofs.Common.{◌≡◌, ℕ, ◌+◌, sym, ap, ◌∙◌}
-use Rattle.std.specs.Prelude.{eqb}
+use Rattle.std.proofs.Common.{ℕ, ◌+◌, sym, ap, ◌∙◌}
 use Rattle.log_closure.specs.Events.{events_of}
 use Rattle.plain_order.proofs.Preceding.{greatest_one}
-use Rattle.plain_order.proofs.Tests.{not_other}
+use Rattle.plain_order.proofs.Equal.{not_other}
 use Rattle.plain_order.proofs.clocks.is_clock_wrong.Goals as goal
 
 pub returns-clause-none : goal.returns-clause-none

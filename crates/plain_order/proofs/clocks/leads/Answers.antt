@@ -1,9 +1,8 @@
-use Rattle.std.proofs.Common.{◌≡◌, ℕ, ◌+◌, List, ⊎_elim, sym, ap, ◌∙◌, subst, arith}
+use Rattle.std.proofs.Common.{◌≡◌, ℕ, ◌+◌, ⊎_elim, sym, ap, ◌∙◌, subst}
 use Rattle.logical_clock.specs.declared.event.EventName.{EventName}
-use Rattle.logical_clock.specs.declared.key.KeyMark.{KeyMark}
 use Rattle.log_closure.specs.Events.{In}
 use Rattle.log_closure.specs.Predecessors.{next}
-use Rattle.plain_order.proofs.Tests.{if_false}
+use Rattle.plain_order.proofs.Equal.{if_false}
 use Rattle.plain_order.proofs.clocks.leads.Goals as goal
 use Rattle.plain_order.proofs.clocks.leads.Goals.{else-own-name-via-then-own-name+else-from, else-own-name-via-else-own-name}
 

@@ -1,5 +1,5 @@
-use Rattle.std.proofs.Common.{◌-◌, ◌+◌, arith}
-use Rattle.plain_order.proofs.Tests.{if_false}
+use Rattle.std.proofs.Common.{◌-◌, arith}
+use Rattle.plain_order.proofs.Equal.{if_false}
 use Rattle.plain_order.proofs.events.follows.Goals as goal
 
 pub returns-clause-none : goal.returns-clause-none

@@ -1,7 +1,7 @@
 use Rattle.std.proofs.Common.{subst}
 use Rattle.log_closure.specs.Events.{In}
 use Rattle.log_closure.specs.Predecessors.{next}
-use Rattle.plain_order.proofs.Tests.{if_not}
+use Rattle.plain_order.proofs.Equal.{if_not}
 use Rattle.plain_order.proofs.events.holds_predecessors.Goals as goal
 
 pub returns-then-follows-clause-none : goal.returns-then-follows-clause-none

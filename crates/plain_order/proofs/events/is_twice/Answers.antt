@@ -3,7 +3,7 @@ use Rattle.logical_clock.specs.declared.key.KeyMark.{KeyMark}
 use Rattle.std.proofs.Common.{List}
 use Rattle.log_closure.specs.Events.{In}
 use Rattle.log_closure.specs.Wrong.{StandsTwice}
-use Rattle.plain_order.proofs.Tests.{if_false}
+use Rattle.plain_order.proofs.Equal.{if_false}
 use Rattle.plain_order.proofs.events.is_twice.Goals as goal
 
 pub returns-else-shares-clause-none : goal.returns-else-shares-clause-none

@@ -3,7 +3,7 @@ use Rattle.logical_clock.specs.declared.key.KeyMark.{KeyMark}
 use Rattle.log_closure.specs.Events.{In, HasMark, events_of}
 use Rattle.log_closure.specs.Predecessors.{next}
 use Rattle.plain_order.proofs.Splits.{In-get, holds_more, holds_all}
-use Rattle.plain_order.proofs.Tests.{no_mark}
+use Rattle.plain_order.proofs.Equal.{no_mark}
 use Rattle.plain_order.proofs.events.lacks.Goals as goal
 
 pub loop-mark-init : goal.loop-mark-init

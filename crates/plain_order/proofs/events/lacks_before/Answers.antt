@@ -1,6 +1,6 @@
 use Rattle.std.proofs.Common.{sym, ◌∙◌, subst}
 use Rattle.log_closure.specs.Events.{HasMark, events_of}
-use Rattle.plain_order.proofs.Tests.{if_not, next_one}
+use Rattle.plain_order.proofs.Equal.{if_not, next_one}
 use Rattle.plain_order.proofs.events.lacks_before.Goals as goal
 
 pub returns-in-Some-clause-none : goal.returns-in-Some-clause-none

@@ -1,7 +1,7 @@
 use Rattle.std.proofs.Common.{get_or}
 use Rattle.log_closure.specs.Events.{HasMark, events_of}
 use Rattle.plain_order.proofs.Splits.{In-get, holds_more, holds_all}
-use Rattle.plain_order.proofs.Tests.{no_mark}
+use Rattle.plain_order.proofs.Equal.{no_mark}
 use Rattle.plain_order.proofs.events.shares.Goals as goal
 
 pub loop-mark-init : goal.loop-mark-init

@@ -2,7 +2,7 @@ use Rattle.std.proofs.Common.{◌≡◌, take, sym, ◌∙◌}
 use Rattle.log_closure.specs.Events.{event_of, events_of}
 use Rattle.plain_order.proofs.Splits.{In-split, each_none}
 use Rattle.plain_order.proofs.Files.{event_in, each_event, each_of_all}
-use Rattle.plain_order.proofs.Tests.{same_names, other_names}
+use Rattle.plain_order.proofs.Equal.{same_names, other_names}
 use Rattle.plain_order.proofs.events.stands.Goals as goal
 
 pub loop-at-init : goal.loop-at-init

@@ -2,7 +2,7 @@ use Rattle.std.proofs.Common.{◌≡◌, get_or, refl, sym, subst}
 use Rattle.logical_clock.specs.declared.key.KeyMark.{KeyMark}
 use Rattle.log_closure.specs.Events.{In}
 use Rattle.plain_order.proofs.Splits.{In-get, holds_more, holds_all}
-use Rattle.plain_order.proofs.Tests.{no_mark, same_marks, other_marks}
+use Rattle.plain_order.proofs.Equal.{no_mark, same_marks, other_marks}
 use Rattle.plain_order.proofs.marks.has.Goals as goal
 
 pub loop-other-init : goal.loop-other-init

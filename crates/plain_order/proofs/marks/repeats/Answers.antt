@@ -1,8 +1,8 @@
-use Rattle.std.proofs.Common.{◌≡◌, List, ◌∷◌, ◌++◌, get_or, take, drop, ◌+◌, ap, ◌∙◌}
+use Rattle.std.proofs.Common.{List, ◌∷◌, ◌++◌, get_or, take, drop, ◌+◌, ap, ◌∙◌}
 use Rattle.logical_clock.specs.declared.key.KeyMark.{KeyMark}
 use Rattle.log_closure.specs.Events.{In}
 use Rattle.plain_order.proofs.Splits.{In-split, split-in, split_at, each_none, each_at, each_all}
-use Rattle.plain_order.proofs.Tests.{no_mark}
+use Rattle.plain_order.proofs.Equal.{no_mark}
 use Rattle.plain_order.proofs.marks.repeats.Goals as goal
 
 pub loop-at-init : goal.loop-at-init

@@ -1,4 +1,4 @@
-use Rattle.std.proofs.Common.{◌≡◌, true, sym, subst}
+use Rattle.std.proofs.Common.{sym, subst}
 use Rattle.log_closure.specs.Events.{In, event_of, events_of}
 use Rattle.log_closure.specs.Predecessors.{next}
 use Rattle.log_closure.specs.Wrong.{IsMissing}

@@ -1,12 +1,11 @@
 -- What tests say of keys with tickets and of names.
-use Rattle.std.proofs.Common.{◌≡◌, ◌≢◌, ℕ, ◌+◌, Bool, true, false, refl, sym, ap, ◌∙◌, arith, rules}
+use Rattle.std.proofs.Common.{◌≡◌, ℕ, ◌+◌, Bool, true, false, refl, sym, ap, arith, rules}
 use Rattle.std.specs.Prelude.{eqb, ◌&&◌}
 use Rattle.std.specs.Bool.{OnTrue, OnFalse}
 use Rattle.std.proofs.Math.Bool.{not}
 use Rattle.std.proofs.lemmas.Bool.{eq-eqb, eqb-true}
 use denote.Enum.Bare.{sameb, same_true, true_same}
 use Rattle.logical_clock.specs.contracts.key.Class.{the_type}
-use Rattle.logical_clock.specs.declared.key.Class.{Class}
 use Rattle.logical_clock.specs.declared.key.Class.TheVariants.{Mutex}
 use Rattle.logical_clock.specs.declared.key.KeyMark.{KeyMark}
 use Rattle.logical_clock.specs.declared.event.EventName.{EventName}

@@ -1,0 +1,246 @@
+use crate::runs::{Left, check_of, front, run_words};
+use crate::sources::{POOL, signs_before_zero, zero_in_brackets};
+use r2_base::{MemFiles, MemSink};
+use r2_cli::Status;
+use std::alloc::{AllocError, Global};
+
+/// The status of a refusal has its line, and nothing is printed; else the word is.
+fn is_an_answer(left: &Left) -> bool {
+    match left.status {
+        Status::Done => left.out.as_slice() == b"parsed\n".as_slice() && left.err.is_empty(),
+        Status::Source => left.out.is_empty() && left.err.as_slice().starts_with(b"r2: source "),
+        _ => false,
+    }
+}
+
+#[test]
+fn a_source_that_is_not_tokens_is_refused_at_its_first_broken_rule(
+    rt: HostRuntime,
+) -> Result<(), AllocError> {
+    let alloc = rt.alloc();
+    for (source, err) in [
+        ("@", "r2: source 0 byte\n"),
+        ("int a; $", "r2: source 7 byte\n"),
+        ("int a = 089;", "r2: source 8 byte\n"),
+        ("int a = '';", "r2: source 9 byte\n"),
+        ("int a = 'bc';", "r2: source 8 text\n"),
+        ("int a; /* no end", "r2: source 7 text\n"),
+        ("int a = 9223372036854775808;", "r2: source 8 number\n"),
+        ("#define x", "r2: source 0 directive\n"),
+        ("int a;\n #1", "r2: source 8 directive\n"),
+    ] {
+        let left = check_of(alloc, source.as_bytes())?;
+        assert_eq!(rt; left.status, Status::Source);
+        assert_eq!(rt; left.out.as_slice(), b"".as_slice());
+        assert_eq!(rt; left.err.as_slice(), err.as_bytes());
+    }
+    Ok(())
+}
+
+#[test]
+fn tokens_without_a_tree_are_refused_at_the_first_that_can_not_go_on(
+    rt: HostRuntime,
+) -> Result<(), AllocError> {
+    let alloc = rt.alloc();
+    for (source, err) in [
+        ("x", "r2: source 0 token\n"),
+        ("typedef int t;", "r2: source 0 token\n"),
+        ("int int a;", "r2: source 4 token\n"),
+        ("int a", "r2: source 5 token\n"),
+        ("int main(void) { return 1 }", "r2: source 26 token\n"),
+        ("int main(void) { return 1;", "r2: source 26 token\n"),
+        ("int f(void) { else; }", "r2: source 14 token\n"),
+        (
+            "int f(void) { (1 = 2); 1 + 2 = 3; }",
+            "r2: source 29 token\n",
+        ),
+        ("struct s { };", "r2: source 11 token\n"),
+    ] {
+        let left = check_of(alloc, source.as_bytes())?;
+        assert_eq!(rt; left.status, Status::Source);
+        assert_eq!(rt; left.out.as_slice(), b"".as_slice());
+        assert_eq!(rt; left.err.as_slice(), err.as_bytes());
+    }
+    Ok(())
+}
+
+#[test]
+fn a_source_with_a_tree_is_parsed(rt: HostRuntime) -> Result<(), AllocError> {
+    let alloc = rt.alloc();
+    for source in [
+        "",
+        "int main(void) { return 0; }",
+        "int f(int a) { if (a) if (a > 1) return 2; else return 1; return 0; }",
+        POOL,
+    ] {
+        let left = check_of(alloc, source.as_bytes())?;
+        assert_eq!(rt; left.status, Status::Done);
+        assert_eq!(rt; left.out.as_slice(), b"parsed\n".as_slice());
+        assert_eq!(rt; left.err.as_slice(), b"".as_slice());
+    }
+    Ok(())
+}
+
+#[test]
+fn more_than_200_nodes_may_hold_no_node(rt: HostRuntime) -> Result<(), AllocError> {
+    let alloc = rt.alloc();
+    let left = check_of(alloc, &signs_before_zero(alloc, 198)?)?;
+    assert_eq!(rt; left.out.as_slice(), b"parsed\n".as_slice());
+    let left = check_of(alloc, &signs_before_zero(alloc, 199)?)?;
+    assert_eq!(rt; left.status, Status::Source);
+    assert_eq!(rt; left.err.as_slice(), b"r2: source 223 deep\n".as_slice());
+    // brackets that group are no nodes
+    let left = check_of(alloc, &zero_in_brackets(alloc, 5_000)?)?;
+    assert_eq!(rt; left.out.as_slice(), b"parsed\n".as_slice());
+    Ok(())
+}
+
+#[test]
+fn a_source_has_at_most_1_mebibyte(rt: HostRuntime) -> Result<(), AllocError> {
+    let alloc = rt.alloc();
+    let spaces = vec![in alloc; b' '; 1_048_577]?;
+    let left = check_of(alloc, &spaces)?;
+    assert_eq!(rt; left.status, Status::Limit);
+    assert_eq!(rt; left.out.as_slice(), b"".as_slice());
+    assert_eq!(rt;
+        left.err.as_slice(),
+        b"r2: limit source 1048576\n".as_slice()
+    );
+    let left = check_of(alloc, front(&spaces, 1_048_576))?;
+    assert_eq!(rt; left.status, Status::Done);
+    Ok(())
+}
+
+/// How many fronts of the pool, of the lengths from `from` to before `to`, are parsed; none where one has no answer.
+fn parsed_fronts(alloc: Global, from: usize, to: usize) -> Result<Option<usize>, AllocError> {
+    let mut parsed: usize = 0;
+    for length in from..to {
+        let left = check_of(alloc, front(POOL.as_bytes(), length))?;
+        if !is_an_answer(&left) {
+            return Ok(None);
+        }
+        if left.status == Status::Done {
+            parsed = parsed.saturating_add(1);
+        }
+    }
+    Ok(Some(parsed))
+}
+
+// The fronts that are parsed end between two declarations, and cut no comment and no line marker.
+
+#[test]
+fn fronts_of_a_source_are_parsed_or_refused_in_its_first_part(
+    rt: HostRuntime,
+) -> Result<(), AllocError> {
+    assert_eq!(rt; parsed_fronts(rt.alloc(), 0, 924)?, Some(42));
+    Ok(())
+}
+
+#[test]
+fn fronts_of_a_source_are_parsed_or_refused_in_its_second_part(
+    rt: HostRuntime,
+) -> Result<(), AllocError> {
+    assert_eq!(rt; parsed_fronts(rt.alloc(), 924, 1307)?, Some(3));
+    Ok(())
+}
+
+#[test]
+fn fronts_of_a_source_are_parsed_or_refused_in_its_third_part(
+    rt: HostRuntime,
+) -> Result<(), AllocError> {
+    assert_eq!(rt; parsed_fronts(rt.alloc(), 1307, 1601)?, Some(3));
+    Ok(())
+}
+
+#[test]
+fn fronts_of_a_source_are_parsed_or_refused_in_its_last_part(
+    rt: HostRuntime,
+) -> Result<(), AllocError> {
+    assert_eq!(rt; parsed_fronts(rt.alloc(), 1601, 1849)?, Some(2));
+    Ok(())
+}
+
+#[test]
+fn every_change_of_a_byte_is_parsed_or_refused(rt: HostRuntime) -> Result<(), AllocError> {
+    let alloc = rt.alloc();
+    let source = "int a=1;";
+    for at in 0..source.len() {
+        for byte in 0..=255 {
+            let mut bytes = Vec::from_slice(alloc, source.as_bytes())?;
+            assert!(rt; at < bytes.len());
+            bytes[at] = byte;
+            let left = check_of(alloc, &bytes)?;
+            assert!(rt; is_an_answer(&left));
+        }
+    }
+    Ok(())
+}
+
+#[test]
+fn words_and_files_that_do_not_fit_are_refused(rt: HostRuntime) -> Result<(), AllocError> {
+    let alloc = rt.alloc();
+    for (words, fail, status, text) in [
+        (["check", "a"].as_slice(), 9, Status::Usage, "r2: usage\n"),
+        (
+            ["check", "", "top"].as_slice(),
+            9,
+            Status::Usage,
+            "r2: usage\n",
+        ),
+        (
+            ["check", "a", "top", "b"].as_slice(),
+            9,
+            Status::Usage,
+            "r2: usage\n",
+        ),
+        (
+            ["check", "b", "top"].as_slice(),
+            9,
+            Status::ReadFault,
+            "r2: no file b\n",
+        ),
+        (
+            ["check", "a", "top"].as_slice(),
+            0,
+            Status::ReadFault,
+            "r2: read fault\n",
+        ),
+        (
+            ["check", "a", ""].as_slice(),
+            9,
+            Status::Source,
+            "r2: source 0 byte\n",
+        ),
+    ] {
+        let mut files = MemFiles::new(alloc, 10, vec![in alloc; fail]?);
+        files.hold(alloc, "a", b"@")?;
+        let mut out = MemSink::new(alloc, Vec::new(alloc));
+        let mut err = MemSink::new(alloc, Vec::new(alloc));
+        let left = run_words(alloc, words, &mut files, &mut out, &mut err)?;
+        assert_eq!(rt; left, status);
+        assert_eq!(rt; out.bytes(), b"".as_slice());
+        assert_eq!(rt; err.bytes(), text.as_bytes());
+    }
+    Ok(())
+}
+
+#[test]
+fn a_word_that_can_not_be_printed_is_a_write_fault(rt: HostRuntime) -> Result<(), AllocError> {
+    let alloc = rt.alloc();
+    let mut files = MemFiles::new(alloc, 100, Vec::new(alloc));
+    files.hold(alloc, "a", b"int a;")?;
+    // standard output gets half of its text, and standard error the line
+    let mut out = MemSink::new(alloc, vec![in alloc; 0]?);
+    let mut err = MemSink::new(alloc, Vec::new(alloc));
+    let left = run_words(
+        alloc,
+        &["check", "a", "top"],
+        &mut files,
+        &mut out,
+        &mut err,
+    )?;
+    assert_eq!(rt; left, Status::WriteFault);
+    assert_eq!(rt; out.bytes(), b"par".as_slice());
+    assert_eq!(rt; err.bytes(), b"r2: write fault\n".as_slice());
+    Ok(())
+}
