@@ -1,0 +1,87 @@
+-- Memory before a run.
+use Rattle.std.proofs.Common.{◌≡◌, ℕ, suc, ◌^◌, ◌<◌, ◌≤◌, ◌⊎◌, false, List, [], ◌∷◌, length, map, get_or, replicate, Option, None, is_some, inl, inr, refl, ap, sym, ◌∙◌, subst, arith, All}
+use Rattle.std.specs.Prelude.{unwrap_or, option_map}
+use Rattle.std.specs.List.{range_with_len}
+use Rattle.std.proofs.lemmas.Bool.{cond-false}
+use Rattle.std.proofs.lemmas.List.{get_or-map, get_or-replicate}
+use Rattle.std.proofs.lemmas.List.FromFn.{get_or-range_with_len, length-range_with_len}
+use Rattle.std.proofs.lemmas.List.Elements.{All-head, All-tail}
+use Rattle.marks.specs.declared.side.Side.TheVariants.{Replay}
+use Rattle.marks.specs.Places.{stack, stack_size, replay_pool, pool_size, is_system}
+use Rattle.marks.specs.Ranges.{range}
+use Rattle.marks.specs.Bytes.{Byte}
+use Rattle.places.specs.declared.placed.Place.{Place}
+use Rattle.places.specs.declared.placed.Placed.{Placed}
+use Rattle.places.specs.declared.areas.TheConstants.{THREADS, REPLAY_STACKS, REPLAY_POOL, SYSTEM_STACKS, SYSTEM_POOL}
+use Rattle.places.specs.Ranges.{covers}
+use Rattle.live_bytes.specs.Areas.{byte_at}
+use Rattle.call_stacks.specs.Frames.{stack_of}
+use Rattle.pool_list.specs.Blocks.{length_at}
+use Rattle.held_regions.specs.declared.holder.Region.{Region}
+use Rattle.held_regions.specs.Held.{HeldState, prepared_region}
+use Rattle.space_memory.specs.declared.sides.Sides.{Sides}
+use Rattle.space_memory.specs.Sides.{SideState, fresh_stack, fresh_side}
+use Rattle.space_memory.specs.Spaces.{SpaceState}
+use Rattle.space_memory.specs.Objects.{IsInArea, object_range, byte_of}
+use Rattle.replay_runs.specs.Laws.{fresh}
+use Rattle.memory_of_runs.specs.Shown.{memory_range, cell_of, value_when_held}
+use Rattle.memory_of_runs.specs.StandsFor.{HoldsFor, StandsFor}
+use Rattle.memory_of_runs.specs.Starts.{placed_byte}
+use Rattle.memory_of_runs.proofs.Cells.{cover_cases, cover_parts}
+
+-- an object that lies in an area has no byte in a stack or the pool, nor at the last address
+IsBare : ℕ → Type 0
+IsBare x = ((0x20000000 ≤ x) × (x < 0x40000000)) ⊎ (2 ^ 64 ≤ suc x)
+
+misses : (o : Place) (x : ℕ) → IsInArea o → IsBare x → covers (object_range o) x ≡ false
+unfolding IsBare
+misses o x area bare = elim (cover_cases (object_range o) x) [
+  | inl in' ↦ absurd (elim area [
+    | inl constant ↦ elim bare [ inl b ↦ omega (arith, in'.from, in'.below, constant.1, b.0) | inr b ↦ omega (arith, in'.below, constant.1, b) ]
+    | inr global ↦ elim global [
+      | inl replay ↦ elim bare [ inl b ↦ omega (arith, in'.below, replay.1, b.0) | inr b ↦ omega (arith, in'.below, replay.1, b) ]
+      | inr system ↦ elim bare [ inl b ↦ omega (arith, in'.from, system.0, b.1) | inr b ↦ omega (arith, in'.below, system.1, b) ]
+    ]
+  ])
+  | inr out ↦ out.is
+]
+
+none_there : (os : List Place) (x : ℕ) (byte : Option ℕ) → All IsInArea os → IsBare x → byte_of os x byte ≡ byte
+none_there [] x byte areas bare = refl
+none_there (o ∷ rest) x byte areas bare =
+    ap (byte_of rest x) (cond-false (covers (object_range o) x) _ byte (misses o x (All-head IsInArea o rest areas) bare)) ∙ none_there rest x byte (All-tail IsInArea o rest areas) bare
+
+-- each thread's stack before its first frame
+fresh_at : (from t : ℕ) → t < THREADS → stack_of (map (fresh_stack from) (range_with_len 0 THREADS)) t ≡ fresh_stack from t
+fresh_at from t lt =
+    let few : t < length (range_with_len 0 THREADS) = omega (arith, length-range_with_len 0 THREADS) in
+    let here : get_or (range_with_len 0 THREADS) t 0 ≡ t = get_or-range_with_len 0 THREADS t 0 lt ∙ omega arith in
+    get_or-map (fresh_stack from) (range_with_len 0 THREADS) t 0 (record { base = 0; frames = [] }) few ∙ ap (fresh_stack from) here
+
+pub stands : (placed : Placed) (start : ℕ → Byte) (memory : SpaceState) → All IsInArea placed.globals → All IsInArea placed.strings → ((x : ℕ) → is_system x ≡ false → start x ≡ placed_byte placed x) → ((x : ℕ) → byte_at memory.bytes x ≡ byte_of placed.strings x (byte_of placed.globals x None)) → memory.held ≡ record { regions = []; depths = replicate THREADS 0 } → memory.sides ≡ record { replay = fresh_side REPLAY_STACKS REPLAY_POOL; system = fresh_side SYSTEM_STACKS SYSTEM_POOL } → StandsFor (fresh start) [] memory
+unfolding IsBare
+stands placed start memory globals strings here bytes held sides = record {
+  bytes = λ x own. ap (λ (b : Byte). b.cell) (here x own) ∙ ap (λ b. cell_of b None) (sym (bytes x)) ∙ ap (cell_of (byte_at memory.bytes x)) (sym (none_held x));
+  begins = λ x own. ap (λ (b : Byte). b.block) (here x own) ∙ ap (λ (k : SideState). unwrap_or (length_at k.pool.blocks x) 0) (sym replay);
+  stacks = λ t lt. ap (λ (k : SideState). stack_of k.stacks t) replay ∙ fresh_at REPLAY_STACKS t lt;
+  pool = ap (λ (k : SideState). k.pool) replay;
+  calls = λ t lt. subst (λ k. HoldsFor k t []) (sym held) (record { depth = get_or-replicate THREADS t 0 0 lt; ins = λ d. refl; outs = λ d. refl });
+  keys = λ k. ap (λ (q : HeldState). option_map (λ (r : Region). r.range) (prepared_region q.regions k)) held;
+  sound = record {
+    ends = λ x last. bare x (inr last);
+    unheld = λ x dead. none_held x;
+    stacked = λ t lt. tt;
+    frames_live = λ t lt x is. ap is_some (bare x (inl (let p = cover_parts (memory_range (range (stack Replay t) stack_size)) x is in (omega (arith, p.0, p.1, lt), omega (arith, p.0, p.1, lt)))));
+    laid_out = omega arith;
+    blocks_live = λ x is. ap is_some (bare x (inl (let p = cover_parts (memory_range (range replay_pool pool_size)) x is in (omega (arith, p.0, p.1), omega (arith, p.0, p.1)))));
+  };
+}
+  where
+    replay : memory.sides.replay ≡ fresh_side REPLAY_STACKS REPLAY_POOL
+    replay = ap (λ (q : Sides). q.replay) sides
+
+    none_held : (x : ℕ) → value_when_held memory.held.regions x ≡ None
+    none_held x = ap (λ (q : HeldState). value_when_held q.regions x) held
+
+    bare : (x : ℕ) → IsBare x → byte_at memory.bytes x ≡ None
+    bare x is = bytes x ∙ none_there placed.strings x (byte_of placed.globals x None) strings is ∙ none_there placed.globals x None globals is

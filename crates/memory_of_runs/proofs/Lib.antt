@@ -1,0 +1,15 @@
+pub mod Backs
+pub mod Digits
+pub mod Cells
+pub mod Moved
+pub mod Quiet
+pub mod Access
+pub mod Fresh
+pub mod Stacks
+pub mod Least
+pub mod Frames
+pub mod Blocks
+pub mod Pool
+pub mod Refusals
+pub mod Rooms
+pub mod Args

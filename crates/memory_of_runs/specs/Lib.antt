@@ -1,0 +1,9 @@
+pub mod Shown
+pub mod Sound
+pub mod StandsFor
+pub mod Starts
+pub mod Numbers
+pub mod Marks
+pub mod FrameMarks
+pub mod PoolMarks
+pub mod Refusals

@@ -1,0 +1,95 @@
+//! The laws. Each holds for any start and any past.
+
+ghost use Rattle.std.specs.Prelude.{ℕ};
+ghost use Rattle.memory_of_runs.specs.Starts.{NewMemoryStandsForTheStart};
+ghost use Rattle.memory_of_runs.specs.Numbers.{AreBytesOf};
+ghost use Rattle.memory_of_runs.specs.Marks.{LoadsAreMarks, QuietMarksLeaveMemory, StoresAreMarks};
+ghost use Rattle.memory_of_runs.specs.FrameMarks.{ArgumentsAreBytes, EntersAreMarks, LeavesAreMarks};
+ghost use Rattle.memory_of_runs.specs.Refusals.{FullStacksAreFound, LeavesAreRefusedAsWrites, OtherSpaceComesFirst, RefusalsAreFindings, RefusedFreesAreFound};
+ghost use Rattle.memory_of_runs.specs.PoolMarks.{AllocsAreMarks, FreesAreMarks, FreesOfNullAreMarks, RefusedAllocsAreMarks};
+
+/// Memory before a run stands for the run in which nothing was done yet.
+pub fn new_memory_stands_for_the_start()
+    ensures { NewMemoryStandsForTheStart }
+{}
+
+/// The bytes of a mark's number are as many as its width, and are that number.
+pub fn bytes_are_those_of_numbers()
+    ensures { (width value : ℕ) → AreBytesOf width value }
+{}
+
+/// Memory stands for a past with a mark that changes no memory as for the past without it.
+pub fn quiet_marks_leave_memory()
+    ensures { QuietMarksLeaveMemory }
+{}
+
+/// A load of code above the cut is a Load of the bytes that the run has there.
+pub fn loads_are_marks()
+    ensures { LoadsAreMarks }
+{}
+
+/// A store of code above the cut is a Store.
+pub fn stores_are_marks()
+    ensures { StoresAreMarks }
+{}
+
+/// A frame that is entered above the cut and filled with its first bytes is an Enter at the least free place.
+pub fn enters_are_marks()
+    ensures { EntersAreMarks }
+{}
+
+/// A frame that is filled with zeros and then with arguments has the bytes of an Enter.
+pub fn arguments_are_bytes()
+    ensures { ArgumentsAreBytes }
+{}
+
+/// A frame that is left above the cut is a Leave.
+pub fn leaves_are_marks()
+    ensures { LeavesAreMarks }
+{}
+
+/// A block that the pool above the cut gives is an Alloc, at the place that the run's blocks leave.
+pub fn allocs_are_marks()
+    ensures { AllocsAreMarks }
+{}
+
+/// Where the pool above the cut gives no block, that is an Alloc at 0.
+pub fn refused_allocs_are_marks()
+    ensures { RefusedAllocsAreMarks }
+{}
+
+/// A block that is freed above the cut is a Free of the whole block.
+pub fn frees_are_marks()
+    ensures { FreesAreMarks }
+{}
+
+/// A free of the address 0 is a Free that touches nothing.
+pub fn frees_of_null_are_marks()
+    ensures { FreesOfNullAreMarks }
+{}
+
+/// Where an access above the cut races with none, the checks of a run find exactly what memory refuses, and pass exactly
+/// where memory allows it.
+pub fn refusals_are_findings()
+    ensures { RefusalsAreFindings }
+{}
+
+/// Where an access above the cut races, that is found unless memory refuses it as the other side's.
+pub fn other_space_comes_first()
+    ensures { OtherSpaceComesFirst }
+{}
+
+/// A frame above the cut is refused exactly where its thread has no room for it.
+pub fn full_stacks_are_found()
+    ensures { FullStacksAreFound }
+{}
+
+/// The end of a frame above the cut is refused exactly as a write of the frame is.
+pub fn leaves_are_refused_as_writes()
+    ensures { LeavesAreRefusedAsWrites }
+{}
+
+/// Where a free above the cut is refused, the checks of the Free find that, unless it races.
+pub fn refused_frees_are_found()
+    ensures { RefusedFreesAreFound }
+{}

@@ -1,0 +1,13 @@
+//! That the calls of `Spaces` are the marks of replay runs, as contracts of functions that do nothing: where memory
+//! stands for a past, the memory after a call stands for the past with the call's mark.
+#![tactic(auto)]
+
+mod laws;
+
+pub use laws::{
+    allocs_are_marks, arguments_are_bytes, bytes_are_those_of_numbers, enters_are_marks,
+    frees_are_marks, frees_of_null_are_marks, full_stacks_are_found, leaves_are_marks,
+    leaves_are_refused_as_writes, loads_are_marks, new_memory_stands_for_the_start,
+    other_space_comes_first, quiet_marks_leave_memory, refusals_are_findings,
+    refused_allocs_are_marks, refused_frees_are_found, stores_are_marks,
+};
