@@ -15,3 +15,6 @@ pub use cell::Cell;
 pub use error::HoldError;
 pub use sides::Sides;
 pub use spaces::Spaces;
+
+#[cfg(test)]
+mod tests;

@@ -210,6 +210,7 @@ impl Spaces {
         requires in_range { thread < THREADS }
         requires open { 1 ≤ slice_index self.old.held.depths thread }
         ensures held { OnOk result (AddsRegion self.old.bytes (region_range range) (holder_of write (innermost self.old.held thread)) self.old.held self.new.held) }
+        ensures calls { self.new.held.depths ≡ self.old.held.depths }
         ensures rest { self.new ≡ record self.old { held = self.new.held } }
         ensures allowed { OnOk result (IsAllowed self.old.bytes self.old.held.regions (region_access thread range write)) }
         ensures refused { (r : Refusal) → (result ≡ Err (Refused r)) ↔ IsRefused self.old.bytes self.old.held.regions (region_access thread range write) r }
@@ -235,6 +236,7 @@ impl Spaces {
         requires in_range { thread < THREADS }
         requires open { 1 ≤ slice_index self.old.held.depths thread }
         ensures prepared { OnOk result (AddsRegion self.old.bytes (region_range range) (Key key (Some (innermost self.old.held thread))) self.old.held self.new.held) }
+        ensures calls { self.new.held.depths ≡ self.old.held.depths }
         ensures rest { self.new ≡ record self.old { held = self.new.held } }
         ensures allowed { OnOk result (IsAllowed self.old.bytes self.old.held.regions (region_access thread range true)) }
         ensures refused { (r : Refusal) → (result ≡ Err (Refused r)) ↔ IsPrepareRefused self.old.bytes self.old.held.regions (region_access thread range true) key r }
