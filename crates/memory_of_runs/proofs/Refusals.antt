@@ -17,9 +17,10 @@ use Rattle.replay_runs.specs.Runs.{Start, byte}
 use Rattle.replay_runs.specs.Checks.{Finding, Done, Passes, Finds, Races, range_checks}
 use Rattle.space_memory.specs.Spaces.{SpaceState}
 use Rattle.space_memory.specs.Cells.{is_held}
+use Rattle.replay_checks.specs.Passing.{Unraced}
 use Rattle.memory_of_runs.specs.Shown.{value_when_held, cell_of}
 use Rattle.memory_of_runs.specs.StandsFor.{StandsFor}
-use Rattle.memory_of_runs.specs.Refusals.{finding_of, access, RacesWithNone, FindsWhatIsRefused, RacesComeSecond}
+use Rattle.memory_of_runs.specs.Refusals.{finding_of, access, FindsWhatIsRefused, RacesComeSecond}
 use Rattle.memory_of_runs.proofs.Cells.{cover_parts, covered, live_ends, unheld, held_by}
 use Rattle.memory_of_runs.proofs.Least.{none_in}
 
@@ -115,7 +116,7 @@ module _ (s : Start) (past : List Mark) (memory : SpaceState) (t addr len : ℕ)
     );
   }
 
-module _ (s : Start) (past : List Mark) (memory : SpaceState) (t addr len : ℕ) (write : Bool) (h : StandsFor s past memory) (small : addr < 2 ^ 64) (unraced : RacesWithNone past t write (range addr len)) where
+module _ (s : Start) (past : List Mark) (memory : SpaceState) (t addr len : ℕ) (write : Bool) (h : StandsFor s past memory) (small : addr < 2 ^ 64) (unraced : Unraced past t write (range addr len)) where
   abbrev q : Range
   q = record { addr = addr; len = len }
 
@@ -261,5 +262,5 @@ module _ (s : Start) (past : List Mark) (memory : SpaceState) (t addr len : ℕ)
   pub finds : FindsWhatIsRefused s past memory t addr len write
   finds = record { refused = refused; found = found; passes = (pass, allow) }
 
-pub findings : (s : Start) (past : List Mark) (memory : SpaceState) (t addr len : ℕ) (write : Bool) → StandsFor s past memory → addr < 2 ^ 64 → RacesWithNone past t write (range addr len) → FindsWhatIsRefused s past memory t addr len write
+pub findings : (s : Start) (past : List Mark) (memory : SpaceState) (t addr len : ℕ) (write : Bool) → StandsFor s past memory → addr < 2 ^ 64 → Unraced past t write (range addr len) → FindsWhatIsRefused s past memory t addr len write
 findings s past memory t addr len write h small unraced = finds s past memory t addr len write h small unraced

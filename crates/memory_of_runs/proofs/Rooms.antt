@@ -31,10 +31,11 @@ use Rattle.space_memory.specs.Sides.{top_of}
 use Rattle.space_memory.specs.Spaces.{SpaceState}
 use Rattle.space_memory.specs.Frames.{IsEnterRefused, IsLeaveRefused}
 use Rattle.space_memory.specs.Blocks.{IsFreeRefused}
+use Rattle.replay_checks.specs.Passing.{Unraced}
 use Rattle.memory_of_runs.specs.Shown.{memory_range, innermost_last, stack_with, by_address}
 use Rattle.memory_of_runs.specs.Sound.{AreStacked}
 use Rattle.memory_of_runs.specs.StandsFor.{StandsFor}
-use Rattle.memory_of_runs.specs.Refusals.{finding_of, access, RacesWithNone}
+use Rattle.memory_of_runs.specs.Refusals.{finding_of, access}
 use Rattle.memory_of_runs.proofs.Cells.{cover_parts, covered, below_system}
 use Rattle.memory_of_runs.proofs.Stacks.{end_is, count_is, base_first, last_of}
 use Rattle.memory_of_runs.proofs.Blocks.{begins_from, any_is, any_there}
@@ -131,7 +132,7 @@ freed_some : (n : ℕ) → 1 ≤ cond (eqb n 0) 1 n
 freed_some zero = omega arith
 freed_some (suc n) = subst (λ k. 1 ≤ k) (sym (cond-false (eqb (suc n) 0) 1 (suc n) (ne_eqb (suc n) 0 (λ e. absurd (omega (arith, e)))))) (omega arith)
 
-module _ (i : Interface) (s : Start) (past : List Mark) (memory : SpaceState) (t a : ℕ) (h : StandsFor s past memory) (unraced : RacesWithNone past t true (freed_range (suc a) (byte s (suc a) past).block)) where
+module _ (i : Interface) (s : Start) (past : List Mark) (memory : SpaceState) (t a : ℕ) (h : StandsFor s past memory) (unraced : Unraced past t true (freed_range (suc a) (byte s (suc a) past).block)) where
   abbrev freed : Range
   freed = memory_range (freed_range (suc a) (byte s (suc a) past).block)
 
@@ -207,6 +208,6 @@ module _ (i : Interface) (s : Start) (past : List Mark) (memory : SpaceState) (t
   found (NoKey x) p = absurd p
   found (Size x) p = absurd p
 
-pub frees_found : (i : Interface) (s : Start) (past : List Mark) (memory : SpaceState) (t addr : ℕ) → StandsFor s past memory → 1 ≤ addr → RacesWithNone past t true (freed_range addr (byte s addr past).block) → (r : Refusal) → IsFreeRefused Replay memory.sides.replay.pool.blocks memory.held.regions addr r → Finds (checks i s past t (Frees addr)) (finding_of r)
+pub frees_found : (i : Interface) (s : Start) (past : List Mark) (memory : SpaceState) (t addr : ℕ) → StandsFor s past memory → 1 ≤ addr → Unraced past t true (freed_range addr (byte s addr past).block) → (r : Refusal) → IsFreeRefused Replay memory.sides.replay.pool.blocks memory.held.regions addr r → Finds (checks i s past t (Frees addr)) (finding_of r)
 frees_found i s past memory t zero h some unraced r p = absurd (omega (arith, some))
 frees_found i s past memory t (suc a) h some unraced r p = found i s past memory t a h unraced r p

@@ -5,7 +5,6 @@ use Rattle.marks.specs.declared.fault.FaultKind.TheVariants as fault
 use Rattle.marks.specs.declared.breach.BreachKind.TheVariants as breach
 use Rattle.marks.specs.Places.{thread_count}
 use Rattle.marks.specs.Ranges.{range}
-use Rattle.marks.specs.Ranges as marks
 use Rattle.marks.specs.Marks.{Mark}
 use Rattle.marks.specs.Wants.{Frees}
 use Rattle.places.specs.declared.range.Range.{Range}
@@ -17,11 +16,12 @@ use Rattle.access_checks.specs.Accesses.{IsAllowed, IsRefused}
 use Rattle.replay_runs.specs.Runs.{Start, marks_of, byte}
 use Rattle.replay_runs.specs.Interface.{Interface}
 use Rattle.replay_runs.specs.Threads.{HasRoom}
-use Rattle.replay_runs.specs.Checks.{Finding, FaultFound, BreachFound, Done, Passes, Finds, Races, race_check, range_checks, freed_range, checks}
+use Rattle.replay_runs.specs.Checks.{Finding, FaultFound, BreachFound, Done, Passes, Finds, race_check, range_checks, freed_range, checks}
 use Rattle.space_memory.specs.Sides.{top_of}
 use Rattle.space_memory.specs.Spaces.{SpaceState, side_of}
 use Rattle.space_memory.specs.Frames.{IsEnterRefused, IsLeaveRefused}
 use Rattle.space_memory.specs.Blocks.{IsFreeRefused}
+use Rattle.replay_checks.specs.Passing.{Unraced}
 use Rattle.memory_of_runs.specs.StandsFor.{StandsFor}
 
 -- the fault or breach that a refusal is
@@ -39,10 +39,6 @@ finding_of (Size x) = BreachFound breach.Size x None
 abbrev pub access : ℕ → ℕ → ℕ → Bool → Access
 access thread addr len write = record { side = Replay; thread = thread; range = record { addr = addr; len = len }; write = write }
 
--- the thread's access of the range races with no earlier one
-abbrev pub RacesWithNone : List Mark → ℕ → Bool → marks.Range → Type 0
-RacesWithNone past t write r = (x u : ℕ) → marks.in_range r x ≡ true → Races past t write x u → ⊥
-
 -- the checks of a range find what memory refuses, and nothing else
 pub record FindsWhatIsRefused (s : Start) (past : List Mark) (memory : SpaceState) (t addr len : ℕ) (write : Bool) : Type 0 where
   pub refused : (r : Refusal) → IsRefused memory.bytes memory.held.regions (access t addr len write) r → Finds (range_checks s past t write [] (range addr len) Done) (finding_of r)
@@ -55,7 +51,7 @@ RefusalsAreFindings =
     (s : Start) (past : List Mark) (memory : SpaceState) (t addr len : ℕ) (write : Bool) →
     StandsFor s past memory →
     addr < 2 ^ 64 →
-    RacesWithNone past t write (range addr len) →
+    Unraced past t write (range addr len) →
     FindsWhatIsRefused s past memory t addr len write
 
 -- a race comes behind the other side's memory, and before all else
@@ -89,5 +85,5 @@ RefusedFreesAreFound =
     (i : Interface) (s : Start) (past : List Mark) (memory : SpaceState) (t addr : ℕ) →
     StandsFor s past memory →
     1 ≤ addr →
-    RacesWithNone past t true (freed_range addr (byte s addr past).block) →
+    Unraced past t true (freed_range addr (byte s addr past).block) →
     (r : Refusal) → IsFreeRefused Replay (side_of memory.sides Replay).pool.blocks memory.held.regions addr r → Finds (checks i s past t (Frees addr)) (finding_of r)
