@@ -9,4 +9,6 @@ mod order;
 mod runs;
 mod sources;
 #[cfg(test)]
+mod trees;
+#[cfg(test)]
 mod walk;

@@ -1,0 +1,30 @@
+use Rattle.std.proofs.Common.{◌+◌, ◌*◌}
+use Rattle.tree_text.proofs.expression.+expression.Given as goal
+
+-- a call below a node goes one down; calls at one depth go from the greatest to the least
+abbrev pub decreases-show_expr : goal.decreases-show_expr
+decreases-show_expr l = 6 * l.depth
+
+abbrev pub decreases-show_exprs : goal.decreases-show_exprs
+decreases-show_exprs l = 6 * l.depth + 1
+
+abbrev pub decreases-show_group : goal.decreases-show_group
+decreases-show_group l = 6 * l.depth + 2
+
+abbrev pub decreases-show_then : goal.decreases-show_then
+decreases-show_then l = 6 * l.depth + 1
+
+abbrev pub decreases-show_typed : goal.decreases-show_typed
+decreases-show_typed l = 6 * l.depth + 2
+
+abbrev pub decreases-show_declarator : goal.decreases-show_declarator
+decreases-show_declarator l = 6 * l.depth
+
+abbrev pub decreases-show_declarators : goal.decreases-show_declarators
+decreases-show_declarators l = 6 * l.depth + 1
+
+abbrev pub decreases-show_part : goal.decreases-show_part
+decreases-show_part l = 6 * l.depth + 3
+
+abbrev pub decreases-show_parts : goal.decreases-show_parts
+decreases-show_parts l = 6 * l.depth + 4
