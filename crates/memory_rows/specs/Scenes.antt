@@ -23,5 +23,5 @@ IsGoingOn held (Some call) =
 -- what a scene keeps
 pub record IsScene (held : HeldState) (calling : Option Calling) : Type 0 where
   pub threads : length held.depths ≡ THREADS
-  pub open : All (λ r. IsByOpen held.depths r.holder) held.regions
+  pub owners : All (λ r. IsByOpen held.depths r.holder) held.regions
   pub calling : IsGoingOn held calling
