@@ -23,7 +23,7 @@ not_same thread depth call here other deep =
     both_ways (is_same_call call (record { thread = thread; depth = depth })) other (and_from (call.thread == thread) (call.depth == depth) (eq-eqb call.thread thread here) (eq-eqb call.depth depth deep))
 
 module _ (depths : List ℕ) (thread : ℕ) (lt : thread < length depths) where
-  depth : ℕ
+  abbrev pub depth : ℕ
   depth = get_or depths thread 0
 
   -- a call more of a thread
@@ -55,7 +55,7 @@ module _ (depths : List ℕ) (thread : ℕ) (lt : thread < length depths) where
         omega arith
   ]
 
-  innermost_call : OpenCall
+  abbrev pub innermost_call : OpenCall
   innermost_call = record { thread = thread; depth = depth }
 
   open_undone : (h : Holder) → not (is_of innermost_call h) ≡ true → IsByOpen depths h → IsByOpen (set depths thread (depth - 1)) h
