@@ -21,7 +21,7 @@ IsGoingOn held (Some call) =
     (call.thread < THREADS) × (1 ≤ slice_index held.depths call.thread) × (call.outs ≡ length (outs_of (innermost held call.thread) held.regions))
 
 -- what a scene keeps
-pub record IsScene (held : HeldState) (calling : Option Calling) : Type 0 where
+pub record IsScene (held : HeldState) (latest : Option Calling) : Type 0 where
   pub threads : length held.depths ≡ THREADS
-  pub open : All (λ r. IsByOpen held.depths r.holder) held.regions
-  pub calling : IsGoingOn held calling
+  pub owners : All (λ r. IsByOpen held.depths r.holder) held.regions
+  pub calling : IsGoingOn held latest
