@@ -131,9 +131,12 @@ module _ (held : HeldState) (calling : Option Calling) (scene : IsScene held cal
       record {
         threads = length-set held.depths thread (depth + 1) ∙ scene.threads;
         owners = All-weaker (λ (r : Region). IsByOpen held.depths r.holder) (λ (r : Region). IsByOpen (set held.depths thread (depth + 1)) r.holder) (λ r. open_more held.depths thread in' r.holder) held.regions scene.owners;
-        calling = (lt, omega arith,
+        calling = (
+          lt,
+          omega arith,
           sym (ap (λ (rs : List Region). length rs)
-          (ap (λ (d : ℕ). outs_of (record { thread = thread; depth = d }) held.regions) new ∙ no_outs held.depths thread in' held.regions scene.owners)));
+              (ap (λ (d : ℕ). outs_of (record { thread = thread; depth = d }) held.regions) new ∙ no_outs held.depths thread in' held.regions scene.owners)),
+        );
       }
 
   -- a region more, of the scene's call
