@@ -1,5 +1,4 @@
 use Rattle.std.proofs.Common.{◌≡◌, ◌-◌, length, drop, arith, ap, ◌∙◌}
-use Rattle.std.specs.Prelude.{reverse}
 use Rattle.std.proofs.lemmas.List.{take_rest}
 use Rattle.c_stacks.proofs.Tops.{tail_is}
 use Rattle.c_stacks.proofs.stack.Stack.top_slice.Goals as goal
