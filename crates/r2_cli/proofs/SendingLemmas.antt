@@ -10,7 +10,7 @@ use Rattle.logical_clock.specs.declared.event.Record.{Record}
 use Rattle.log_closure.specs.Events.{LogEvent}
 use Rattle.r2_base.specs.declared.fault.Fault.{Fault}
 use Rattle.r2_base.specs.Sinks.{TellsGrowth}
-use Rattle.r2_cli.specs.OrderText.{event_line, end_line, order_text}
+use Rattle.r2_cli.specs.OrderText.{event_line, lines_text, end_line, order_text}
 use Rattle.r2_cli.specs.Sending.{Sends, IsSending}
 
 abbrev Told : Type 0
@@ -86,11 +86,26 @@ piece_step f (x ∷ xs) (suc i) d le is = ap (λ w. f x ++ w) (piece_step f xs i
 lines_step : (es : List LogEvent) (i : ℕ) (d : LogEvent) → i < length es → d ≡ get_or es i d → flat_map event_line (take (i + 1) es) ≡ flat_map event_line (take i es) ++ event_line d
 lines_step es i d le is = ap (λ (k : ℕ). flat_map event_line (take k es)) (add-one i) ∙ piece_step event_line es i d le is
 
-pub event_sent : (es : List LogEvent) (old now : Told) (waiting more : List ℕ) (i : ℕ) (d : LogEvent) → i < length es → d ≡ get_or es i d
-    → IsSending old now waiting (flat_map event_line (take i es)) → more ≡ waiting ++ event_line d → IsSending old now more (flat_map event_line (take (i + 1) es))
-event_sent es old now waiting more i d le is s e =
-    let longer = more_waits old now waiting (event_line d) (flat_map event_line (take i es)) s in
-    record { sent = longer.sent; put = longer.put; parts = lines_step es i d le is ∙ longer.parts ∙ ap (λ (w : List ℕ). longer.sent ++ w) (sym e) }
+text_pushed : (lines : List (List ℕ)) (line : List ℕ) → lines_text (lines ++ line ∷ []) ≡ lines_text lines ++ line
+text_pushed lines line = flat_map-append (λ (l : List ℕ). l) lines (line ∷ []) ∙ ap (λ (w : List ℕ). lines_text lines ++ w) (append-nil line)
+
+-- one more line of those from a place on
+pub line_read : (es : List LogEvent) (from i : ℕ) (d : LogEvent) (lines more : List (List ℕ)) (line : List ℕ) → i < length es → d ≡ get_or es i d → more ≡ lines ++ line ∷ [] → line ≡ event_line d
+    → flat_map event_line (take i es) ≡ flat_map event_line (take from es) ++ lines_text lines → flat_map event_line (take (i + 1) es) ≡ flat_map event_line (take from es) ++ lines_text more
+line_read es from i d lines more line le is pushed same so_far =
+    lines_step es i d le is
+    ∙ ap (λ (w : List ℕ). w ++ event_line d) so_far
+    ∙ append_assoc (flat_map event_line (take from es)) (lines_text lines) (event_line d)
+    ∙ ap (λ (w : List ℕ). flat_map event_line (take from es) ++ (lines_text lines ++ w)) (sym same)
+    ∙ ap (λ (w : List ℕ). flat_map event_line (take from es) ++ w) (sym (text_pushed lines line))
+    ∙ ap (λ (w : List (List ℕ)). flat_map event_line (take from es) ++ lines_text w) (sym pushed)
+
+-- the lines of the events from one place to another wait
+pub lines_sent : (es : List LogEvent) (old now : Told) (waiting more lines : List ℕ) (from to : ℕ) → flat_map event_line (take to es) ≡ flat_map event_line (take from es) ++ lines
+    → IsSending old now waiting (flat_map event_line (take from es)) → more ≡ waiting ++ lines → IsSending old now more (flat_map event_line (take to es))
+lines_sent es old now waiting more lines from to read s e =
+    let longer = more_waits old now waiting lines (flat_map event_line (take from es)) s in
+    record { sent = longer.sent; put = longer.put; parts = read ∙ longer.parts ∙ ap (λ (w : List ℕ). longer.sent ++ w) (sym e) }
 
 -- what is left to print behind so many events
 left_over : List LogEvent → ℕ → List ℕ

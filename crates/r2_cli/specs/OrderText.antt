@@ -8,6 +8,8 @@ use Rattle.logical_clock.specs.declared.event.Record.{Record}
 use Rattle.logical_clock.specs.declared.event.Event.{Event}
 use Rattle.logical_clock.specs.declared.event.Event.TheVariants.{Call, Ret, Up, UpRet, Alloc, Free, Stop}
 use Rattle.log_closure.specs.Events.{LogEvent}
+use Rattle.r2_cli.specs.declared.order_line.Kind.{Kind}
+use Rattle.r2_cli.specs.declared.order_line.Kind.TheVariants as kind
 
 -- the word of the kind of an event
 abbrev pub kind_word : Event → List ℕ
@@ -18,6 +20,16 @@ kind_word (UpRet result) = codes "upret"
 kind_word (Alloc size addr) = codes "alloc"
 kind_word (Free addr) = codes "free"
 kind_word (Stop reason) = codes "stop"
+
+-- the same word, by the kind
+abbrev pub word_of_kind : Kind → List ℕ
+word_of_kind kind.Call = codes "call"
+word_of_kind kind.Ret = codes "ret"
+word_of_kind kind.Up = codes "up"
+word_of_kind kind.UpRet = codes "upret"
+word_of_kind kind.Alloc = codes "alloc"
+word_of_kind kind.Free = codes "free"
+word_of_kind kind.Stop = codes "stop"
 
 -- THREAD.INDEX
 abbrev pub name_text : EventName → List ℕ
@@ -34,6 +46,10 @@ kind_text r = codes " " ++ kind_word r.event ++ codes " " ++ decimal r.steps
 -- CLOCK THREAD.INDEX KIND STEPS, then the keys
 abbrev pub event_line : LogEvent → List ℕ
 event_line e = decimal e.entry.clock ++ codes " " ++ name_text e.name ++ kind_text e.entry ++ flat_map key_text e.entry.keys ++ codes "\n"
+
+-- lines, one behind the other
+abbrev pub lines_text : List (List ℕ) → List ℕ
+lines_text ls = flat_map (λ (line : List ℕ). line) ls
 
 -- the last line: how many events there are
 abbrev pub end_line : ℕ → List ℕ

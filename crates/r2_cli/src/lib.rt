@@ -4,9 +4,11 @@
 mod check;
 mod ending;
 mod finish;
+mod front;
 mod help;
 mod log_file;
 mod order;
+mod order_line;
 mod order_text;
 mod printing;
 mod reading;

@@ -34,5 +34,8 @@ pub fn order<'a, F: Files, S: Sink>(
         Err(ending) => return ending,
     };
     let printed = print_order(alloc, &part, out);
-    print_ending(part.whole(), printed)
+    let whole = part.whole();
+    // The run ends after this, and the system takes its memory back at once. Giving back each record apart takes longer.
+    std::mem::forget(part);
+    print_ending(whole, printed)
 }

@@ -12,7 +12,7 @@ returns-in-Err-clause-performs g c = λ told. refused_log _ _ _ _ _ c.in-Err.end
 
 pub returns-clause-cause : goal.returns-clause-cause
 returns-clause-cause g c =
-    subst (EndingCause (order c.args.log.now) _ _ _ _) (sym c.print_ending.ensures) (cause_of_print (order c.args.log.now) _ _ _ _ c.whole.result c.print_order-printed.result (λ _. tt) c.print_order-printed.ensures.cause)
+    subst (EndingCause (order c.args.log.now) _ _ _ _) (sym c.print_ending.ensures) (cause_of_print (order c.args.log.now) _ _ _ _ c.whole-whole.result c.print_order-printed.result (λ _. tt) c.print_order-printed.ensures.cause)
 
 pub returns-clause-early : goal.returns-clause-early
 returns-clause-early g c = λ early. absurd (not_early _ _ (subst IsEarly c.print_ending.ensures early))
@@ -20,4 +20,4 @@ returns-clause-early g c = λ early. absurd (not_early _ _ (subst IsEarly c.prin
 pub returns-clause-performs : goal.returns-clause-performs
 returns-clause-performs g c = λ told.
     subst (Performs (order c.args.log.now) _ _ _) (sym c.print_ending.ensures)
-    (printed_log _ _ c.in-Ok.part _ _ _ _ (c.in-Ok.ensures.part told) (sym c.whole.ensures) c.print_order-printed.ensures.printed)
+    (printed_log _ _ c.in-Ok.part _ _ _ _ (c.in-Ok.ensures.part told) (sym c.whole-whole.ensures) c.print_order-printed.ensures.printed)
