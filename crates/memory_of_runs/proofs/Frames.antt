@@ -30,6 +30,7 @@ use Rattle.space_memory.specs.Spaces.{SpaceState, with_side}
 use Rattle.space_memory.specs.Frames.{IsEnterRefused, IsLeaveRefused}
 use Rattle.space_memory.specs.Cells.{is_held}
 use Rattle.memory_of_runs.specs.Shown.{memory_range, value_when_held, cell_of, innermost_last, stack_with, pool_with, by_address}
+use Rattle.memory_of_runs.specs.Held.{AreHeld}
 use Rattle.memory_of_runs.specs.Sound.{AreStacked, JustTheseLive, IsSound}
 use Rattle.memory_of_runs.specs.StandsFor.{HoldsFor, StandsFor}
 use Rattle.memory_of_runs.specs.Marks.{IsMark}
@@ -97,6 +98,7 @@ module _ (s : Start) (past : List Mark) (old new : SpaceState) (m : Mark) (fs : 
       | inl in' ↦ k.unheld x in'.is
       | inr out ↦ h.sound.unheld x (sym (k.outside x out.is) ∙ dead)
     ];
+    held = subst AreHeld (sym k.held) h.sound.held;
     stacked = λ t lt. elim (cases_eq m.thread t) [
       | inl e ↦ subst (λ u. AreStacked (stack Replay u) (frames (marks_of s u (m ∷ past)))) e (subst (AreStacked (stack Replay m.thread)) (sym k.own) k.stacked)
       | inr ne ↦ subst (AreStacked (stack Replay t)) (sym (frames_other s m past t ne)) (h.sound.stacked t lt)

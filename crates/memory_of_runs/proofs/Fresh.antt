@@ -3,9 +3,9 @@ use Rattle.std.proofs.Common.{◌≡◌, ℕ, suc, ◌^◌, ◌<◌, ◌≤◌, 
 use Rattle.std.specs.Prelude.{unwrap_or, option_map}
 use Rattle.std.specs.List.{range_with_len}
 use Rattle.std.proofs.lemmas.Bool.{cond-false}
-use Rattle.std.proofs.lemmas.List.{get_or-map, get_or-replicate}
+use Rattle.std.proofs.lemmas.List.{get_or-map, get_or-replicate, length-replicate}
 use Rattle.std.proofs.lemmas.List.FromFn.{get_or-range_with_len, length-range_with_len}
-use Rattle.std.proofs.lemmas.List.Elements.{All-head, All-tail}
+use Rattle.std.proofs.lemmas.List.Elements.{All-head, All-tail, All-nil}
 use Rattle.marks.specs.declared.side.Side.TheVariants.{Replay}
 use Rattle.marks.specs.Places.{stack, stack_size, replay_pool, pool_size, is_system}
 use Rattle.marks.specs.Ranges.{range}
@@ -21,10 +21,11 @@ use Rattle.held_regions.specs.declared.holder.Region.{Region}
 use Rattle.held_regions.specs.Held.{HeldState, prepared_region}
 use Rattle.space_memory.specs.declared.sides.Sides.{Sides}
 use Rattle.space_memory.specs.Sides.{SideState, fresh_stack, fresh_side}
-use Rattle.space_memory.specs.Spaces.{SpaceState}
+use Rattle.space_memory.specs.Spaces.{SpaceState, IsWhole}
 use Rattle.space_memory.specs.Objects.{IsInArea, object_range, byte_of}
 use Rattle.replay_runs.specs.Laws.{fresh}
 use Rattle.memory_of_runs.specs.Shown.{memory_range, cell_of, value_when_held}
+use Rattle.memory_of_runs.specs.Held.{AreHeld}
 use Rattle.memory_of_runs.specs.StandsFor.{HoldsFor, StandsFor}
 use Rattle.memory_of_runs.specs.Starts.{placed_byte}
 use Rattle.memory_of_runs.proofs.Cells.{cover_cases, cover_parts}
@@ -70,6 +71,7 @@ stands placed start memory globals strings here bytes held sides = record {
   sound = record {
     ends = λ x last. bare x (inr last);
     unheld = λ x dead. none_held x;
+    held = subst AreHeld (sym held) (record { threads = length-replicate {A = ℕ} THREADS 0; whole = All-nil IsWhole; apart = tt; keys = tt; owned = λ call lt. refl });
     stacked = λ t lt. tt;
     frames_live = λ t lt x is. ap is_some (bare x (inl (let p = cover_parts (memory_range (range (stack Replay t) stack_size)) x is in (omega (arith, p.0, p.1, lt), omega (arith, p.0, p.1, lt)))));
     laid_out = omega arith;

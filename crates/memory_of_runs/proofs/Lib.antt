@@ -13,3 +13,11 @@ pub mod Pool
 pub mod Refusals
 pub mod Rooms
 pub mod Args
+pub mod Regions
+pub mod Parts
+pub mod Added
+pub mod Calls
+pub mod CallRules
+pub mod Closed
+pub mod Gone
+pub mod Returns

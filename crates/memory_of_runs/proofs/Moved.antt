@@ -15,6 +15,7 @@ use Rattle.space_memory.specs.Spaces.{SpaceState}
 use Rattle.replay_runs.specs.Runs.{Start, marks_of, byte}
 use Rattle.replay_runs.specs.Threads.{open_calls}
 use Rattle.memory_of_runs.specs.Shown.{memory_range, value_when_held, cell_of, stack_with, pool_with, by_address}
+use Rattle.memory_of_runs.specs.Held.{AreHeld}
 use Rattle.memory_of_runs.specs.Sound.{AreStacked, IsSound}
 use Rattle.memory_of_runs.specs.StandsFor.{HoldsFor, StandsFor}
 use Rattle.memory_of_runs.proofs.Backs.{LeavesBacks}
@@ -24,6 +25,7 @@ pub sound_moved : (s : Start) (m : Mark) (past : List Mark) (old new : SpaceStat
 sound_moved s m past old new leaves held lives sound = record {
   ends = λ x last. dead_as (lives x) (sound.ends x last);
   unheld = λ x dead. ap (λ (k : HeldState). value_when_held k.regions x) held ∙ sound.unheld x (dead_as (sym (lives x)) dead);
+  held = subst AreHeld (sym held) sound.held;
   stacked = λ t lt. subst (AreStacked (stack Replay t)) (sym (leaves.frames t)) (sound.stacked t lt);
   frames_live = λ t lt x is. lives x ∙ sound.frames_live t lt x is ∙ ap (λ fs. any_range fs x) (sym (leaves.frames t));
   laid_out = subst (λ bs. LieBetween replay_pool (replay_pool + pool_size) (by_address bs)) (sym leaves.blocks) sound.laid_out;

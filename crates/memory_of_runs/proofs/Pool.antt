@@ -31,6 +31,7 @@ use Rattle.space_memory.specs.Spaces.{SpaceState, with_side}
 use Rattle.space_memory.specs.Blocks.{IsFreeRefused}
 use Rattle.space_memory.specs.Cells.{is_held}
 use Rattle.memory_of_runs.specs.Shown.{memory_range, value_when_held, cell_of, stack_with, pool_with, by_address}
+use Rattle.memory_of_runs.specs.Held.{AreHeld}
 use Rattle.memory_of_runs.specs.Sound.{AreStacked, JustTheseLive, IsSound}
 use Rattle.memory_of_runs.specs.StandsFor.{HoldsFor, StandsFor}
 use Rattle.memory_of_runs.specs.Marks.{IsMark}
@@ -70,6 +71,7 @@ module _ (s : Start) (past : List Mark) (old new : SpaceState) (m : Mark) (bs : 
       | inl in' ↦ k.unheld x in'.is
       | inr out ↦ h.sound.unheld x (sym (k.outside x out.is) ∙ dead)
     ];
+    held = subst AreHeld (sym k.held) h.sound.held;
     stacked = λ t lt. subst (AreStacked (stack Replay t)) (sym (frames_stay s m past k.frames t)) (h.sound.stacked t lt);
     frames_live = λ t lt x is. elim (cover_cases (memory_range r) x) [
       | inl in' ↦

@@ -39,7 +39,7 @@ constant_to : (write : Bool) (x : ℕ) → IsConstantTo write x → (write ≡ t
 constant_to true x p = (refl, and_from (leb constants x) (ltb x replay_globals) (le-leb constants x p.0) (lt-ltb x replay_globals p.1))
 constant_to false x p = absurd p
 
-constant_from : (write : Bool) (x : ℕ) → write ≡ true → is_constant x ≡ true → IsConstantTo write x
+pub constant_from : (write : Bool) (x : ℕ) → write ≡ true → is_constant x ≡ true → IsConstantTo write x
 constant_from true x w is =
     let p = and_parts (leb constants x) (ltb x replay_globals) is in
     let from : constants ≤ x = leb-true constants x p.0 in

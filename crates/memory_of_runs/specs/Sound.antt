@@ -13,6 +13,7 @@ use Rattle.replay_runs.specs.Threads.{frames, end_of}
 use Rattle.replay_runs.specs.Pool.{blocks}
 use Rattle.space_memory.specs.Spaces.{SpaceState}
 use Rattle.memory_of_runs.specs.Shown.{value_when_held, by_address}
+use Rattle.memory_of_runs.specs.Held.{AreHeld}
 
 -- each frame, the innermost first, begins where the one below it ends, and ends in the stack
 abbrev pub AreStacked : ℕ → List Range → Type 0
@@ -29,6 +30,7 @@ pub record IsSound (s : Start) (past : List Mark) (memory : SpaceState) : Type 0
   pub ends : (x : ℕ) → 2 ^ 64 ≤ suc x → IsDead memory.bytes x
   -- nothing is held of what isn't there
   pub unheld : (x : ℕ) → IsDead memory.bytes x → value_when_held memory.held.regions x ≡ None
+  pub held : AreHeld memory.held
   pub stacked : (t : ℕ) → t < thread_count → AreStacked (stack Replay t) (frames (marks_of s t past))
   pub frames_live : (t : ℕ) → t < thread_count → JustTheseLive (range (stack Replay t) stack_size) (frames (marks_of s t past)) memory.bytes
   pub laid_out : LieBetween replay_pool (replay_pool + pool_size) (by_address (blocks (events_with s (OfKey (key Pool 0)) past)))

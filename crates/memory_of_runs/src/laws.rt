@@ -6,6 +6,8 @@ ghost use Rattle.memory_of_runs.specs.Numbers.{AreBytesOf};
 ghost use Rattle.memory_of_runs.specs.Marks.{LoadsAreMarks, QuietMarksLeaveMemory, StoresAreMarks};
 ghost use Rattle.memory_of_runs.specs.FrameMarks.{ArgumentsAreBytes, EntersAreMarks, LeavesAreMarks};
 ghost use Rattle.memory_of_runs.specs.Refusals.{FullStacksAreFound, LeavesAreRefusedAsWrites, OtherSpaceComesFirst, RefusalsAreFindings, RefusedFreesAreFound};
+ghost use Rattle.memory_of_runs.specs.Calls.{CallsAreMarks, HeldRangesAreParts, OpenedCallsHaveNoParts, PreparedRangesAreParts, UndoneCallsLeaveMemory};
+ghost use Rattle.memory_of_runs.specs.Returns.{ReturnsAreMarks};
 ghost use Rattle.memory_of_runs.specs.PoolMarks.{AllocsAreMarks, FreesAreMarks, FreesOfNullAreMarks, RefusedAllocsAreMarks};
 
 /// Memory before a run stands for the run in which nothing was done yet.
@@ -92,4 +94,34 @@ pub fn leaves_are_refused_as_writes()
 /// Where a free above the cut is refused, the checks of the Free find that, unless it races.
 pub fn refused_frees_are_found()
     ensures { RefusedFreesAreFound }
+{}
+
+/// A call that is opened stands for the past, with one more call open that has no parts yet.
+pub fn opened_calls_have_no_parts()
+    ensures { OpenedCallsHaveNoParts }
+{}
+
+/// A range that a call holds, to read it or to have it written, is one more part of the Call.
+pub fn held_ranges_are_parts()
+    ensures { HeldRangesAreParts }
+{}
+
+/// A range that a call prepares under a key is one more part of the Call.
+pub fn prepared_ranges_are_parts()
+    ensures { PreparedRangesAreParts }
+{}
+
+/// A call that is undone leaves memory as it was before it was opened.
+pub fn undone_calls_leave_memory()
+    ensures { UndoneCallsLeaveMemory }
+{}
+
+/// A call with all its parts is a Call: memory stands for the past with it, and the rules of runs allow it.
+pub fn calls_are_marks()
+    ensures { CallsAreMarks }
+{}
+
+/// A call that is released is a Ret with the bytes of its regions, over the whole of their ranges.
+pub fn returns_are_marks()
+    ensures { ReturnsAreMarks }
 {}
