@@ -85,11 +85,11 @@ pub ranges_past : (f : run.OpenCall → List marks.Range) (d : ℕ) (cs : List r
 ranges_past f d [] lt = refl
 ranges_past f d (c ∷ cs) lt = cond-false (eqb d (suc (length cs))) (f c) (ranges_at f d cs) (ne_eqb d (suc (length cs)) (λ e. absurd (omega (arith, e, lt)))) ∙ ranges_past f d cs (omega (arith, lt))
 
-empty_map : (rs : List Region) → map (λ (r : Region). r.range) rs ≡ [] → rs ≡ []
+pub empty_map : (rs : List Region) → map (λ (r : Region). r.range) rs ≡ [] → rs ≡ []
 empty_map [] e = refl
 empty_map (r ∷ rs) e = absurd cc
 
-prepared_keeps : (ps : List Prepared) (k : ℕ) (o : Option marks.Range) → prepares_key ps k ≡ false → prepared_under ps k o ≡ o
+pub prepared_keeps : (ps : List Prepared) (k : ℕ) (o : Option marks.Range) → prepares_key ps k ≡ false → prepared_under ps k o ≡ o
 prepared_keeps [] k o none = refl
 prepared_keeps (p ∷ ps) k o none = go (eqb p.key k) none (prepared_keeps ps k o)
   where
@@ -97,7 +97,7 @@ prepared_keeps (p ∷ ps) k o none = go (eqb p.key k) none (prepared_keeps ps k 
     go true e again = absurd (true≢false e)
     go false e again = again e
 
-prepared_some : (ps : List Prepared) (k : ℕ) (o : Option marks.Range) → prepares_key ps k ≡ true → prepared_under ps k o ≡ prepared_under ps k None
+pub prepared_some : (ps : List Prepared) (k : ℕ) (o : Option marks.Range) → prepares_key ps k ≡ true → prepared_under ps k o ≡ prepared_under ps k None
 prepared_some [] k o is = absurd (true≢false (sym is))
 prepared_some (p ∷ ps) k o is = go (eqb p.key k) is (prepared_some ps k o)
   where
@@ -105,7 +105,7 @@ prepared_some (p ∷ ps) k o is = go (eqb p.key k) is (prepared_some ps k o)
     go true e again = refl
     go false e again = again e
 
-prepared_there : (ps : List Prepared) (k : ℕ) → prepares_key ps k ≡ true → prepared_under ps k None ≡ None → ⊥
+pub prepared_there : (ps : List Prepared) (k : ℕ) → prepares_key ps k ≡ true → prepared_under ps k None ≡ None → ⊥
 prepared_there [] k is none = true≢false (sym is)
 prepared_there (p ∷ ps) k is none = go (eqb p.key k) is none (prepared_there ps k)
   where

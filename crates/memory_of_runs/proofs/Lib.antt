@@ -20,4 +20,6 @@ pub mod Calls
 pub mod CallRules
 pub mod Closed
 pub mod Gone
+pub mod Passing
+pub mod CallChecks
 pub mod Returns

@@ -9,4 +9,5 @@ pub mod FrameMarks
 pub mod PoolMarks
 pub mod Calls
 pub mod Returns
+pub mod CallChecks
 pub mod Refusals

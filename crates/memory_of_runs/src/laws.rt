@@ -8,6 +8,7 @@ ghost use Rattle.memory_of_runs.specs.FrameMarks.{ArgumentsAreBytes, EntersAreMa
 ghost use Rattle.memory_of_runs.specs.Refusals.{FullStacksAreFound, LeavesAreRefusedAsWrites, OtherSpaceComesFirst, RefusalsAreFindings, RefusedFreesAreFound};
 ghost use Rattle.memory_of_runs.specs.Calls.{CallsAreMarks, HeldRangesAreParts, OpenedCallsHaveNoParts, PreparedRangesAreParts, UndoneCallsLeaveMemory};
 ghost use Rattle.memory_of_runs.specs.Returns.{ReturnsAreMarks};
+ghost use Rattle.memory_of_runs.specs.CallChecks.{MadeCallsPass, RacesOfHoldsAreFound, RacesOfReadsAreFound, RefusedHoldsAreFound, RefusedReadsAreFound};
 ghost use Rattle.memory_of_runs.specs.PoolMarks.{AllocsAreMarks, FreesAreMarks, FreesOfNullAreMarks, RefusedAllocsAreMarks};
 
 /// Memory before a run stands for the run in which nothing was done yet.
@@ -124,4 +125,30 @@ pub fn calls_are_marks()
 /// A call that is released is a Ret with the bytes of its regions, over the whole of their ranges.
 pub fn returns_are_marks()
     ensures { ReturnsAreMarks }
+{}
+
+/// A range that memory refuses to read for a Call is what the checks of the Call find, where it doesn't race.
+pub fn refused_reads_are_found()
+    ensures { RefusedReadsAreFound }
+{}
+
+/// A race of a range that a Call reads is what its checks find, unless memory refuses the range as the other side's.
+pub fn races_of_reads_are_found()
+    ensures { RacesOfReadsAreFound }
+{}
+
+/// A range that memory refuses to hold for a Call, or for a test of what it prepares, is what the checks of the Call find,
+/// where it doesn't race.
+pub fn refused_holds_are_found()
+    ensures { RefusedHoldsAreFound }
+{}
+
+/// A race of such a range is what the checks find, unless memory refuses the range as the other side's.
+pub fn races_of_holds_are_found()
+    ensures { RacesOfHoldsAreFound }
+{}
+
+/// A Call of which memory refuses nothing, and no range races, passes its checks.
+pub fn made_calls_pass()
+    ensures { MadeCallsPass }
 {}
