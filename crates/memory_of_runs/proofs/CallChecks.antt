@@ -197,14 +197,14 @@ module _ (s : Start) (past : List Mark) (t : ℕ) (ins outs : List marks.Range) 
       back y least = subst (λ (k : Range). IsLeastIn k (IsInRange SYSTEM_MEMORY) y) (sym same) least
 
 -- a step past a check that passes
-onward : (f : Finding) (Bad : ℕ → Type 0) (Found : ℕ → Finding → Type 0) (cs : Checks) → ((x : ℕ) → Bad x → ⊥) → Finds cs f → Finds (Check Bad Found cs) f
+pub onward : (f : Finding) (Bad : ℕ → Type 0) (Found : ℕ → Finding → Type 0) (cs : Checks) → ((x : ℕ) → Bad x → ⊥) → Finds cs f → Finds (Check Bad Found cs) f
 onward f Bad Found cs none found = inr (none, found)
 
 through : (Bad : ℕ → Type 0) (Found : ℕ → Finding → Type 0) (cs : Checks) → ((x : ℕ) → Bad x → ⊥) → Passes cs → Passes (Check Bad Found cs)
 through Bad Found cs none p = (none, p)
 
 -- a fact of the checks of a Call, by its ranges and keys
-wanted_checks : (P : Checks → Type 0) → ((Bad : ℕ → Type 0) (Found : ℕ → Finding → Type 0) (cs : Checks) → ((x : ℕ) → Bad x → ⊥) → P cs → P (Check Bad Found cs)) → (i : Interface) (s : Start) (past : List Mark) (t : ℕ) (indirect : Bool) (func : ℕ) (args : List ℕ) (ins outs : List marks.Range) (prepared : List Prepared) → Wanted i indirect func args ins outs prepared → P (read_checks s past t ins (hold_checks s past t [] (outs ++ prepared_ranges prepared) (key_checks s past [] prepared Done))) → P (checks i s past t (Calls indirect func args))
+pub wanted_checks : (P : Checks → Type 0) → ((Bad : ℕ → Type 0) (Found : ℕ → Finding → Type 0) (cs : Checks) → ((x : ℕ) → Bad x → ⊥) → P cs → P (Check Bad Found cs)) → (i : Interface) (s : Start) (past : List Mark) (t : ℕ) (indirect : Bool) (func : ℕ) (args : List ℕ) (ins outs : List marks.Range) (prepared : List Prepared) → Wanted i indirect func args ins outs prepared → P (read_checks s past t ins (hold_checks s past t [] (outs ++ prepared_ranges prepared) (key_checks s past [] prepared Done))) → P (checks i s past t (Calls indirect func args))
 wanted_checks P step i s past t indirect func args ins outs prepared w p =
     past_indirect P step i indirect func (mode_checks i Replay (i.registers func args) (read_checks s past t (i.ins func args) (hold_checks s past t [] (i.outs func args ++ prepared_ranges (i.prepares func args)) (key_checks s past [] (i.prepares func args) Done)))) w.modes.0
     (past_modes P step i (i.registers func args) (read_checks s past t (i.ins func args) (hold_checks s past t [] (i.outs func args ++ prepared_ranges (i.prepares func args)) (key_checks s past [] (i.prepares func args) Done))) w.modes.1
@@ -259,7 +259,7 @@ module _ (i : Interface) (s : Start) (past : List Mark) (base memory : SpaceStat
 
   -- all ranges pass
   module _ (P : Checks → Type 0) (step : (Bad : ℕ → Type 0) (Found : ℕ → Finding → Type 0) (cs : Checks) → ((x : ℕ) → Bad x → ⊥) → P cs → P (Check Bad Found cs)) where
-    all_ranges : (ins held outs : List marks.Range) (prepared : List Prepared) (keys : List Prepared) → outs ++ prepared_ranges prepared ≡ held → AllFree base false ins → AllFree base true held → Apart held → StandsFor s past base → AllUnraced past t false ins → AllUnraced past t true held → P (key_checks s past [] keys Done) → P (read_checks s past t ins (hold_checks s past t [] (outs ++ prepared_ranges prepared) (key_checks s past [] keys Done)))
+    pub all_ranges : (ins held outs : List marks.Range) (prepared : List Prepared) (keys : List Prepared) → outs ++ prepared_ranges prepared ≡ held → AllFree base false ins → AllFree base true held → Apart held → StandsFor s past base → AllUnraced past t false ins → AllUnraced past t true held → P (key_checks s past [] keys Done) → P (read_checks s past t ins (hold_checks s past t [] (outs ++ prepared_ranges prepared) (key_checks s past [] keys Done)))
     all_ranges ins held outs prepared keys all free_ins free apart h unraced_ins unraced p =
         subst (λ rs. P (read_checks s past t rs (hold_checks s past t [] (outs ++ prepared_ranges prepared) (key_checks s past [] keys Done)))) (append-nil ins)
         (past_reads P step s past t base h ins [] (hold_checks s past t [] (outs ++ prepared_ranges prepared) (key_checks s past [] keys Done)) free_ins unraced_ins

@@ -56,7 +56,7 @@ pub keys_of : (xs ys : List Region) → HaveOwnKeys (xs ++ ys) → HaveOwnKeys y
 keys_of [] ys h = h
 keys_of (x ∷ xs) ys h = keys_of xs ys h.1
 
-any_both : (outs : List marks.Range) (prepared : List Prepared) (x : ℕ) → any_range (outs ++ prepared_ranges prepared) x ≡ (any_range outs x || any_prepared prepared x)
+pub any_both : (outs : List marks.Range) (prepared : List Prepared) (x : ℕ) → any_range (outs ++ prepared_ranges prepared) x ≡ (any_range outs x || any_prepared prepared x)
 any_both [] [] x = refl
 any_both [] (p ∷ ps) x = ap (λ b. in_range p.range x || b) (any_both [] ps x)
 any_both (r ∷ rs) ps x = ap (λ b. in_range r x || b) (any_both rs ps x) ∙ assoc (in_range r x) (any_range rs x) (any_prepared ps x)

@@ -22,4 +22,6 @@ pub mod Closed
 pub mod Gone
 pub mod Passing
 pub mod CallChecks
+pub mod KeyChecks
+pub mod ReturnChecks
 pub mod Returns

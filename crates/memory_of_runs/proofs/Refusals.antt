@@ -35,7 +35,7 @@ in_system x is =
 pub system_in : (x : ℕ) → IsInRange SYSTEM_MEMORY x → is_system x ≡ true
 system_in x p = and_from (leb system_globals x) (ltb x system_end) (le-leb system_globals x p.0) (lt-ltb x system_end p.1)
 
-constant_to : (write : Bool) (x : ℕ) → IsConstantTo write x → (write ≡ true) × (is_constant x ≡ true)
+pub constant_to : (write : Bool) (x : ℕ) → IsConstantTo write x → (write ≡ true) × (is_constant x ≡ true)
 constant_to true x p = (refl, and_from (leb constants x) (ltb x replay_globals) (le-leb constants x p.0) (lt-ltb x replay_globals p.1))
 constant_to false x p = absurd p
 

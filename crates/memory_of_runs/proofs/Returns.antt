@@ -51,7 +51,7 @@ pub record IsClosed (cs : List run.OpenCall) (ranges : List marks.Range) : Type 
   pub is : cs ≡ top ∷ below
   pub outs : ranges ≡ top.outs
 
-closing : (cs : List run.OpenCall) (func : ℕ) (args : List ℕ) (ranges : List marks.Range) → Closes cs func args ranges → IsClosed cs ranges
+pub closing : (cs : List run.OpenCall) (func : ℕ) (args : List ℕ) (ranges : List marks.Range) → Closes cs func args ranges → IsClosed cs ranges
 closing [] func args ranges h = absurd h
 closing (c ∷ cs) func args ranges h = record { top = c; below = cs; is = refl; outs = h.2 }
 

@@ -1,14 +1,15 @@
 //! The laws. Each holds for any start and any past.
 
-ghost use Rattle.std.specs.Prelude.{ℕ};
+ghost use Rattle.std.specs.Prelude.{List, ℕ};
+ghost use Rattle.marks.specs.Ranges.{Prepared, Range};
 ghost use Rattle.memory_of_runs.specs.Starts.{NewMemoryStandsForTheStart};
 ghost use Rattle.memory_of_runs.specs.Numbers.{AreBytesOf};
 ghost use Rattle.memory_of_runs.specs.Marks.{LoadsAreMarks, QuietMarksLeaveMemory, StoresAreMarks};
 ghost use Rattle.memory_of_runs.specs.FrameMarks.{ArgumentsAreBytes, EntersAreMarks, LeavesAreMarks};
 ghost use Rattle.memory_of_runs.specs.Refusals.{FullStacksAreFound, LeavesAreRefusedAsWrites, OtherSpaceComesFirst, RefusalsAreFindings, RefusedFreesAreFound};
 ghost use Rattle.memory_of_runs.specs.Calls.{CallsAreMarks, HeldRangesAreParts, OpenedCallsHaveNoParts, PreparedRangesAreParts, UndoneCallsLeaveMemory};
-ghost use Rattle.memory_of_runs.specs.Returns.{ReturnsAreMarks};
-ghost use Rattle.memory_of_runs.specs.CallChecks.{MadeCallsPass, RacesOfHoldsAreFound, RacesOfReadsAreFound, RefusedHoldsAreFound, RefusedReadsAreFound};
+ghost use Rattle.memory_of_runs.specs.Returns.{RefusedReturnsAreFindings, ReturnsAreMarks};
+ghost use Rattle.memory_of_runs.specs.CallChecks.{MadeCallsPass, PartsGrow, RefusedKeysAreFound, RacesOfHoldsAreFound, RacesOfReadsAreFound, RefusedHoldsAreFound, RefusedReadsAreFound};
 ghost use Rattle.memory_of_runs.specs.PoolMarks.{AllocsAreMarks, FreesAreMarks, FreesOfNullAreMarks, RefusedAllocsAreMarks};
 
 /// Memory before a run stands for the run in which nothing was done yet.
@@ -151,4 +152,20 @@ pub fn races_of_holds_are_found()
 /// A Call of which memory refuses nothing, and no range races, passes its checks.
 pub fn made_calls_pass()
     ensures { MadeCallsPass }
+{}
+
+/// Where all ranges of a Call were tested, only a key can refuse one of those that are prepared, and the checks of the
+/// Call find that.
+pub fn refused_keys_are_found()
+    ensures { RefusedKeysAreFound }
+{}
+
+/// A Call that reads, holds or prepares one more range has the parts of the longer lists.
+pub fn parts_grow()
+    ensures { (ins outs : List Range) (prepared : List Prepared) → PartsGrow ins outs prepared }
+{}
+
+/// The checks of a Ret find exactly what memory refuses of it, and pass exactly where memory takes it.
+pub fn refused_returns_are_findings()
+    ensures { RefusedReturnsAreFindings }
 {}
