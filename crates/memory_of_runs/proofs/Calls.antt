@@ -35,7 +35,7 @@ use Rattle.space_memory.specs.Cells.{is_held}
 use Rattle.space_memory.specs.Releases.{outs_of}
 use Rattle.memory_of_runs.specs.Shown.{memory_range, value_when_held, cell_of, stack_with, pool_with, by_address, ranges_at, is_in_of, ins_of}
 use Rattle.memory_of_runs.specs.Held.{AreApart, HaveOwnKeys, AreHeld}
-use Rattle.memory_of_runs.specs.Sound.{AreStacked, IsSound}
+use Rattle.memory_of_runs.specs.Sound.{AreStacked, IsBelow, IsSound}
 use Rattle.memory_of_runs.specs.StandsFor.{HoldsFor, StandsFor}
 use Rattle.memory_of_runs.specs.Marks.{IsMark}
 use Rattle.memory_of_runs.specs.Calls.{Part, Reads, Holds, Prepares, range_of, is_written, holder_for, prepared_part, parts_of, HaveRegions, IsFree, InCall, IsShown, IsCall}
@@ -282,6 +282,9 @@ module _ (s : Start) (past : List Mark) (base new : SpaceState) (m : Mark) (e : 
   same_side : new.sides.replay ≡ base.sides.replay
   same_side = ap (λ (q : SpaceState). q.sides.replay) h.rest
 
+  none_system : (x : ℕ) → is_system x ≡ true → held_byte x ≡ false
+  none_system x is' = elim (cases_Bool (held_byte x)) [ inl w ↦ absurd (true≢false (sym is' ∙ (held_at x w).own)) | inr not ↦ not ]
+
   none_of_none : (b : Bool) → ◌≡◌ {A = Option ℕ} (cond b None None) None
   none_of_none true = refl
   none_of_none false = refl
@@ -292,6 +295,9 @@ module _ (s : Start) (past : List Mark) (base new : SpaceState) (m : Mark) (e : 
     unheld = λ x dead.
         let was : byte_at base.bytes x ≡ None = sym (bytes_are x) ∙ dead in
         regions_are x ∙ value_left base.held.regions h.regions.added x (h.stands.sound.unheld x was) ∙ value_added x ∙ ap (λ b. cond (held_byte x) b None) was ∙ none_of_none (held_byte x);
+    own = λ x is'. regions_are x ∙ value_left base.held.regions h.regions.added x (h.stands.sound.own x is') ∙ value_added x ∙ cond-false (held_byte x) (byte_at base.bytes x) None (none_system x is');
+    inside = λ x a b c. bytes_are x ∙ h.stands.sound.inside x a b c;
+    below = subst IsBelow (ap (λ (q : SpaceState). q.sides.system) (sym h.rest)) h.stands.sound.below;
     held = h.held;
     stacked = λ t lt. subst (AreStacked (stack Replay t)) (sym (same_frames t)) (h.stands.sound.stacked t lt);
     frames_live = λ t lt x in'. ap is_some (bytes_are x) ∙ h.stands.sound.frames_live t lt x in' ∙ ap (λ fs. any_range fs x) (sym (same_frames t));

@@ -24,4 +24,5 @@ pub mod Passing
 pub mod CallChecks
 pub mod KeyChecks
 pub mod ReturnChecks
+pub mod Below
 pub mod Returns

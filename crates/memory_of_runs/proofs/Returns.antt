@@ -34,7 +34,7 @@ use Rattle.space_memory.specs.Spaces.{SpaceState, IsWhole}
 use Rattle.space_memory.specs.Releases.{outs_of, committed, committed_key, committed_size, AllFilled, AllReturned, HasKey}
 use Rattle.memory_of_runs.specs.Shown.{memory_range, value_when_held, cell_of, stack_with, pool_with, by_address, ranges_at, ins_of}
 use Rattle.memory_of_runs.specs.Held.{AreApart, HaveOwnKeys, has_region, AreHeld}
-use Rattle.memory_of_runs.specs.Sound.{AreStacked, IsSound}
+use Rattle.memory_of_runs.specs.Sound.{AreStacked, IsBelow, IsSound}
 use Rattle.memory_of_runs.specs.StandsFor.{HoldsFor, StandsFor}
 use Rattle.memory_of_runs.specs.Marks.{IsMark}
 use Rattle.memory_of_runs.specs.Returns.{ShowUsed, CommitsAs, CommitsInUse, IsRet}
@@ -161,10 +161,10 @@ module _ (s : Start) (past : List Mark) (old new : SpaceState) (m : Mark) (e : E
         ∙ ap (cell_of (byte_at old.bytes x)) (sym (value_kept call (committed_key c) x old.held.regions (goes_is x ∙ stays)))
   ]
 
-  unheld_now : (x : ℕ) → IsDead old.bytes x → value_when_held (without_closed call (committed_key c) old.held.regions) x ≡ None
-  unheld_now x dead = elim (cases_Bool (gone_at x)) [
+  unheld_now : (x : ℕ) → value_when_held old.held.regions x ≡ None → value_when_held (without_closed call (committed_key c) old.held.regions) x ≡ None
+  unheld_now x none = elim (cases_Bool (gone_at x)) [
     | inl goes ↦ value_gone call (committed_key c) x old.held.regions held.apart (goes_is x ∙ goes)
-    | inr stays ↦ value_kept call (committed_key c) x old.held.regions (goes_is x ∙ stays) ∙ k.h.sound.unheld x dead
+    | inr stays ↦ value_kept call (committed_key c) x old.held.regions (goes_is x ∙ stays) ∙ none
   ]
 
   -- the calls that stay open
@@ -310,7 +310,10 @@ module _ (s : Start) (past : List Mark) (old new : SpaceState) (m : Mark) (e : E
   ret_sound : IsSound s (m ∷ past) new
   ret_sound = record {
     ends = λ x last. bytes_are x ∙ k.h.sound.ends x last;
-    unheld = λ x dead. value_now x ∙ unheld_now x (sym (bytes_are x) ∙ dead);
+    unheld = λ x dead. value_now x ∙ unheld_now x (k.h.sound.unheld x (sym (bytes_are x) ∙ dead));
+    own = λ x is'. value_now x ∙ unheld_now x (k.h.sound.own x is');
+    inside = λ x a b c. bytes_are x ∙ k.h.sound.inside x a b c;
+    below = subst IsBelow (ap (λ (q : SpaceState). q.sides.system) (sym k.rest)) k.h.sound.below;
     held = held_now;
     stacked = λ t lt. subst (AreStacked (stack Replay t)) (sym (same_frames t)) (k.h.sound.stacked t lt);
     frames_live = λ t lt x in'. ap is_some (bytes_are x) ∙ k.h.sound.frames_live t lt x in' ∙ ap (λ fs. any_range fs x) (sym (same_frames t));

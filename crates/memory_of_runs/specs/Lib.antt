@@ -10,4 +10,5 @@ pub mod PoolMarks
 pub mod Calls
 pub mod Returns
 pub mod CallChecks
+pub mod Below
 pub mod Refusals

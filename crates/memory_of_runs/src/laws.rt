@@ -10,6 +10,7 @@ ghost use Rattle.memory_of_runs.specs.Refusals.{FullStacksAreFound, LeavesAreRef
 ghost use Rattle.memory_of_runs.specs.Calls.{CallsAreMarks, HeldRangesAreParts, OpenedCallsHaveNoParts, PreparedRangesAreParts, UndoneCallsLeaveMemory};
 ghost use Rattle.memory_of_runs.specs.Returns.{RefusedReturnsAreFindings, ReturnsAreMarks};
 ghost use Rattle.memory_of_runs.specs.CallChecks.{MadeCallsPass, PartsGrow, RefusedKeysAreFound, RacesOfHoldsAreFound, RacesOfReadsAreFound, RefusedHoldsAreFound, RefusedReadsAreFound};
+ghost use Rattle.memory_of_runs.specs.Below.{AllocsBelowAreUnseen, ArgumentsBelowAreUnseen, FramesBelowAreUnseen, FreesBelowAreUnseen, LeavesBelowAreUnseen, StoresBelowAreUnseen};
 ghost use Rattle.memory_of_runs.specs.PoolMarks.{AllocsAreMarks, FreesAreMarks, FreesOfNullAreMarks, RefusedAllocsAreMarks};
 
 /// Memory before a run stands for the run in which nothing was done yet.
@@ -168,4 +169,34 @@ pub fn parts_grow()
 /// The checks of a Ret find exactly what memory refuses of it, and pass exactly where memory takes it.
 pub fn refused_returns_are_findings()
     ensures { RefusedReturnsAreFindings }
+{}
+
+/// A store of code below the cut changes nothing that a run sees: it goes to system memory, or to bytes that wait.
+pub fn stores_below_are_unseen()
+    ensures { StoresBelowAreUnseen }
+{}
+
+/// A frame that is entered below the cut changes nothing that a run sees.
+pub fn frames_below_are_unseen()
+    ensures { FramesBelowAreUnseen }
+{}
+
+/// Nor do the arguments of such a frame.
+pub fn arguments_below_are_unseen()
+    ensures { ArgumentsBelowAreUnseen }
+{}
+
+/// Nor does the end of such a frame.
+pub fn leaves_below_are_unseen()
+    ensures { LeavesBelowAreUnseen }
+{}
+
+/// A block of the pool below the cut changes nothing that a run sees.
+pub fn allocs_below_are_unseen()
+    ensures { AllocsBelowAreUnseen }
+{}
+
+/// Nor does the end of such a block.
+pub fn frees_below_are_unseen()
+    ensures { FreesBelowAreUnseen }
 {}
