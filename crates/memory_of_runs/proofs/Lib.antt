@@ -24,5 +24,7 @@ pub mod Passing
 pub mod CallChecks
 pub mod KeyChecks
 pub mod ReturnChecks
+pub mod Frees
+pub mod OneThing
 pub mod Below
 pub mod Returns

@@ -6,7 +6,7 @@ ghost use Rattle.memory_of_runs.specs.Starts.{NewMemoryStandsForTheStart};
 ghost use Rattle.memory_of_runs.specs.Numbers.{AreBytesOf};
 ghost use Rattle.memory_of_runs.specs.Marks.{LoadsAreMarks, QuietMarksLeaveMemory, StoresAreMarks};
 ghost use Rattle.memory_of_runs.specs.FrameMarks.{ArgumentsAreBytes, EntersAreMarks, LeavesAreMarks};
-ghost use Rattle.memory_of_runs.specs.Refusals.{FullStacksAreFound, LeavesAreRefusedAsWrites, OtherSpaceComesFirst, RefusalsAreFindings, RefusedFreesAreFound};
+ghost use Rattle.memory_of_runs.specs.Refusals.{ChecksFindOneThing, FoundFreesAreRefused, FullStacksAreFound, LeavesAreRefusedAsWrites, OtherSpaceComesFirst, RefusalsAreFindings, RefusedFreesAreFound};
 ghost use Rattle.memory_of_runs.specs.Calls.{CallsAreMarks, HeldRangesAreParts, OpenedCallsHaveNoParts, PreparedRangesAreParts, UndoneCallsLeaveMemory};
 ghost use Rattle.memory_of_runs.specs.Returns.{RefusedReturnsAreFindings, ReturnsAreMarks};
 ghost use Rattle.memory_of_runs.specs.CallChecks.{MadeCallsPass, PartsGrow, RefusedKeysAreFound, RacesOfHoldsAreFound, RacesOfReadsAreFound, RefusedHoldsAreFound, RefusedReadsAreFound};
@@ -199,4 +199,14 @@ pub fn allocs_below_are_unseen()
 /// Nor does the end of such a block.
 pub fn frees_below_are_unseen()
     ensures { FreesBelowAreUnseen }
+{}
+
+/// What the checks of a Free above the cut find is what memory refuses it for, unless it races.
+pub fn found_frees_are_refused()
+    ensures { FoundFreesAreRefused }
+{}
+
+/// The checks of a step find one thing at most.
+pub fn checks_find_one_thing()
+    ensures { ChecksFindOneThing }
 {}
