@@ -1,13 +1,12 @@
 -- What refuses a Call is what its checks find.
-use Rattle.std.proofs.Common.{◌≡◌, ◌⊎◌, ℕ, ◌+◌, ◌-◌, ◌^◌, ◌<◌, ◌≤◌, Bool, true, false, cond, eqb, ◌&&◌, ◌||◌, List, [], ◌∷◌, ◌++◌, map, Option, Some, None, inl, inr, refl, ap, sym, ◌∙◌, subst, arith, All}
+use Rattle.std.proofs.Common.{◌≡◌, ◌⊎◌, ℕ, ◌+◌, ◌^◌, ◌<◌, ◌≤◌, Bool, true, false, eqb, ◌||◌, List, [], ◌∷◌, ◌++◌, None, inl, inr, refl, ap, sym, ◌∙◌, subst, arith}
 use Rattle.std.specs.Prelude.{option_map}
-use Rattle.std.specs.List.{list_any}
-use Rattle.std.proofs.lemmas.Bool.{cases_Bool, cases_lt, true≢false, cond-true, cond-false, eq-eqb, eqb-true, or_cases}
-use Rattle.std.proofs.lemmas.List.{append-nil, append_assoc, map-append}
+use Rattle.std.proofs.lemmas.Bool.{true≢false, eq-eqb, or_cases}
+use Rattle.std.proofs.lemmas.List.{append-nil}
 use Rattle.std.proofs.lemmas.List.Folds.{list_any-append}
 use Rattle.logical_clock.specs.declared.key.Class.TheVariants.{Async}
 use Rattle.marks.specs.declared.side.Side.TheVariants.{Replay}
-use Rattle.marks.specs.Places.{is_system, is_constant}
+use Rattle.marks.specs.Places.{is_system}
 use Rattle.marks.specs.Ranges.{Prepared, in_range, any_range, any_prepared, prepared_ranges}
 use Rattle.marks.specs.Ranges as marks
 use Rattle.marks.specs.Marks.{Mark}
@@ -16,11 +15,9 @@ use Rattle.marks.specs.Wants.{Calls}
 use Rattle.places.specs.declared.range.Range.{Range}
 use Rattle.places.specs.declared.areas.TheConstants.{SYSTEM_MEMORY}
 use Rattle.places.specs.Ranges.{covers, IsInRange, NoneIn, IsLeastIn}
-use Rattle.live_bytes.specs.Areas.{AreaState, IsDead, byte_at}
-use Rattle.held_regions.specs.declared.holder.OpenCall.{OpenCall}
+use Rattle.live_bytes.specs.Areas.{IsDead}
 use Rattle.held_regions.specs.declared.holder.Region.{Region}
 use Rattle.held_regions.specs.Held.{IsPending, innermost, prepared_region}
-use Rattle.access_checks.specs.declared.access.Access.{Access}
 use Rattle.access_checks.specs.declared.refusal.Refusal.{Refusal}
 use Rattle.access_checks.specs.declared.refusal.Refusal.TheVariants.{NotLive, Pending, OtherSpace, ReadOnly, StackFull, KeyInUse, NoKey, Size}
 use Rattle.access_checks.specs.Accesses.{IsRefused}
@@ -29,27 +26,26 @@ use Rattle.replay_runs.specs.Keys.{key}
 use Rattle.replay_runs.specs.Interface.{Interface}
 use Rattle.replay_runs.specs.Pool.{prepares_key, prepared_under, in_use}
 use Rattle.replay_runs.specs.Rules.{Apart, DistinctKeys}
-use Rattle.replay_runs.specs.Checks.{Finding, Checks, Check, Done, Passes, Finds, Races, race_check, range_checks, read_checks, hold_checks, any_number, key_checks, mode_checks, indirect_check, checks}
+use Rattle.replay_runs.specs.Checks.{Finding, Checks, Check, Done, Passes, Finds, Races, race_check, range_checks, read_checks, hold_checks, key_checks, mode_checks, checks}
 use Rattle.replay_checks.specs.Passing.{Unraced, NoneInUse}
 use Rattle.space_memory.specs.Spaces.{SpaceState}
 use Rattle.space_memory.specs.Cells.{is_held}
-use Rattle.space_memory.specs.Held.{region_range, region_access, IsPrepareRefused}
+use Rattle.space_memory.specs.Held.{region_range, region_access}
 use Rattle.memory_of_runs.specs.Shown.{memory_range}
 use Rattle.memory_of_runs.specs.Held.{AreApart, HaveOwnKeys}
 use Rattle.memory_of_runs.specs.StandsFor.{StandsFor}
 use Rattle.memory_of_runs.specs.Refusals.{finding_of, access}
-use Rattle.memory_of_runs.specs.Calls.{Part, Reads, Holds, Prepares, range_of, held_part, prepared_part, parts_of, IsFree, InCall}
-use Rattle.memory_of_runs.specs.CallChecks.{PartsGrow, AllUnraced, Wanted, IsReading, IsHolding, IsPreparing}
+use Rattle.memory_of_runs.specs.Calls.{parts_of, InCall}
+use Rattle.memory_of_runs.specs.CallChecks.{AllUnraced, Wanted, IsReading, IsHolding}
 use Rattle.memory_of_runs.proofs.Cells.{cover_parts, covered, live_ends}
 use Rattle.memory_of_runs.proofs.Least.{none_in}
-use Rattle.memory_of_runs.proofs.Regions.{waits_at, some_none, prepared_left}
+use Rattle.memory_of_runs.proofs.Regions.{waits_at, prepared_left}
 use Rattle.memory_of_runs.proofs.Refusals.{in_system, system_in, dead_byte, byte_dead, pending_byte, byte_pending, none_foreign, first_dead, none_dead, constant_bad, bad_constant, own_byte}
 use Rattle.memory_of_runs.proofs.Parts.{region_addr}
-use Rattle.memory_of_runs.proofs.Added.{writes_byte, held_is, written_any, added_key}
+use Rattle.memory_of_runs.proofs.Added.{held_is, written_any, added_key}
 use Rattle.memory_of_runs.proofs.Calls.{prepared_there, prepared_keeps, own_key, no_range, no_region}
 use Rattle.memory_of_runs.proofs.CallRules.{apart_of, keys_of, read_apart, read_distinct}
-use Rattle.memory_of_runs.proofs.Passing.{AllFree, free_reads, free_holds, piled, piled_any, piled_key, past_modes, past_indirect, past_reads, past_holds, past_keys}
-use Rattle.memory_of_runs.proofs.Passing as passing
+use Rattle.memory_of_runs.proofs.Passing.{AllFree, free_reads, free_holds, piled, piled_any, past_modes, past_indirect, past_reads, past_holds, past_keys}
 
 or_true : (a b : Bool) → b ≡ true → (a || b) ≡ true
 or_true true b e = refl

@@ -1,5 +1,5 @@
 -- The checks of a step find one thing at most.
-use Rattle.std.proofs.Common.{◌≡◌, ◌⊎◌, ℕ, zero, suc, ◌≤◌, Bool, true, false, cond, List, [], ◌∷◌, ◌++◌, length, Option, Some, None, inl, inr, refl, ap, sym, ◌∙◌, subst, arith}
+use Rattle.std.proofs.Common.{◌≡◌, ℕ, zero, suc, Bool, true, false, List, [], ◌∷◌, ◌++◌, length, Some, inl, inr, ap, sym, ◌∙◌, subst, arith}
 use Rattle.marks.specs.declared.side.Side.{Side}
 use Rattle.marks.specs.declared.side.Side.TheVariants.{Replay, System}
 use Rattle.marks.specs.declared.fault.FaultKind.{FaultKind}
@@ -9,10 +9,9 @@ use Rattle.marks.specs.Ranges.{Prepared, range, prepared_ranges}
 use Rattle.marks.specs.Ranges as marks
 use Rattle.marks.specs.Marks.{Mark}
 use Rattle.marks.specs.Wants.{Want, Loads, Stores, Enters, Leaves, Frees, Calls, Fails}
-use Rattle.replay_runs.specs.Runs.{Start, marks_of, byte}
+use Rattle.replay_runs.specs.Runs.{Start}
 use Rattle.replay_runs.specs.Interface.{Interface}
-use Rattle.replay_runs.specs.Threads.{frame_place}
-use Rattle.replay_runs.specs.Checks.{Finding, FaultFound, BreachFound, Checks, Check, Done, Least, Finds, Races, IsRace, is_fault_found, is_breach_found, other_space_check, race_check, live_check, pending_check, range_checks, read_checks, hold_checks, key_checks, mode_checks, indirect_check, freed_range, checks}
+use Rattle.replay_runs.specs.Checks.{Finding, BreachFound, Checks, Check, Done, Least, Finds, Races, IsRace, is_fault_found, is_breach_found, range_checks, read_checks, hold_checks, key_checks, mode_checks, indirect_check, checks}
 
 -- at one address one thing is found
 IsOne : (ℕ → Finding → Type 0) → Type 0

@@ -1,23 +1,20 @@
 -- The parts of a Call that is being made.
-use Rattle.std.proofs.Common.{◌≡◌, ℕ, zero, suc, ◌+◌, ◌-◌, ◌^◌, ◌<◌, ◌≤◌, Bool, true, false, cond, eqb, not, ◌&&◌, ◌||◌, List, [], ◌∷◌, ◌++◌, length, map, get_or, Option, Some, None, inl, inr, refl, ap, sym, ◌∙◌, subst, arith, All, get_or-set_same, get_or-set_other}
+use Rattle.std.proofs.Common.{◌≡◌, ℕ, zero, suc, ◌+◌, ◌-◌, ◌^◌, ◌<◌, Bool, true, false, cond, eqb, not, ◌||◌, List, [], ◌∷◌, ◌++◌, length, Option, Some, None, inl, inr, refl, ap, sym, ◌∙◌, subst, arith, get_or-set_same, get_or-set_other}
 use Rattle.std.specs.Prelude.{slice_index, slice_set}
-use Rattle.std.specs.List.{list_any}
 use Rattle.std.proofs.lemmas.Bool.{cases_Bool, cases_eq, true≢false, cond-true, cond-false, eqb-true, eq-eqb, ne_eqb, and_parts, and_from, and_left, and_right}
 use Rattle.std.proofs.lemmas.List.{append-nil, append_assoc, length-set, set-get_or}
 use Rattle.std.proofs.lemmas.List.Elements.{All-append, All-cons, All-nil, filter-append}
 use Rattle.std.proofs.lemmas.List.Folds.{list_any-append}
 use Rattle.marks.specs.declared.side.Side.TheVariants.{Replay}
-use Rattle.marks.specs.Places.{thread_count, is_constant, is_system}
+use Rattle.marks.specs.Places.{thread_count, is_constant}
 use Rattle.marks.specs.Ranges.{in_range}
 use Rattle.marks.specs.Ranges as marks
 use Rattle.marks.specs.Marks.{Mark}
 use Rattle.places.specs.declared.range.Range.{Range}
 use Rattle.places.specs.Ranges.{covers, IsInRange}
-use Rattle.live_bytes.specs.Areas.{AreaState, IsDead, byte_at}
-use Rattle.live_bytes.specs.Numbers.{HasBytes}
+use Rattle.live_bytes.specs.Areas.{AreaState, byte_at}
 use Rattle.held_regions.specs.declared.holder.OpenCall.{OpenCall}
 use Rattle.held_regions.specs.declared.holder.Region.{Region}
-use Rattle.held_regions.specs.declared.holder.Holder.{Holder}
 use Rattle.held_regions.specs.declared.holder.Holder.TheVariants.{In, Out, Key}
 use Rattle.held_regions.specs.Holders.{is_pending, is_of, has_key, is_same_call}
 use Rattle.held_regions.specs.Held.{HeldState, innermost, without_call, prepared_region}
@@ -30,9 +27,9 @@ use Rattle.space_memory.specs.Spaces.{SpaceState, IsWhole}
 use Rattle.space_memory.specs.Cells.{is_held}
 use Rattle.space_memory.specs.Held.{region_range, region_access, holder_of, IsRegionOf, AddsRegion, IsPrepareRefused}
 use Rattle.memory_of_runs.specs.Shown.{memory_range}
-use Rattle.memory_of_runs.specs.Held.{AreApart, HaveOwnKeys, has_region, AreHeld}
+use Rattle.memory_of_runs.specs.Held.{has_region, AreHeld}
 use Rattle.memory_of_runs.specs.StandsFor.{StandsFor}
-use Rattle.memory_of_runs.specs.Calls.{Part, Reads, Holds, Prepares, range_of, is_written, holder_for, held_part, HaveRegions, AddsRegions, IsFree, InCall}
+use Rattle.memory_of_runs.specs.Calls.{Part, Reads, Holds, Prepares, range_of, is_written, holder_for, held_part, HaveRegions, IsFree, InCall}
 use Rattle.memory_of_runs.proofs.Cells.{cover_parts, live_ends, not_system}
 use Rattle.memory_of_runs.proofs.Refusals.{constant_from}
 use Rattle.memory_of_runs.proofs.Regions.{waits_at, some_none, apart_more, keys_more}

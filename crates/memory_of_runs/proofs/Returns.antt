@@ -1,9 +1,9 @@
 -- A release is a Ret.
-use Rattle.std.proofs.Common.{◌≡◌, ℕ, suc, ◌+◌, ◌-◌, ◌<◌, ◌≤◌, ◌⊎◌, Bool, true, false, cond, eqb, not, ◌&&◌, ◌||◌, List, [], ◌∷◌, ◌++◌, length, map, Option, Some, None, is_some, inl, inr, refl, ap, sym, ◌∙◌, subst, arith, All, get_or-set_same, get_or-set_other}
+use Rattle.std.proofs.Common.{◌≡◌, ℕ, suc, ◌+◌, ◌-◌, ◌<◌, Bool, true, false, cond, eqb, not, List, [], ◌∷◌, ◌++◌, length, map, Option, Some, None, is_some, inl, inr, refl, ap, sym, ◌∙◌, subst, arith, All, get_or-set_same, get_or-set_other}
 use Rattle.std.specs.Prelude.{slice_index, slice_set, option_map, unwrap_or}
 use Rattle.std.specs.List.{list_any}
 use Rattle.std.specs.Option.{option_to_list}
-use Rattle.std.proofs.lemmas.Bool.{cases_Bool, cases_eq, true≢false, cond-true, cond-false, eq-eqb, ne_eqb, eqb-true, and_parts, and_from, and_left, and_right}
+use Rattle.std.proofs.lemmas.Bool.{cases_Bool, cases_eq, true≢false, cond-true, cond-false, eq-eqb, ne_eqb, eqb-true, and_left, and_right}
 use Rattle.std.proofs.lemmas.List.{map-append, length-set}
 use Rattle.logical_clock.specs.declared.key.Class.TheVariants.{Pool, Async}
 use Rattle.marks.specs.declared.side.Side.TheVariants.{Replay}
@@ -11,10 +11,10 @@ use Rattle.marks.specs.Places.{thread_count, stack, replay_pool, pool_size, is_s
 use Rattle.marks.specs.Ranges.{Piece, range, any_range, piece_ranges}
 use Rattle.marks.specs.Ranges as marks
 use Rattle.marks.specs.Marks.{Commit, NoRegion, Withheld, Released, released, Ret, Event, Made, Mark}
-use Rattle.marks.specs.Bytes.{Cell, EventAsks, Asks, give_any, event_leaves, cell_after, event_block, block_after}
+use Rattle.marks.specs.Bytes.{EventAsks, Asks, give_any, event_leaves, cell_after, event_block, block_after}
 use Rattle.places.specs.declared.range.Range.{Range}
 use Rattle.places.specs.Ranges.{covers}
-use Rattle.live_bytes.specs.Areas.{AreaState, byte_at, IsDead}
+use Rattle.live_bytes.specs.Areas.{byte_at}
 use Rattle.call_stacks.specs.Frames.{stack_of}
 use Rattle.pool_list.specs.Blocks.{length_at, LieBetween}
 use Rattle.held_regions.specs.declared.holder.OpenCall.{OpenCall}
@@ -31,17 +31,16 @@ use Rattle.replay_runs.specs.Pool.{blocks, act_blocks, blocks_after, commit_leav
 use Rattle.replay_runs.specs.Rules.{Closes}
 use Rattle.space_memory.specs.Sides.{SideState}
 use Rattle.space_memory.specs.Spaces.{SpaceState, IsWhole}
-use Rattle.space_memory.specs.Releases.{outs_of, committed, committed_key, committed_size, AllFilled, AllReturned, HasKey}
+use Rattle.space_memory.specs.Releases.{outs_of, committed, committed_key, committed_size, AllReturned, HasKey}
 use Rattle.memory_of_runs.specs.Shown.{memory_range, value_when_held, cell_of, stack_with, pool_with, by_address, ranges_at, ins_of}
 use Rattle.memory_of_runs.specs.Held.{AreApart, HaveOwnKeys, has_region, AreHeld}
 use Rattle.memory_of_runs.specs.Sound.{AreStacked, IsBelow, IsSound}
 use Rattle.memory_of_runs.specs.StandsFor.{HoldsFor, StandsFor}
-use Rattle.memory_of_runs.specs.Marks.{IsMark}
 use Rattle.memory_of_runs.specs.Returns.{ShowUsed, CommitsAs, CommitsInUse, IsRet}
 use Rattle.memory_of_runs.proofs.Backs.{frames_stay, blocks_stay, calls_own, calls_other, keys_more, stay}
 use Rattle.memory_of_runs.proofs.Regions.{some_none}
 use Rattle.memory_of_runs.proofs.Calls.{ranges_past}
-use Rattle.memory_of_runs.proofs.Closed.{goes_at, value_kept, value_gone, apart_kept, keys_kept, whole_kept, owned_kept, owned_gone, ins_kept, outs_kept, ins_gone, outs_gone, key_kept, key_gone, eqb_sym}
+use Rattle.memory_of_runs.proofs.Closed.{goes_at, value_kept, value_gone, apart_kept, keys_kept, whole_kept, owned_kept, owned_gone, ins_kept, outs_kept, ins_gone, outs_gone, key_kept, key_gone}
 use Rattle.memory_of_runs.proofs.Gone.{gone_any, gone_waiting, given, untouched, all_fit}
 
 -- an open call that is there is the innermost one, with what it reads and holds

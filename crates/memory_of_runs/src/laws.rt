@@ -9,7 +9,7 @@ ghost use Rattle.memory_of_runs.specs.FrameMarks.{ArgumentsAreBytes, EntersAreMa
 ghost use Rattle.memory_of_runs.specs.Refusals.{ChecksFindOneThing, FoundFreesAreRefused, FullStacksAreFound, LeavesAreRefusedAsWrites, OtherSpaceComesFirst, RefusalsAreFindings, RefusedFreesAreFound};
 ghost use Rattle.memory_of_runs.specs.Calls.{CallsAreMarks, HeldRangesAreParts, OpenedCallsHaveNoParts, PreparedRangesAreParts, UndoneCallsLeaveMemory};
 ghost use Rattle.memory_of_runs.specs.Returns.{RefusedReturnsAreFindings, ReturnsAreMarks};
-ghost use Rattle.memory_of_runs.specs.CallChecks.{MadeCallsPass, PartsGrow, RefusedKeysAreFound, RacesOfHoldsAreFound, RacesOfReadsAreFound, RefusedHoldsAreFound, RefusedReadsAreFound};
+ghost use Rattle.memory_of_runs.specs.CallChecks.{MadeCallsPass, PartsGrow, RacesOfHoldsAreFound, RacesOfReadsAreFound, RefusedHoldsAreFound, RefusedKeysAreFound, RefusedReadsAreFound};
 ghost use Rattle.memory_of_runs.specs.Below.{AllocsBelowAreUnseen, ArgumentsBelowAreUnseen, FramesBelowAreUnseen, FreesBelowAreUnseen, LeavesBelowAreUnseen, StoresBelowAreUnseen};
 ghost use Rattle.memory_of_runs.specs.PoolMarks.{AllocsAreMarks, FreesAreMarks, FreesOfNullAreMarks, RefusedAllocsAreMarks};
 
@@ -73,6 +73,41 @@ pub fn frees_of_null_are_marks()
     ensures { FreesOfNullAreMarks }
 {}
 
+/// A call that is opened stands for the past, with one more call open that has no parts yet.
+pub fn opened_calls_have_no_parts()
+    ensures { OpenedCallsHaveNoParts }
+{}
+
+/// A range that a call holds, to read it or to have it written, is one more part of the Call.
+pub fn held_ranges_are_parts()
+    ensures { HeldRangesAreParts }
+{}
+
+/// A range that a call prepares under a key is one more part of the Call.
+pub fn prepared_ranges_are_parts()
+    ensures { PreparedRangesAreParts }
+{}
+
+/// A Call that reads, holds or prepares one more range has the parts of the longer lists.
+pub fn parts_grow()
+    ensures { (ins outs : List Range) (prepared : List Prepared) → PartsGrow ins outs prepared }
+{}
+
+/// A call that is undone leaves memory as it was before it was opened.
+pub fn undone_calls_leave_memory()
+    ensures { UndoneCallsLeaveMemory }
+{}
+
+/// A call with all its parts is a Call: memory stands for the past with it, and the rules of runs allow it.
+pub fn calls_are_marks()
+    ensures { CallsAreMarks }
+{}
+
+/// A call that is released is a Ret with the bytes of its regions, over the whole of their ranges.
+pub fn returns_are_marks()
+    ensures { ReturnsAreMarks }
+{}
+
 /// Where an access above the cut races with none, the checks of a run find exactly what memory refuses, and pass exactly
 /// where memory allows it.
 pub fn refusals_are_findings()
@@ -99,34 +134,9 @@ pub fn refused_frees_are_found()
     ensures { RefusedFreesAreFound }
 {}
 
-/// A call that is opened stands for the past, with one more call open that has no parts yet.
-pub fn opened_calls_have_no_parts()
-    ensures { OpenedCallsHaveNoParts }
-{}
-
-/// A range that a call holds, to read it or to have it written, is one more part of the Call.
-pub fn held_ranges_are_parts()
-    ensures { HeldRangesAreParts }
-{}
-
-/// A range that a call prepares under a key is one more part of the Call.
-pub fn prepared_ranges_are_parts()
-    ensures { PreparedRangesAreParts }
-{}
-
-/// A call that is undone leaves memory as it was before it was opened.
-pub fn undone_calls_leave_memory()
-    ensures { UndoneCallsLeaveMemory }
-{}
-
-/// A call with all its parts is a Call: memory stands for the past with it, and the rules of runs allow it.
-pub fn calls_are_marks()
-    ensures { CallsAreMarks }
-{}
-
-/// A call that is released is a Ret with the bytes of its regions, over the whole of their ranges.
-pub fn returns_are_marks()
-    ensures { ReturnsAreMarks }
+/// What the checks of a Free above the cut find is what memory refuses it for, unless it races.
+pub fn found_frees_are_refused()
+    ensures { FoundFreesAreRefused }
 {}
 
 /// A range that memory refuses to read for a Call is what the checks of the Call find, where it doesn't race.
@@ -150,25 +160,25 @@ pub fn races_of_holds_are_found()
     ensures { RacesOfHoldsAreFound }
 {}
 
-/// A Call of which memory refuses nothing, and no range races, passes its checks.
-pub fn made_calls_pass()
-    ensures { MadeCallsPass }
-{}
-
 /// Where all ranges of a Call were tested, only a key can refuse one of those that are prepared, and the checks of the
 /// Call find that.
 pub fn refused_keys_are_found()
     ensures { RefusedKeysAreFound }
 {}
 
-/// A Call that reads, holds or prepares one more range has the parts of the longer lists.
-pub fn parts_grow()
-    ensures { (ins outs : List Range) (prepared : List Prepared) → PartsGrow ins outs prepared }
+/// A Call of which memory refuses nothing, and no range races, passes its checks.
+pub fn made_calls_pass()
+    ensures { MadeCallsPass }
 {}
 
 /// The checks of a Ret find exactly what memory refuses of it, and pass exactly where memory takes it.
 pub fn refused_returns_are_findings()
     ensures { RefusedReturnsAreFindings }
+{}
+
+/// The checks of a step find one thing at most.
+pub fn checks_find_one_thing()
+    ensures { ChecksFindOneThing }
 {}
 
 /// A store of code below the cut changes nothing that a run sees: it goes to system memory, or to bytes that wait.
@@ -199,14 +209,4 @@ pub fn allocs_below_are_unseen()
 /// Nor does the end of such a block.
 pub fn frees_below_are_unseen()
     ensures { FreesBelowAreUnseen }
-{}
-
-/// What the checks of a Free above the cut find is what memory refuses it for, unless it races.
-pub fn found_frees_are_refused()
-    ensures { FoundFreesAreRefused }
-{}
-
-/// The checks of a step find one thing at most.
-pub fn checks_find_one_thing()
-    ensures { ChecksFindOneThing }
 {}
