@@ -26,5 +26,6 @@ pub mod KeyChecks
 pub mod ReturnChecks
 pub mod Frees
 pub mod OneThing
+pub mod Owed
 pub mod Below
 pub mod Returns

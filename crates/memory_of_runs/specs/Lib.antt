@@ -11,4 +11,5 @@ pub mod Calls
 pub mod Returns
 pub mod CallChecks
 pub mod Below
+pub mod Owed
 pub mod Refusals

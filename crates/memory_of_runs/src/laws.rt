@@ -11,6 +11,7 @@ ghost use Rattle.memory_of_runs.specs.Calls.{CallsAreMarks, HeldRangesAreParts, 
 ghost use Rattle.memory_of_runs.specs.Returns.{RefusedReturnsAreFindings, ReturnsAreMarks};
 ghost use Rattle.memory_of_runs.specs.CallChecks.{MadeCallsPass, PartsGrow, RacesOfHoldsAreFound, RacesOfReadsAreFound, RefusedHoldsAreFound, RefusedKeysAreFound, RefusedReadsAreFound};
 ghost use Rattle.memory_of_runs.specs.Below.{AllocsBelowAreUnseen, ArgumentsBelowAreUnseen, FramesBelowAreUnseen, FreesBelowAreUnseen, LeavesBelowAreUnseen, StoresBelowAreUnseen};
+ghost use Rattle.memory_of_runs.specs.Owed.{PendingBytesAreOwed};
 ghost use Rattle.memory_of_runs.specs.PoolMarks.{AllocsAreMarks, FreesAreMarks, FreesOfNullAreMarks, RefusedAllocsAreMarks};
 
 /// Memory before a run stands for the run in which nothing was done yet.
@@ -106,6 +107,11 @@ pub fn calls_are_marks()
 /// A call that is released is a Ret with the bytes of its regions, over the whole of their ranges.
 pub fn returns_are_marks()
     ensures { ReturnsAreMarks }
+{}
+
+/// Where memory stands for a past, the pending bytes are those that open calls hold and those of keys in use.
+pub fn pending_bytes_are_owed()
+    ensures { PendingBytesAreOwed }
 {}
 
 /// Where an access above the cut races with none, the checks of a run find exactly what memory refuses, and pass exactly
