@@ -90,7 +90,7 @@ pub stores : (s : Start) (past : List Mark) (old new : SpaceState) (m : Mark) (o
 stores s past old new m origin thread addr width value h small has outside same ok is = record {
   asks = subst (λ a. Asks a (λ x. byte s x past)) (sym is) (λ x w. open_live s past old thread addr width true h small ok x (subst (λ n. within addr n x ≡ true) (count width value) w));
   stands = moved s m past old new h (still_leaves s m past (subst IsStill (sym is) (record { frames = λ fs. refl; calls = λ cs. refl; blocks = λ bs. refl; keys = λ k r. refl })))
-      (ap (λ (q : SpaceState). q.held) same) (ap (λ (q : SpaceState). q.sides.replay) same)
+      (ap (λ (q : SpaceState). q.held) same) (ap (λ (q : SpaceState). q.sides) same)
       (λ x own. ap (λ a. cell_after a x (byte s x past).cell) is ∙ ap (λ n. cond (within addr n x) (Live (marks.byte_at addr (bytes_of_number width value) x)) (byte s x past).cell) (count width value) ∙ written x own)
       (λ x. ap (λ a. block_after a x (byte s x past).block) is)
       (λ x. elim (cover_cases (reach addr width) x) [

@@ -31,12 +31,13 @@ use Rattle.space_memory.specs.Spaces.{SpaceState, with_side}
 use Rattle.space_memory.specs.Blocks.{IsFreeRefused}
 use Rattle.space_memory.specs.Cells.{is_held}
 use Rattle.memory_of_runs.specs.Shown.{memory_range, value_when_held, cell_of, stack_with, pool_with, by_address}
-use Rattle.memory_of_runs.specs.Sound.{AreStacked, JustTheseLive, IsSound}
+use Rattle.memory_of_runs.specs.Held.{AreHeld}
+use Rattle.memory_of_runs.specs.Sound.{IsBelow, AreStacked, JustTheseLive, IsSound}
 use Rattle.memory_of_runs.specs.StandsFor.{HoldsFor, StandsFor}
 use Rattle.memory_of_runs.specs.Marks.{IsMark}
 use Rattle.memory_of_runs.specs.PoolMarks.{IsAlloc}
 use Rattle.memory_of_runs.proofs.Backs.{still_leaves, frames_stay, calls_stay, keys_stay, blocks_more}
-use Rattle.memory_of_runs.proofs.Cells.{cover_cases, cover_parts, covered, dead_from, unheld, below_system}
+use Rattle.memory_of_runs.proofs.Cells.{cover_cases, cover_parts, covered, dead_from, unheld, below_system, in_replay}
 use Rattle.memory_of_runs.proofs.Access.{live_cell}
 use Rattle.memory_of_runs.proofs.Least.{none_in}
 use Rattle.memory_of_runs.proofs.Moved.{moved}
@@ -50,6 +51,7 @@ record Repools (s : Start) (past : List Mark) (old new : SpaceState) (m : Mark) 
   keys : (k : ℕ) (q : Option marks.Range) → act_use k m.act q ≡ q
   begins : (x : ℕ) → is_system x ≡ false → (byte s x (m ∷ past)).block ≡ unwrap_or (length_at (by_address bs) x) 0
   side : new.sides.replay ≡ with_blocks old.sides.replay (by_address bs)
+  system : new.sides.system ≡ old.sides.system
   held : new.held ≡ old.held
   laid_out : LieBetween replay_pool (replay_pool + pool_size) (by_address bs)
   from : replay_pool ≤ r.at
@@ -70,6 +72,13 @@ module _ (s : Start) (past : List Mark) (old new : SpaceState) (m : Mark) (bs : 
       | inl in' ↦ k.unheld x in'.is
       | inr out ↦ h.sound.unheld x (sym (k.outside x out.is) ∙ dead)
     ];
+    own = λ x is. ap (λ (q : HeldState). value_when_held q.regions x) k.held ∙ h.sound.own x is;
+    inside = λ x a b c. elim (cover_cases (memory_range r) x) [
+      | inl in' ↦ absurd (true≢false (sym (in_replay x (omega (arith, in'.from, k.from)) (omega (arith, in'.below, k.to))) ∙ b))
+      | inr out ↦ k.outside x out.is ∙ h.sound.inside x a b c
+    ];
+    below = subst IsBelow (sym k.system) h.sound.below;
+    held = subst AreHeld (sym k.held) h.sound.held;
     stacked = λ t lt. subst (AreStacked (stack Replay t)) (sym (frames_stay s m past k.frames t)) (h.sound.stacked t lt);
     frames_live = λ t lt x is. elim (cover_cases (memory_range r) x) [
       | inl in' ↦
@@ -105,6 +114,7 @@ record Allocs (s : Start) (past : List Mark) (old new : SpaceState) (m : Mark) (
   place : IsLeastPlace (pool_with bs) size addr
   some : 1 ≤ size
   side : new.sides.replay ≡ with_blocks old.sides.replay (by_address (range addr size ∷ bs))
+  system : new.sides.system ≡ old.sides.system
   fills : FillsWith (record { addr = addr; len = size }) (Some 0) old.bytes new.bytes
   held : new.held ≡ old.held
   is : m.act ≡ Made e
@@ -186,6 +196,7 @@ module _ (s : Start) (past : List Mark) (old new : SpaceState) (m : Mark) (e : E
     keys = λ k q. ap (λ z. act_use k z q) a.is ∙ ap (λ z. use_after k z q) a.kind;
     begins = λ x own. ap (λ z. block_after z x (byte s x past).block) a.is ∙ ap (λ z. event_block z x (byte s x past).block) a.kind ∙ ap (λ n. cond (within addr n x) (cond (eqb x addr) size 0) (byte s x past).block) granted_all ∙ alloc_begins x own;
     side = a.side;
+    system = a.system;
     held = a.held;
     laid_out = lie_with_block replay_pool (replay_pool + pool_size) (by_address bs) (block_of r) a.place.is_place.from_base a.place.is_place.aligned a.some a.place.is_place.in_pool a.place.is_place.free laid;
     from = a.place.is_place.from_base;
@@ -211,6 +222,7 @@ allocs s past old new m e size addr h place some side fills held is kind keyed =
       were = refl;
       place = subst (λ q. IsLeastPlace q size addr) h.pool place;
       some = some;
+      system = ap (λ (q : Sides). q.system) side;
       side = ap (λ (q : Sides). q.replay) side ∙ ap (λ (q : PoolState). with_blocks old.sides.replay (with_block q.blocks (record { addr = addr; len = size }))) h.pool;
       fills = fills;
       held = held;
@@ -253,6 +265,7 @@ record Frees (s : Start) (past : List Mark) (old new : SpaceState) (m : Mark) (e
   were : blocks (events_with s (OfKey (key Pool 0)) past) ≡ bs
   there : length_at (by_address bs) addr ≡ Some size
   side : new.sides.replay ≡ with_blocks old.sides.replay (without_block (by_address bs) addr)
+  system : new.sides.system ≡ old.sides.system
   fills : FillsWith (record { addr = addr; len = size }) None old.bytes new.bytes
   free : (x : ℕ) → covers (record { addr = addr; len = size }) x ≡ true → value_when_held old.held.regions x ≡ None
   held : new.held ≡ old.held
@@ -336,6 +349,7 @@ module _ (s : Start) (past : List Mark) (old new : SpaceState) (m : Mark) (e : E
     calls = λ cs. ap (λ z. act_calls z cs) a.is ∙ ap (λ z. calls_after z cs) a.kind;
     keys = λ k q. ap (λ z. act_use k z q) a.is ∙ ap (λ z. use_after k z q) a.kind;
     begins = λ x own. ap (λ z. block_after z x (byte s x past).block) a.is ∙ ap (λ z. event_block z x (byte s x past).block) a.kind ∙ free_begins x own;
+    system = a.system;
     side = a.side ∙ ap (with_blocks old.sides.replay) (sym left_is);
     held = a.held;
     laid_out = subst (LieBetween replay_pool (replay_pool + pool_size)) (sym left_is) (lie_without replay_pool (replay_pool + pool_size) (by_address bs) addr laid_before);
@@ -375,6 +389,7 @@ frees s past old new m e addr size h there side fills held free is kind keyed =
     free_made s past old new m e addr size bs h (record {
       were = refl;
       there = there';
+      system = ap (λ (q : Sides). q.system) side;
       side = ap (λ (q : Sides). q.replay) side ∙ ap (λ (q : PoolState). with_blocks old.sides.replay (without_block q.blocks addr)) h.pool;
       fills = fills;
       free = λ x c. let p = cover_parts (record { addr = addr; len = size }) x c in unheld old.held.regions x (none x (p.0, p.1, omega (arith, p.1, lies.2)));

@@ -35,11 +35,11 @@ in_system x is =
 pub system_in : (x : ℕ) → IsInRange SYSTEM_MEMORY x → is_system x ≡ true
 system_in x p = and_from (leb system_globals x) (ltb x system_end) (le-leb system_globals x p.0) (lt-ltb x system_end p.1)
 
-constant_to : (write : Bool) (x : ℕ) → IsConstantTo write x → (write ≡ true) × (is_constant x ≡ true)
+pub constant_to : (write : Bool) (x : ℕ) → IsConstantTo write x → (write ≡ true) × (is_constant x ≡ true)
 constant_to true x p = (refl, and_from (leb constants x) (ltb x replay_globals) (le-leb constants x p.0) (lt-ltb x replay_globals p.1))
 constant_to false x p = absurd p
 
-constant_from : (write : Bool) (x : ℕ) → write ≡ true → is_constant x ≡ true → IsConstantTo write x
+pub constant_from : (write : Bool) (x : ℕ) → write ≡ true → is_constant x ≡ true → IsConstantTo write x
 constant_from true x w is =
     let p = and_parts (leb constants x) (ltb x replay_globals) is in
     let from : constants ≤ x = leb-true constants x p.0 in
@@ -95,13 +95,13 @@ module _ (s : Start) (past : List Mark) (memory : SpaceState) (t addr len : ℕ)
   abbrev r : Range
   r = record { addr = addr; len = len }
 
-  none_foreign : NoneIn r (IsInRange SYSTEM_MEMORY) → (x : ℕ) → (covers r x ≡ true) × (is_system x ≡ true) → ⊥
+  pub none_foreign : NoneIn r (IsInRange SYSTEM_MEMORY) → (x : ℕ) → (covers r x ≡ true) × (is_system x ≡ true) → ⊥
   none_foreign own x bad = let p = cover_parts r x bad.0 in let q = in_system x bad.1 in own x (p.0, p.1, q.2) q
 
   no_foreign : ((x : ℕ) → (covers r x ≡ true) × (is_system x ≡ true) → ⊥) → NoneIn r (IsInRange SYSTEM_MEMORY)
   no_foreign none x in' is = none x (covered r x in'.0 in'.1, system_in x is)
 
-  own_byte : NoneIn r (IsInRange SYSTEM_MEMORY) → (x : ℕ) → covers r x ≡ true → is_system x ≡ false
+  pub own_byte : NoneIn r (IsInRange SYSTEM_MEMORY) → (x : ℕ) → covers r x ≡ true → is_system x ≡ false
   own_byte own x c = elim (cases_Bool (is_system x)) [ inl is ↦ absurd (none_foreign own x (c, is)) | inr is ↦ is ]
 
   pub second : RacesComeSecond s past memory t addr len write
@@ -129,11 +129,11 @@ module _ (s : Start) (past : List Mark) (memory : SpaceState) (t addr len : ℕ)
   no_race : (x : ℕ) → (covers q x ≡ true) × ((u : ℕ) × Races past t write x u) → ⊥
   no_race x bad = unraced x bad.1.0 bad.0 bad.1.1
 
-  owned : Own → (x : ℕ) → covers q x ≡ true → is_system x ≡ false
+  pub owned : Own → (x : ℕ) → covers q x ≡ true → is_system x ≡ false
   owned own x c = own_byte s past memory t addr len write small own x c
 
   -- the last address is dead, so a range with a dead byte has one that is an address
-  first_dead : Own → (x : ℕ) → (covers q x ≡ true) × ((byte s x past).cell ≡ Dead) → (y : ℕ) × (y ≤ x) × (y < 2 ^ 64) × ((covers q y ≡ true) × ((byte s y past).cell ≡ Dead))
+  pub first_dead : Own → (x : ℕ) → (covers q x ≡ true) × ((byte s x past).cell ≡ Dead) → (y : ℕ) × (y ≤ x) × (y < 2 ^ 64) × ((covers q y ≡ true) × ((byte s y past).cell ≡ Dead))
   first_dead own x bad = elim (cases_lt x (2 ^ 64)) [
     | inl lt ↦ (x, omega arith, lt, bad)
     | inr past' ↦
@@ -142,7 +142,7 @@ module _ (s : Start) (past : List Mark) (memory : SpaceState) (t addr len : ℕ)
         (2 ^ 64 - 1, omega (arith, past'), omega arith, (c, byte_dead s past memory h (2 ^ 64 - 1) (owned own (2 ^ 64 - 1) c) (h.sound.ends (2 ^ 64 - 1) (omega arith))))
   ]
 
-  none_dead : Own → AllThere → (x : ℕ) → (covers q x ≡ true) × ((byte s x past).cell ≡ Dead) → ⊥
+  pub none_dead : Own → AllThere → (x : ℕ) → (covers q x ≡ true) × ((byte s x past).cell ≡ Dead) → ⊥
   none_dead own there x bad =
       let k = first_dead own x bad in
       let p = cover_parts q k.0 k.3.0 in
@@ -168,14 +168,14 @@ module _ (s : Start) (past : List Mark) (memory : SpaceState) (t addr len : ℕ)
   abbrev IsConstantBad : ℕ → Type 0
   IsConstantBad x = (covers q x ≡ true) × (write ≡ true) × (is_constant x ≡ true)
 
-  constant_bad : (x : ℕ) → IsConstantBad x → IsInRange q x × IsConstantTo write x
+  pub constant_bad : (x : ℕ) → IsConstantBad x → IsInRange q x × IsConstantTo write x
   constant_bad x bad =
       let p = cover_parts q x bad.0 in
       let k = and_parts (leb constants x) (ltb x replay_globals) bad.2 in
       let to : x < replay_globals = ltb-true x replay_globals k.1 in
       ((p.0, p.1, omega (arith, to)), constant_from write x bad.1 bad.2)
 
-  bad_constant : (x : ℕ) → IsInRange q x → IsConstantTo write x → IsConstantBad x
+  pub bad_constant : (x : ℕ) → IsInRange q x → IsConstantTo write x → IsConstantBad x
   bad_constant x in' is = let k = constant_to write x is in (covered q x in'.0 in'.1, k.0, k.1)
 
   refused : (f : Refusal) → IsRefused memory.bytes memory.held.regions (access t addr len write) f → Finds (range_checks s past t write [] (range addr len) Done) (finding_of f)

@@ -1,4 +1,5 @@
 pub mod Shown
+pub mod Held
 pub mod Sound
 pub mod StandsFor
 pub mod Starts
@@ -6,4 +7,9 @@ pub mod Numbers
 pub mod Marks
 pub mod FrameMarks
 pub mod PoolMarks
+pub mod Calls
+pub mod Returns
+pub mod CallChecks
+pub mod Below
+pub mod Owed
 pub mod Refusals

@@ -1,11 +1,17 @@
 //! The laws. Each holds for any start and any past.
 
-ghost use Rattle.std.specs.Prelude.{ℕ};
+ghost use Rattle.std.specs.Prelude.{List, ℕ};
+ghost use Rattle.marks.specs.Ranges.{Prepared, Range};
 ghost use Rattle.memory_of_runs.specs.Starts.{NewMemoryStandsForTheStart};
 ghost use Rattle.memory_of_runs.specs.Numbers.{AreBytesOf};
 ghost use Rattle.memory_of_runs.specs.Marks.{LoadsAreMarks, QuietMarksLeaveMemory, StoresAreMarks};
 ghost use Rattle.memory_of_runs.specs.FrameMarks.{ArgumentsAreBytes, EntersAreMarks, LeavesAreMarks};
-ghost use Rattle.memory_of_runs.specs.Refusals.{FullStacksAreFound, LeavesAreRefusedAsWrites, OtherSpaceComesFirst, RefusalsAreFindings, RefusedFreesAreFound};
+ghost use Rattle.memory_of_runs.specs.Refusals.{ChecksFindOneThing, FoundFreesAreRefused, FullStacksAreFound, LeavesAreRefusedAsWrites, OtherSpaceComesFirst, RefusalsAreFindings, RefusedFreesAreFound};
+ghost use Rattle.memory_of_runs.specs.Calls.{CallsAreMarks, HeldRangesAreParts, OpenedCallsHaveNoParts, PreparedRangesAreParts, UndoneCallsLeaveMemory};
+ghost use Rattle.memory_of_runs.specs.Returns.{RefusedReturnsAreFindings, ReturnsAreMarks};
+ghost use Rattle.memory_of_runs.specs.CallChecks.{MadeCallsPass, PartsGrow, RacesOfHoldsAreFound, RacesOfReadsAreFound, RefusedHoldsAreFound, RefusedKeysAreFound, RefusedReadsAreFound};
+ghost use Rattle.memory_of_runs.specs.Below.{AllocsBelowAreUnseen, ArgumentsBelowAreUnseen, FramesBelowAreUnseen, FreesBelowAreUnseen, LeavesBelowAreUnseen, StoresBelowAreUnseen};
+ghost use Rattle.memory_of_runs.specs.Owed.{PendingBytesAreOwed};
 ghost use Rattle.memory_of_runs.specs.PoolMarks.{AllocsAreMarks, FreesAreMarks, FreesOfNullAreMarks, RefusedAllocsAreMarks};
 
 /// Memory before a run stands for the run in which nothing was done yet.
@@ -68,6 +74,46 @@ pub fn frees_of_null_are_marks()
     ensures { FreesOfNullAreMarks }
 {}
 
+/// A call that is opened stands for the past, with one more call open that has no parts yet.
+pub fn opened_calls_have_no_parts()
+    ensures { OpenedCallsHaveNoParts }
+{}
+
+/// A range that a call holds, to read it or to have it written, is one more part of the Call.
+pub fn held_ranges_are_parts()
+    ensures { HeldRangesAreParts }
+{}
+
+/// A range that a call prepares under a key is one more part of the Call.
+pub fn prepared_ranges_are_parts()
+    ensures { PreparedRangesAreParts }
+{}
+
+/// A Call that reads, holds or prepares one more range has the parts of the longer lists.
+pub fn parts_grow()
+    ensures { (ins outs : List Range) (prepared : List Prepared) → PartsGrow ins outs prepared }
+{}
+
+/// A call that is undone leaves memory as it was before it was opened.
+pub fn undone_calls_leave_memory()
+    ensures { UndoneCallsLeaveMemory }
+{}
+
+/// A call with all its parts is a Call: memory stands for the past with it, and the rules of runs allow it.
+pub fn calls_are_marks()
+    ensures { CallsAreMarks }
+{}
+
+/// A call that is released is a Ret with the bytes of its regions, over the whole of their ranges.
+pub fn returns_are_marks()
+    ensures { ReturnsAreMarks }
+{}
+
+/// Where memory stands for a past, the pending bytes are those that open calls hold and those of keys in use.
+pub fn pending_bytes_are_owed()
+    ensures { PendingBytesAreOwed }
+{}
+
 /// Where an access above the cut races with none, the checks of a run find exactly what memory refuses, and pass exactly
 /// where memory allows it.
 pub fn refusals_are_findings()
@@ -92,4 +138,81 @@ pub fn leaves_are_refused_as_writes()
 /// Where a free above the cut is refused, the checks of the Free find that, unless it races.
 pub fn refused_frees_are_found()
     ensures { RefusedFreesAreFound }
+{}
+
+/// What the checks of a Free above the cut find is what memory refuses it for, unless it races.
+pub fn found_frees_are_refused()
+    ensures { FoundFreesAreRefused }
+{}
+
+/// A range that memory refuses to read for a Call is what the checks of the Call find, where it doesn't race.
+pub fn refused_reads_are_found()
+    ensures { RefusedReadsAreFound }
+{}
+
+/// A race of a range that a Call reads is what its checks find, unless memory refuses the range as the other side's.
+pub fn races_of_reads_are_found()
+    ensures { RacesOfReadsAreFound }
+{}
+
+/// A range that memory refuses to hold for a Call, or for a test of what it prepares, is what the checks of the Call find,
+/// where it doesn't race.
+pub fn refused_holds_are_found()
+    ensures { RefusedHoldsAreFound }
+{}
+
+/// A race of such a range is what the checks find, unless memory refuses the range as the other side's.
+pub fn races_of_holds_are_found()
+    ensures { RacesOfHoldsAreFound }
+{}
+
+/// Where all ranges of a Call were tested, only a key can refuse one of those that are prepared, and the checks of the
+/// Call find that.
+pub fn refused_keys_are_found()
+    ensures { RefusedKeysAreFound }
+{}
+
+/// A Call of which memory refuses nothing, and no range races, passes its checks.
+pub fn made_calls_pass()
+    ensures { MadeCallsPass }
+{}
+
+/// The checks of a Ret find exactly what memory refuses of it, and pass exactly where memory takes it.
+pub fn refused_returns_are_findings()
+    ensures { RefusedReturnsAreFindings }
+{}
+
+/// The checks of a step find one thing at most.
+pub fn checks_find_one_thing()
+    ensures { ChecksFindOneThing }
+{}
+
+/// A store of code below the cut changes nothing that a run sees: it goes to system memory, or to bytes that wait.
+pub fn stores_below_are_unseen()
+    ensures { StoresBelowAreUnseen }
+{}
+
+/// A frame that is entered below the cut changes nothing that a run sees.
+pub fn frames_below_are_unseen()
+    ensures { FramesBelowAreUnseen }
+{}
+
+/// Nor do the arguments of such a frame.
+pub fn arguments_below_are_unseen()
+    ensures { ArgumentsBelowAreUnseen }
+{}
+
+/// Nor does the end of such a frame.
+pub fn leaves_below_are_unseen()
+    ensures { LeavesBelowAreUnseen }
+{}
+
+/// A block of the pool below the cut changes nothing that a run sees.
+pub fn allocs_below_are_unseen()
+    ensures { AllocsBelowAreUnseen }
+{}
+
+/// Nor does the end of such a block.
+pub fn frees_below_are_unseen()
+    ensures { FreesBelowAreUnseen }
 {}

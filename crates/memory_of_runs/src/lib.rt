@@ -5,9 +5,15 @@
 mod laws;
 
 pub use laws::{
-    allocs_are_marks, arguments_are_bytes, bytes_are_those_of_numbers, enters_are_marks,
-    frees_are_marks, frees_of_null_are_marks, full_stacks_are_found, leaves_are_marks,
-    leaves_are_refused_as_writes, loads_are_marks, new_memory_stands_for_the_start,
-    other_space_comes_first, quiet_marks_leave_memory, refusals_are_findings,
-    refused_allocs_are_marks, refused_frees_are_found, stores_are_marks,
+    allocs_are_marks, allocs_below_are_unseen, arguments_are_bytes, arguments_below_are_unseen,
+    bytes_are_those_of_numbers, calls_are_marks, checks_find_one_thing, enters_are_marks,
+    found_frees_are_refused, frames_below_are_unseen, frees_are_marks, frees_below_are_unseen,
+    frees_of_null_are_marks, full_stacks_are_found, held_ranges_are_parts, leaves_are_marks,
+    leaves_are_refused_as_writes, leaves_below_are_unseen, loads_are_marks, made_calls_pass,
+    new_memory_stands_for_the_start, opened_calls_have_no_parts, other_space_comes_first,
+    parts_grow, pending_bytes_are_owed, prepared_ranges_are_parts, quiet_marks_leave_memory,
+    races_of_holds_are_found, races_of_reads_are_found, refusals_are_findings,
+    refused_allocs_are_marks, refused_frees_are_found, refused_holds_are_found,
+    refused_keys_are_found, refused_reads_are_found, refused_returns_are_findings,
+    returns_are_marks, stores_are_marks, stores_below_are_unseen, undone_calls_leave_memory,
 };
