@@ -74,7 +74,8 @@ impl Code {
 
     /// The instructions.
     pub fn instrs(&self) -> &[Instr]
-        ensures { result.now ≡ self.now.instrs }
+        ensures instrs { result.now ≡ self.now.instrs }
+        ensures valid { IsValid self.now }
     {
         &self.instrs
     }
