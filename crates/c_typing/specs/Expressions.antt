@@ -1,5 +1,5 @@
 -- The types of expressions and declarators (C11 6.5, 6.7.6, 6.7.7).
-use Rattle.std.specs.Prelude.{ℕ, zero, suc, ℤ, pos, negsuc, ◌+◌, nat_lt, Bool, true, false, if◌then◌else◌, List, [], ◌∷◌, length, Option, Some, None, is_some, ◌^◌}
+use Rattle.std.specs.Prelude.{ℕ, zero, suc, ℤ, pos, negsuc, ◌+◌, nat_lt, nat_le, Bool, true, false, if◌then◌else◌, List, [], ◌∷◌, length, Option, Some, None, is_some, ◌^◌}
 use Rattle.r2_num.specs.declared.kinds.IntKind.{IntKind}
 use Rattle.r2_num.specs.declared.kinds.IntKind.TheVariants.{I32, U32, I64, U64}
 use Rattle.c_lexer.specs.declared.token.Sign.{Sign}
@@ -8,11 +8,12 @@ use Rattle.c_lexer.specs.declared.token.Suffix.{Suffix}
 use Rattle.c_lexer.specs.declared.token.Suffix.TheVariants as suffixes
 use Rattle.c_syntax.specs.Syntax.{Expr, Exprs, Decl, Decls, Annots, Annot, Items, Item, Atom, Parts, Name, Number, Char, Text, Binary, Assign, Cond, Prefix, Postfix, SizeofExpr, SizeofType, Cast, Index, Call, Member, Arrow, NoExprs, MoreExprs, Declare, NoDecls, MoreDecls, NoAnnots, MoreAnnots, Annotate, NoItems, MoreItems, OneFactor, TwoFactors, NameAtom, NumberAtom, ReturnAtom, SizeofAtom, NoParts, Pointer, Array, Params}
 use Rattle.c_type_model.specs.Types.{CType, CTypes, Void, Integer, PointerTo, ArrayOf, StructOf, UndefinedStruct, FunctionOf, NoTypes, MoreTypes}
+use Rattle.c_type_model.specs.Limits.{greatest_object}
 use Rattle.c_type_model.specs.declared.extent.Extent.{Extent}
 use Rattle.c_builtins.specs.declared.builtin.Builtin.{Builtin}
 use Rattle.c_builtins.specs.Table.{prototype_of}
 use Rattle.c_scopes.specs.Scopes.{same_name, meaning_of}
-use Rattle.c_typing.specs.Checked.{Checked, Fine, Broken, keep, need, ◌>>=◌, ◌>>◌}
+use Rattle.c_typing.specs.Checked.{Checked, Fine, Broken, keep, need, small, ◌>>=◌, ◌>>◌}
 use Rattle.c_typing.specs.TypeTests.{is_scalar, is_function, is_result, is_complete, is_integer}
 use Rattle.c_typing.specs.Constants.{integer_constant}
 use Rattle.c_typing.specs.Operators.{assigned, assignment, binary, cast, choice, pointer_sum, signed_operand, size_in, step, to_kind}
@@ -172,6 +173,10 @@ rule_of_incomplete (StructOf number) = 2
 rule_of_incomplete (UndefinedStruct tag) = 2
 rule_of_incomplete t = 3
 
+-- an object of this type is not too large
+abbrev pub is_small : (structs : List Extent) → CType → Bool
+is_small structs t = nat_le (size_in structs t) greatest_object
+
 abbrev pub complete : (structs : List Extent) → (from : ℕ) → CType → Checked (Unit {0})
 complete structs from t = keep from (rule_of_incomplete t) (is_complete structs t)
 
@@ -267,6 +272,7 @@ abbrev mutual
     complete (extents env) from t
     a ← expression x env
     n ← length_of from (integer_constant (value_of a))
+    small (is_small (extents env) (ArrayOf n t))
     declarator_type ps env (ArrayOf n t)
   declarator_type (Params from ds ps) env t = do
     keep from 3 (is_result t)

@@ -8,3 +8,4 @@ pub mod Expressions
 pub mod Statements
 pub mod Initials
 pub mod Sources
+pub mod Limits

@@ -1,15 +1,16 @@
 -- Whole sources (C11 6.9): structs, functions and globals.
-use Rattle.std.specs.Prelude.{ℕ, zero, suc, ◌+◌, ◌-◌, ◌==◌, Bool, true, false, not, ◌&&◌, ◌||◌, List, [], ◌∷◌, ◌++◌, length, map, is_some, codes, Option, Some, None}
+use Rattle.std.specs.Prelude.{ℕ, zero, suc, ◌+◌, ◌-◌, ◌==◌, Bool, true, false, not, ◌&&◌, ◌||◌, nat_le, List, [], ◌∷◌, ◌++◌, length, map, is_some, codes, Option, Some, None}
 use Rattle.r2_num.specs.declared.kinds.IntKind.TheVariants.{I32}
 use Rattle.c_syntax.specs.declared.declaration.Base.{Base}
 use Rattle.c_syntax.specs.declared.declaration.Base.TheVariants as bases
 use Rattle.c_syntax.specs.Syntax.{Decl, Decls, Annots, Parts, Rest, Stmt, Block, Value as Written, Declare, NoDecls, MoreDecls, NoParts, Pointer, Array, Params, NoRest, Initial, Body, Members}
 use Rattle.c_type_model.specs.Types.{CType, CTypes, Void, Integer, FunctionOf, NoTypes, MoreTypes}
 use Rattle.c_type_model.specs.Layouts.{extent_of, scalar, struct_of}
+use Rattle.c_type_model.specs.Limits.{greatest_object}
 use Rattle.c_type_model.specs.declared.extent.Extent.{Extent}
 use Rattle.c_builtins.specs.Table.{first_source_function}
 use Rattle.c_scopes.specs.Scopes.{Scope, same_name, meaning_in}
-use Rattle.c_typing.specs.Checked.{Checked, Fine, Broken, keep, ◌>>=◌, ◌>>◌}
+use Rattle.c_typing.specs.Checked.{Checked, Fine, Broken, keep, small, ◌>>=◌, ◌>>◌}
 use Rattle.c_typing.specs.TypeTests.{same_type}
 use Rattle.c_typing.specs.TypedTree as typed
 use Rattle.c_typing.specs.Environment.{Environment, Meaning, Struct, FunctionNamed, GlobalNamed, LocalNamed, extents, place_in, is_reserved, inner, with_name, declarable}
@@ -79,6 +80,11 @@ abbrev extents_of : List Extent → List (List ℕ × CType) → List Extent
 extents_of structs [] = []
 extents_of structs ((name, t) ∷ members) = extent_or (extent_of structs t) ∷ extents_of structs members
 
+-- the sizes and alignments of types in a program
+abbrev pub extents_in : Program → List CType → List Extent
+extents_in p [] = []
+extents_in p (t ∷ ts) = extent_or (extent_of (map (λ s. s.extent) p.structs) t) ∷ extents_in p ts
+
 abbrev is_next : ℕ → Option ℕ → Bool
 is_next n (Some number) = number == n
 is_next n None = false
@@ -89,7 +95,9 @@ struct_defined tags p from tag ds = do
   keep from 19 (not (is_reserved tag))
   keep from 1 (is_next (length p.structs) (place_in tag tags))
   ms ← members_from (at_file tags p) [] ds
-  Fine (record p { structs = p.structs ++ record { members = ms; extent = struct_of (extents_of (extents (at_file tags p)) ms) } ∷ [] })
+  let extent = struct_of (extents_of (extents (at_file tags p)) ms)
+  small (nat_le extent.size greatest_object)
+  Fine (record p { structs = p.structs ++ record { members = ms; extent = extent } ∷ [] })
 
 -- ---- functions (C11 6.9.1)
 
