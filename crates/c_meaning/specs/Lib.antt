@@ -1,0 +1,5 @@
+pub mod Reading
+pub mod Context
+pub mod Values
+pub mod Statements
+pub mod Calls

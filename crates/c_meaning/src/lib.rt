@@ -1,0 +1,2 @@
+//! What a typed source means: the lists of marks that a call of a function can make.
+#![tactic(auto)]
