@@ -1,0 +1,4 @@
+mod Cuts
+mod ValueFronts
+mod StatementFronts
+mod CallFronts

@@ -41,7 +41,7 @@ stepping s side i f args go = ask side (Steps i f args) (with_value (result_shap
 -- ---- below a call of the interface
 
 -- any code, which may call functions back and then returns
-abbrev any_step : Source → Bodies → (func : ℕ) → (ℕ → Marks) → (again : Marks) → Answer → Marks
+abbrev pub any_step : Source → Bodies → (func : ℕ) → (ℕ → Marks) → (again : Marks) → Answer → Marks
 any_step s bodies f go again (CalledBack g args) = called_back s bodies g args (λ v. again)
 any_step s bodies f go again x = with_value (result_shape s f) go x
 
@@ -62,24 +62,24 @@ below Above s bodies f args go = λ ms. any_below (suc (length ms)) s bodies f a
 -- ---- calls
 
 -- in replay mode the first two builtins are events of the pool
-abbrev first : List ℕ → ℕ
+abbrev pub first : List ℕ → ℕ
 first [] = 0
 first (x ∷ xs) = x
 
-abbrev pooling : (func : ℕ) → (args : List ℕ) → (ℕ → Marks) → Marks
+abbrev pub pooling : (func : ℕ) → (args : List ℕ) → (ℕ → Marks) → Marks
 pooling zero args go = ask Replay (Allocs (first args)) (with_value Pointer go)
 pooling (suc f) args go = ask Replay (Frees (first args)) (λ x. go 0)
 
-abbrev is_pool : Side → ℕ → Bool
+abbrev pub is_pool : Side → ℕ → Bool
 is_pool Replay f = ltb f 2
 is_pool System f = false
 
 -- an indirect call by system code may call the function back
-abbrev back_or_plain : Source → Bodies → (func : ℕ) → (args : List ℕ) → (ℕ → Marks) → Answer → Marks
+abbrev pub back_or_plain : Source → Bodies → (func : ℕ) → (args : List ℕ) → (ℕ → Marks) → Answer → Marks
 back_or_plain s bodies f args go (CalledBack g bs) = called_back s bodies f args go
 back_or_plain s bodies f args go x = with_frame (λ base. bodies System f base go) x
 
-abbrev entering_below : Source → Bodies → (indirect : Bool) → (func : ℕ) → (args : List ℕ) → (ℕ → Marks) → Marks
+abbrev pub entering_below : Source → Bodies → (indirect : Bool) → (func : ℕ) → (args : List ℕ) → (ℕ → Marks) → Marks
 entering_below s bodies false f args go = entering s bodies System System false f args go
 entering_below s bodies true f args go = ask System (CallsBack f args (frame_of s f args)) (back_or_plain s bodies f args go)
 
@@ -102,7 +102,7 @@ callee s t address =
     let f = (address - function_address 0) / 16 in
     cond (eqb address (function_address f) && (leb builtin_count f && same_type (type_of s f) t)) (Some f) None
 
-abbrev to_callee : Reading → Source → Bodies → Side → Option ℕ → (args : List ℕ) → (ℕ → Marks) → Marks
+abbrev pub to_callee : Reading → Source → Bodies → Side → Option ℕ → (args : List ℕ) → (ℕ → Marks) → Marks
 to_callee r s bodies side (Some f) args go = call r s bodies side true f args go
 to_callee r s bodies side None args go = fails side BadCall
 
@@ -127,7 +127,7 @@ here r s bodies side f base = record {
 }
 
 -- the statements of a function, and its Leave; without a `return` the result is 0
-abbrev making : Source → Option typed.Body → Here → (ℕ → Marks) → Marks
+abbrev pub making : Source → Option typed.Body → Here → (ℕ → Marks) → Marks
 making s None h go = wrong
 making s (Some b) h go =
     let leave : ℕ → Marks = λ v. ask h.side (Leaves h.base (frame_size s.program b.locals)) (λ x. go v) in
@@ -143,11 +143,11 @@ abbrev pub behaviour : Reading → Source → Side → (func : ℕ) → (args : 
 behaviour r s side f args = λ ms. entering s (bodies (suc (length ms)) r s) side side false f args ended ms
 
 -- by a thread that begins with an indirect call, by system code, of the function of this type at an address
-abbrev begun : Source → Bodies → (has_body : Bool) → (func : ℕ) → (args : List ℕ) → Marks
+abbrev pub begun : Source → Bodies → (has_body : Bool) → (func : ℕ) → (args : List ℕ) → Marks
 begun s bodies true f args = entering_below s bodies true f args ended
 begun s bodies false f args = stepping s System true f args ended
 
-abbrev started : Source → Bodies → Option ℕ → (args : List ℕ) → Marks
+abbrev pub started : Source → Bodies → Option ℕ → (args : List ℕ) → Marks
 started s bodies None args = fails System BadCall
 started s bodies (Some f) args = begun s bodies (is_some (body_of s f)) f args
 
@@ -156,7 +156,7 @@ thread_behaviour s t address args = λ ms. started s (bodies (suc (length ms)) S
 
 -- ---- above the cut alone
 
-abbrev outside_step : Source → Bodies → (again : Marks) → Answer → Marks
+abbrev pub outside_step : Source → Bodies → (again : Marks) → Answer → Marks
 outside_step s bodies again (CalledBack g args) = called_back s bodies g args (λ v. again)
 outside_step s bodies again x = wrong
 

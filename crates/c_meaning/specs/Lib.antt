@@ -3,3 +3,4 @@ pub mod Context
 pub mod Values
 pub mod Statements
 pub mod Calls
+pub mod Laws

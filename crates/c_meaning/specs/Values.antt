@@ -70,7 +70,7 @@ converted_to Void n = 0
 converted_to (Integer k) n = converted k n
 converted_to t n = n
 
-abbrev is_read : CType → Bool
+abbrev pub is_read : CType → Bool
 is_read (Integer k) = true
 is_read (PointerTo t) = true
 is_read t = false
@@ -109,12 +109,12 @@ target (PointerTo t) = t
 target t = Void
 
 -- a loaded value is changed and stored
-abbrev changing : Here → Object → ((ℕ → Marks) → Marks) → (ℕ → (ℕ → Marks) → Marks) → (ℕ → Marks) → Marks
+abbrev pub changing : Here → Object → ((ℕ → Marks) → Marks) → (ℕ → (ℕ → Marks) → Marks) → (ℕ → Marks) → Marks
 changing h o address change go =
     let t = object_type o in
     address (λ a. load h (origin o) t (λ old. change old (λ new. store h (origin o) t a new (go new))) a)
 
-abbrev given : Given → ℕ → ℕ → ℕ
+abbrev pub given : Given → ℕ → ℕ → ℕ
 given New old new = new
 given Old old new = old
 
