@@ -1,4 +1,7 @@
-mod Cuts
+mod Relations
 mod ValueFronts
 mod StatementFronts
 mod CallFronts
+mod Fronts
+mod Nexts
+mod Overs

@@ -3,4 +3,4 @@
 
 mod laws;
 
-pub use laws::fronts_are_right;
+pub use laws::{end_is_last, fronts_are_right, next_is_one};
