@@ -6,7 +6,7 @@ use Rattle.r2_num.specs.declared.kinds.IntKind.{IntKind}
 use Rattle.r2_num.specs.Kinds.{width_of}
 use Rattle.c_type_model.specs.declared.extent.Extent.{Extent}
 use Rattle.c_type_model.specs.declared.layout.Layout.{Layout}
-use Rattle.c_type_model.specs.Types.{CType, Void, Integer, PointerTo, ArrayOf, StructOf, FunctionOf}
+use Rattle.c_type_model.specs.Types.{CType, Void, Integer, PointerTo, ArrayOf, StructOf, UndefinedStruct, FunctionOf}
 
 -- a scalar of n bytes is aligned to its size
 abbrev pub scalar : ℕ → Extent
@@ -48,6 +48,7 @@ extent_of structs (Integer k) = Some (kind_extent k)
 extent_of structs (PointerTo t) = Some pointer_extent
 extent_of structs (ArrayOf n t) = option_map (repeated n) (extent_of structs t)
 extent_of structs (StructOf i) = slice_get structs i
+extent_of structs (UndefinedStruct tag) = None
 extent_of structs (FunctionOf r ps) = None
 
 -- an address can be a multiple of the alignment

@@ -1,5 +1,5 @@
 -- The types of the language (C11 6.2.5).
-use Rattle.std.specs.Prelude.{ℕ}
+use Rattle.std.specs.Prelude.{ℕ, List}
 use Rattle.r2_num.specs.declared.kinds.IntKind.{IntKind}
 
 mutual
@@ -10,6 +10,8 @@ mutual
     PointerTo : CType → CType
     ArrayOf : (length : ℕ) → CType → CType
     StructOf : (number : ℕ) → CType
+    -- a struct that the source never defines, which is named by its tag
+    UndefinedStruct : (tag : List ℕ) → CType
     FunctionOf : (result : CType) → CTypes → CType
 
   -- the types of parameters

@@ -6,7 +6,7 @@ use Rattle.std.proofs.lemmas.Option.{slice_get-map}
 use Rattle.std.specs.Prelude.{slice_get}
 use Rattle.std.specs.Option.{option_map}
 use Rattle.c_type_model.specs.declared.extent.Extent.{Extent}
-use Rattle.c_type_model.specs.Types.{CType, Void, Integer, PointerTo, ArrayOf, StructOf, FunctionOf}
+use Rattle.c_type_model.specs.Types.{CType, Void, Integer, PointerTo, ArrayOf, StructOf, UndefinedStruct, FunctionOf}
 use Rattle.c_type_model.specs.Layouts.{capped, capped_extent, extent_of, repeated}
 
 array_capped : (n : ℕ) (e : Extent) → capped_extent (repeated n (capped_extent e)) ≡ capped_extent (repeated n e)
@@ -54,4 +54,5 @@ extents_capped structs (ArrayOf n t) =
     let inner = extents_capped structs t in
     sym (through n (extent_of (map capped_extent structs) t)) ∙ (ap (λ o. option_map capped_extent (option_map (repeated n) o)) inner ∙ through n (extent_of structs t))
 extents_capped structs (StructOf i) = ap (option_map capped_extent) (slice_get-map capped_extent structs i) ∙ twice (slice_get structs i)
+extents_capped structs (UndefinedStruct tag) = refl
 extents_capped structs (FunctionOf r ps) = refl

@@ -5,7 +5,7 @@ use Rattle.std.specs.List.{All}
 use Rattle.std.proofs.Math.ListN.{get_or-append}
 use Rattle.std.proofs.lemmas.List.Elements.{All-head, All-tail}
 use Rattle.std.proofs.lemmas.Option.{slice_get-get_or}
-use Rattle.c_type_model.specs.Types.{CType, CTypes, Integer, PointerTo, ArrayOf, StructOf, FunctionOf, NoTypes, MoreTypes}
+use Rattle.c_type_model.specs.Types.{CType, CTypes, Integer, PointerTo, ArrayOf, StructOf, UndefinedStruct, FunctionOf, NoTypes, MoreTypes}
 use Rattle.c_type_model.specs.Types as types
 use Rattle.c_type_table.specs.declared.ids.TypeId.{TypeId}
 use Rattle.c_type_table.specs.declared.ty.Ty.{Ty}
@@ -32,6 +32,7 @@ made_stays ts us (nodes.Int k) e h = refl
 made_stays ts us (nodes.Pointer t) e h = ap PointerTo (e t.0 h)
 made_stays ts us (nodes.Array t l) e h = ap (ArrayOf l) (e t.0 h)
 made_stays ts us (nodes.Struct s) e h = refl
+made_stays ts us (nodes.UndefinedStruct tag) e h = refl
 made_stays ts us (nodes.Function r ps) e h =
     let result : at us r ≡ at ts r = e r.0 h.0 in
     let params : all_at us ps ≡ all_at ts ps = all_stay ts us ps e h.1 in

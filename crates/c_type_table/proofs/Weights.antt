@@ -1,6 +1,6 @@
 -- How many parts a type has.
 use Rattle.std.proofs.Common.{ℕ, ◌+◌}
-use Rattle.c_type_model.specs.Types.{CType, CTypes, Void, Integer, PointerTo, ArrayOf, StructOf, FunctionOf, NoTypes, MoreTypes}
+use Rattle.c_type_model.specs.Types.{CType, CTypes, Void, Integer, PointerTo, ArrayOf, StructOf, UndefinedStruct, FunctionOf, NoTypes, MoreTypes}
 
 abbrev mutual
   pub weight : CType → ℕ
@@ -9,6 +9,7 @@ abbrev mutual
   weight (PointerTo t) = weight t + 1
   weight (ArrayOf n t) = weight t + 1
   weight (StructOf s) = 0
+  weight (UndefinedStruct tag) = 0
   weight (FunctionOf r ps) = weight r + weights ps + 1
 
   pub weights : CTypes → ℕ

@@ -1,7 +1,7 @@
 -- Tables of types, each after its parts, and the types that their numbers stand for.
 use Rattle.std.specs.Prelude.{◌≡◌, ℕ, ◌<◌, List, [], ◌∷◌, ◌++◌, Some, slice_get, slice_index_or}
 use Rattle.std.specs.List.{All}
-use Rattle.c_type_model.specs.Types.{CType, CTypes, Integer, PointerTo, ArrayOf, StructOf, FunctionOf, NoTypes, MoreTypes}
+use Rattle.c_type_model.specs.Types.{CType, CTypes, Integer, PointerTo, ArrayOf, StructOf, UndefinedStruct, FunctionOf, NoTypes, MoreTypes}
 use Rattle.c_type_model.specs.Types as types
 use Rattle.c_type_table.specs.declared.ids.TypeId.{TypeId}
 use Rattle.c_type_table.specs.declared.ty.Ty.{Ty}
@@ -18,6 +18,7 @@ IsMadeOf n (nodes.Int k) = Unit {0}
 IsMadeOf n (nodes.Pointer t) = IsBelow n t
 IsMadeOf n (nodes.Array t l) = IsBelow n t
 IsMadeOf n (nodes.Struct s) = Unit {0}
+IsMadeOf n (nodes.UndefinedStruct tag) = Unit {0}
 IsMadeOf n (nodes.Function r ps) = IsBelow n r × All (IsBelow n) ps
 
 -- each type of the table stands after its parts
@@ -39,6 +40,7 @@ made ts (nodes.Int k) = Integer k
 made ts (nodes.Pointer t) = PointerTo (at ts t)
 made ts (nodes.Array t l) = ArrayOf l (at ts t)
 made ts (nodes.Struct s) = StructOf s.0
+made ts (nodes.UndefinedStruct tag) = UndefinedStruct tag
 made ts (nodes.Function r ps) = FunctionOf (at ts r) (all_at ts ps)
 
 -- what the numbers of a table stand for, where those before stand for `ts`

@@ -21,6 +21,8 @@ impl Types {
             Ty::Void => matches!(other, Ty::Void),
             Ty::Int(kind) => matches!(other, Ty::Int(k) if k == kind),
             Ty::Struct(number) => matches!(other, Ty::Struct(n) if n == number),
+            Ty::UndefinedStruct(tag) =>
+                matches!(other, Ty::UndefinedStruct(t) if t.as_slice() == tag.as_slice()),
             Ty::Pointer(target) => match other {
                 Ty::Pointer(t) => self.is_same(*target, *t),
                 _ => false,

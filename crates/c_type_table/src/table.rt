@@ -73,7 +73,7 @@ impl Types {
         ensures { result ≡ option_map capped_extent (extent_of structs.now (type_at self.now id)) }
     {
         match self.get(id) {
-            Ty::Void | Ty::Function { .. } => None,
+            Ty::Void | Ty::UndefinedStruct(_) | Ty::Function { .. } => None,
             Ty::Int(kind) => Some(Extent::of_kind(*kind)),
             Ty::Pointer(_) => Some(Extent::of_pointer()),
             Ty::Array(element, length) => {

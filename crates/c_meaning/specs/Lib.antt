@@ -1,0 +1,6 @@
+pub mod Reading
+pub mod Context
+pub mod Values
+pub mod Statements
+pub mod Calls
+pub mod Laws

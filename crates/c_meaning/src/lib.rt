@@ -1,0 +1,6 @@
+//! What a typed source means: the lists of marks that a call of a function can make.
+#![tactic(auto)]
+
+mod laws;
+
+pub use laws::{end_is_last, fronts_are_right, next_is_one};

@@ -1,0 +1,2 @@
+//! Names in nested scopes.
+#![tactic(auto)]

@@ -1,0 +1,11 @@
+pub mod Checked
+pub mod TypedTree
+pub mod TypeTests
+pub mod Constants
+pub mod Operators
+pub mod Environment
+pub mod Expressions
+pub mod Statements
+pub mod Initials
+pub mod Sources
+pub mod Limits

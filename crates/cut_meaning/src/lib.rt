@@ -1,0 +1,2 @@
+//! What the annotations of a source mean for a cut.
+#![tactic(auto)]
