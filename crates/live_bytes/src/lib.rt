@@ -2,6 +2,7 @@
 #![tactic(auto)]
 
 mod area;
+mod marked_bytes;
 mod live_bytes;
 
 pub use live_bytes::LiveBytes;

@@ -66,7 +66,23 @@ impl LiveBytes {
         area.first_dead(range)
     }
 
+    /// Whether each of the eight bytes from the address on is live.
+    #[inline]
+    pub fn is_live_word(&self, addr: u64) -> bool
+        ensures live { IsTrue result ↔ AllLive self.now addr 8 }
+        ensures one_area { IsTrue result → LiesIn (record { addr = addr; len = 8 }) (extents self.now) }
+    {
+        match self.find(addr) {
+            Some(at) => {
+                let area = &self.areas[at];
+                area.is_live_word(addr)
+            }
+            None => false,
+        }
+    }
+
     /// The number whose bytes lie from a live address on, the lowest first.
+    #[inline]
     pub fn read(&self, addr: u64, width: u8) -> u64
         requires some { 1 ≤ width }
         requires at_most_8 { width ≤ 8 }
@@ -99,6 +115,7 @@ impl LiveBytes {
     }
 
     /// Writes the low `width` bytes of the value into one area, the lowest first.
+    #[inline]
     pub fn write(&mut self, addr: u64, width: u8, value: u64)
         requires { LiesIn (record { addr = addr; len = width }) (extents self.old) }
         ensures written { HasNumber self.new addr width value }
