@@ -52,6 +52,7 @@ fn is_plain_word(bytes: &LiveBytes, held: &Regions, access: Access) -> bool
 }
 
 // The four tests one after another, each over the whole range.
+#[inline(never)]
 fn check_each(bytes: &LiveBytes, held: &Regions, access: Access) -> Result<(), Refusal>
     ensures allowed { IsOk result ↔ IsAllowed bytes.now held.now.regions access }
     ensures refused { (r : Refusal) → (result ≡ Err r) ↔ IsRefused bytes.now held.now.regions access r }

@@ -2,8 +2,8 @@
 #![tactic(auto)]
 
 mod area;
-mod marked_bytes;
 mod live_bytes;
+mod marked_bytes;
 
 pub use live_bytes::LiveBytes;
 

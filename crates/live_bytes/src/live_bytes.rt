@@ -170,12 +170,24 @@ impl LiveBytes {
         true
     }
 
-    // The place of the area that has the address.
+    // The place of the area that has the address: the likely one, or else the first that has it.
+    #[inline]
     fn find(&self, addr: u64) -> Option<usize>
         ensures found { IfSome result (IsHolder self.now addr) }
         ensures none { IfNone result (All (λ a. holds a addr ≡ false) self.now) }
         ensures rising { RiseFrom 0 (extents self.now) }
     {
+        let likely = likely_place(addr);
+        if likely < self.areas.len() && self.areas[likely].has(addr) {
+            return Some(likely);
+        }
         self.areas.iter().position(|area| area.has(addr))
     }
+}
+
+// Where the area of an address is likely to be: those of a run begin 2^28 addresses apart, and one is left out after four.
+#[inline]
+fn likely_place(addr: u64) -> usize {
+    let step = addr / 0x1000_0000;
+    (step - step / 4) as usize
 }

@@ -121,15 +121,9 @@ fn number_at(bytes: &[u8], at: usize) -> u64
     requires { at + 8 ≤ length bytes.now }
     ensures { (i : ℕ) → i < 8 → digit result i ≡ slice_index bytes.now (at + i) }
 {
+    let eight = &bytes[at..at + 8];
     u64::from_le_bytes([
-        bytes[at],
-        bytes[at + 1],
-        bytes[at + 2],
-        bytes[at + 3],
-        bytes[at + 4],
-        bytes[at + 5],
-        bytes[at + 6],
-        bytes[at + 7],
+        eight[0], eight[1], eight[2], eight[3], eight[4], eight[5], eight[6], eight[7],
     ])
 }
 
