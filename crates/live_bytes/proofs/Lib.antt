@@ -1,3 +1,4 @@
 mod Cells
 mod Lookup
 mod Changes
+mod Marks

@@ -1,5 +1,5 @@
 -- What a change of one area leaves.
-use Rattle.std.specs.Prelude.{◌≡◌, ℕ, ◌-◌, ◌≤◌, Option, Some, None, if◌then◌else◌, length}
+use Rattle.std.specs.Prelude.{◌≡◌, ◌≢◌, ℕ, ◌+◌, ◌-◌, ◌<◌, ◌≤◌, Option, Some, None, if◌then◌else◌, length}
 use Rattle.places.specs.declared.range.Range.{Range}
 use Rattle.live_bytes.specs.Areas.{AreaState, holds, cell}
 use Rattle.places.specs.Ranges.{covers}
@@ -8,6 +8,11 @@ use Rattle.live_bytes.specs.Numbers.{digit}
 -- the byte at the address is dead in the area, or none of it
 abbrev pub IsDeadIn : AreaState → ℕ → Type 0
 IsDeadIn a x = (if holds a x then cell a x else None) ≡ None
+
+-- the n bytes from the address on are the area's, and each is live
+pub record IsLiveRun (a : AreaState) (addr n : ℕ) : Type 0 where
+  pub within : addr + n ≤ a.base + length a.cells
+  pub live : (i : ℕ) → i < n → cell a (addr + i) ≢ None
 
 -- the area has the addresses that it had
 pub record SameExtent (old new : AreaState) : Type 0 where

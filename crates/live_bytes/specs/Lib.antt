@@ -1,3 +1,4 @@
 pub mod Areas
 pub mod Numbers
 pub mod AreaChanges
+pub mod Marks

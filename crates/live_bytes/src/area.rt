@@ -1,10 +1,11 @@
 // One area: the bytes from a first address on.
-ghost use Rattle.std.specs.Prelude.{◌≡◌, ℕ, ◌+◌, ◌-◌, ◌^◌, ◌<◌, ◌≤◌, IsTrue, IfOk, None, Some, replicate, length, ◌≢◌};
+ghost use Rattle.std.specs.Prelude.{◌≡◌, ℕ, ◌+◌, ◌-◌, ◌^◌, ◌<◌, ◌≤◌, ◌↔◌, IsTrue, IfOk, None, Some, replicate, length, ◌≢◌};
 ghost use Rattle.places.specs.Ranges.{IsFirstIn};
 ghost use Rattle.live_bytes.specs.Areas.{holds, cell};
 ghost use Rattle.live_bytes.specs.Numbers.{digit};
-ghost use Rattle.live_bytes.specs.AreaChanges.{IsDeadIn, FillsArea, WritesArea};
+ghost use Rattle.live_bytes.specs.AreaChanges.{IsDeadIn, IsLiveRun, FillsArea, WritesArea};
 
+use crate::marked_bytes::MarkedBytes;
 use places::Range;
 use std::alloc::{AllocError, Global};
 use std::marker::Model;
@@ -13,7 +14,7 @@ use std::marker::Model;
 #[derive(Debug, Drop)]
 pub struct Area {
     base: u64,
-    cells: Vec<Option<u8>>,
+    cells: MarkedBytes,
 }
 
 impl Model for Area {
@@ -22,9 +23,9 @@ impl Model for Area {
 
     ghost Value = { AreaState };
 
-    ghost view = { λ a. record { base = a.base; cells = a.cells.items } };
+    ghost view = { λ a. record { base = a.base; cells = a.cells } };
 
-    ghost invariant = { λ a. a.base + length a.cells.items < 2 ^ 64 };
+    ghost invariant = { λ a. a.base + length a.cells < 2 ^ 64 };
 }
 
 impl Area {
@@ -33,8 +34,7 @@ impl Area {
         requires { range.addr + range.len < 2 ^ 64 }
         ensures { IfOk result (λ area. area ≡ record { base = range.addr; cells = replicate range.len None }) }
     {
-        let mut cells = Vec::new(alloc);
-        cells.resize(range.len as usize, None)?;
+        let cells = MarkedBytes::new(alloc, range.len as usize)?;
         Ok(Area {
             base: range.addr,
             cells,
@@ -42,6 +42,7 @@ impl Area {
     }
 
     /// Whether the address is one of the area's.
+    #[inline]
     pub fn has(&self, addr: u64) -> bool
         ensures holds { result ≡ holds self.now addr }
         ensures not_last { IsTrue result → addr + 1 < 2 ^ 64 }
@@ -50,11 +51,12 @@ impl Area {
     }
 
     /// The byte at the address, `None` where it is dead.
+    #[inline]
     pub fn get(&self, addr: u64) -> Option<u8>
         requires { IsTrue (holds self.now addr) }
         ensures { result ≡ cell self.now addr }
     {
-        self.cells[(addr - self.base) as usize]
+        self.cells.get((addr - self.base) as usize)
     }
 
     /// The least byte of the range that is dead. No byte behind the area is live.
@@ -72,6 +74,16 @@ impl Area {
         None
     }
 
+    /// Whether each of the eight bytes from the address on is one of the area's, and live.
+    #[inline]
+    pub fn is_live_word(&self, addr: u64) -> bool
+        requires { IsTrue (holds self.now addr) }
+        ensures { IsTrue result ↔ IsLiveRun self.now addr 8 }
+    {
+        let first = (addr - self.base) as usize;
+        self.cells.len() - first >= 8 && self.cells.is_live_word(first)
+    }
+
     /// Makes each byte of the range the given one.
     pub fn fill(&mut self, range: Range, byte: Option<u8>)
         requires from_base { self.old.base ≤ range.addr }
@@ -80,25 +92,31 @@ impl Area {
     {
         let first = (range.addr - self.base) as usize;
         for at in first..first + range.len as usize {
-            self.cells[at] = byte;
+            self.cells.set(at, byte);
         }
     }
 
     /// Writes the low `width` bytes of the value, the lowest first.
+    #[inline]
     pub fn write(&mut self, addr: u64, width: u8, value: u64)
         requires from_base { self.old.base ≤ addr }
         requires in_area { addr + width ≤ self.old.base + length self.old.cells }
         ensures { WritesArea addr width value self.old self.new }
     {
         let first = (addr - self.base) as usize;
+        if width == 8 {
+            self.cells.put_word(first, value);
+            return;
+        }
         let mut rest = value;
         for at in first..first + width as usize {
-            self.cells[at] = Some((rest % 256) as u8);
+            self.cells.set(at, Some((rest % 256) as u8));
             rest /= 256;
         }
     }
 
     /// The number whose bytes lie from the address on, the lowest first.
+    #[inline]
     pub fn read(&self, addr: u64, width: u8) -> u64
         requires from_base { self.now.base ≤ addr }
         requires in_area { addr + width ≤ self.now.base + length self.now.cells }
@@ -108,9 +126,12 @@ impl Area {
         ensures digits { (i : ℕ) → i < width → cell self.now (addr + i) ≡ Some (digit result i) }
     {
         let first = (addr - self.base) as usize;
+        if width == 8 {
+            return self.cells.word(first);
+        }
         let mut value = 0;
         for at in (first..first + width as usize).rev() {
-            value = value * 256 + u64::from(self.cells[at].unwrap_or(0));
+            value = value * 256 + u64::from(self.cells.get(at).unwrap_or(0));
         }
         value
     }

@@ -3,6 +3,7 @@
 
 mod area;
 mod live_bytes;
+mod marked_bytes;
 
 pub use live_bytes::LiveBytes;
 

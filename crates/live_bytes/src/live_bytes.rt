@@ -66,7 +66,23 @@ impl LiveBytes {
         area.first_dead(range)
     }
 
+    /// Whether each of the eight bytes from the address on is live.
+    #[inline]
+    pub fn is_live_word(&self, addr: u64) -> bool
+        ensures live { IsTrue result ↔ AllLive self.now addr 8 }
+        ensures one_area { IsTrue result → LiesIn (record { addr = addr; len = 8 }) (extents self.now) }
+    {
+        match self.find(addr) {
+            Some(at) => {
+                let area = &self.areas[at];
+                area.is_live_word(addr)
+            }
+            None => false,
+        }
+    }
+
     /// The number whose bytes lie from a live address on, the lowest first.
+    #[inline]
     pub fn read(&self, addr: u64, width: u8) -> u64
         requires some { 1 ≤ width }
         requires at_most_8 { width ≤ 8 }
@@ -99,6 +115,7 @@ impl LiveBytes {
     }
 
     /// Writes the low `width` bytes of the value into one area, the lowest first.
+    #[inline]
     pub fn write(&mut self, addr: u64, width: u8, value: u64)
         requires { LiesIn (record { addr = addr; len = width }) (extents self.old) }
         ensures written { HasNumber self.new addr width value }
@@ -153,12 +170,24 @@ impl LiveBytes {
         true
     }
 
-    // The place of the area that has the address.
+    // The place of the area that has the address: the likely one, or else the first that has it.
+    #[inline]
     fn find(&self, addr: u64) -> Option<usize>
         ensures found { IfSome result (IsHolder self.now addr) }
         ensures none { IfNone result (All (λ a. holds a addr ≡ false) self.now) }
         ensures rising { RiseFrom 0 (extents self.now) }
     {
+        let likely = likely_place(addr);
+        if likely < self.areas.len() && self.areas[likely].has(addr) {
+            return Some(likely);
+        }
         self.areas.iter().position(|area| area.has(addr))
     }
+}
+
+// Where the area of an address is likely to be: those of a run begin 2^28 addresses apart, and one is left out after four.
+#[inline]
+fn likely_place(addr: u64) -> usize {
+    let step = addr / 0x1000_0000;
+    (step - step / 4) as usize
 }

@@ -80,6 +80,7 @@ impl Spaces {
     /// The number in `width` bytes, 1 to 8, from the address on, the lowest first, for code of the side. `OtherSpace` for a
     /// byte of the other side, `NotLive` for a dead byte, `Pending` for one that replay code may not touch: the first of
     /// these that some byte meets, with the least such byte.
+    #[inline]
     pub fn load(&self, side: Side, thread: u8, addr: u64, width: u8) -> Result<u64, Refusal>
         requires some { 1 ≤ width }
         requires at_most_8 { width ≤ 8 }
@@ -97,6 +98,7 @@ impl Spaces {
 
     /// Writes the low `width` bytes of the value, 1 to 8, from the address on, the lowest first, for code of the side. It is
     /// refused as a load is, and last of all with `ReadOnly` for a constant.
+    #[inline]
     pub fn store(
         &mut self,
         side: Side,
@@ -358,6 +360,7 @@ impl Spaces {
     }
 
     // Tests an access of code of the side: the first test that fails refuses it, at its least byte.
+    #[inline]
     fn check(&self, side: Side, thread: u8, range: Range, write: bool) -> Result<(), Refusal>
         ensures allowed { IsOk result ↔ IsAllowed self.now.bytes self.now.held.regions (record { side = side; thread = thread; range = range; write = write }) }
         ensures refused { (r : Refusal) → (result ≡ Err r) ↔ IsRefused self.now.bytes self.now.held.regions (record { side = side; thread = thread; range = range; write = write }) r }

@@ -1,5 +1,4 @@
 use Rattle.std.proofs.Common.{ℕ, ◌≡◌, ◌+◌, ◌-◌, ◌<◌, Option, Some, None, unwrap_or, length, get_or, ap, sym, ◌∙◌, arith}
-use Rattle.std.proofs.lemmas.List.{get_or_default}
 use Rattle.live_bytes.specs.Areas.{AreaState, cell}
 use Rattle.live_bytes.proofs.Cells.{fits_more, fits_word, byte_there, digits_more}
 use Rattle.live_bytes.proofs.area.Area.read.Goals as goal
@@ -18,12 +17,12 @@ loop-at-preserved c =
     let place = c.loop-at.at - 1 in
     let n = first + c.args.width - c.loop-at.at in
     let base : c.self.inside.base ≡ c.args.self.now.base = ap (λ (a : AreaState). a.base) c.self.view_is in
-    let size : length c.self.inside.cells.items ≡ length c.args.self.now.cells = ap (λ (a : AreaState). length a.cells) c.self.view_is in
+    let size : length c.self.inside.cells ≡ length c.args.self.now.cells = ap (λ (a : AreaState). length a.cells) c.self.view_is in
     let one : first + c.args.width - place ≡ n + 1 = omega arith in
     let small : c.from.result < 256 = omega (arith, c.from.ensures, c.unwrap_or.type_inv) in
-    let in_area : place < length c.self.inside.cells.items = omega (arith, c.requires.in_area) in
-    let read : c.index.result.now ≡ cell c.args.self.now (c.args.self.now.base + place) =
-    c.index.ensures ∙ get_or_default c.self.inside.cells.items place c.index.result.now None in_area
+    let in_area : place < length c.self.inside.cells = omega (arith, c.requires.in_area) in
+    let read : c.get.result ≡ cell c.args.self.now (c.args.self.now.base + place) =
+    c.get.ensures
     ∙ ap (λ (a : AreaState). get_or a.cells place None) c.self.view_is
     ∙ ap (λ k. get_or c.args.self.now.cells k None) (omega arith) in
     let alive : cell c.args.self.now (c.args.self.now.base + place) ≡ None → ⊥ =

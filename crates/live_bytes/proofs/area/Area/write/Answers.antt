@@ -1,5 +1,6 @@
-use Rattle.std.proofs.Common.{◌≡◌, ◌+◌, ◌-◌, ◌/◌, ◌<◌, length, ap, ◌∙◌, arith}
+use Rattle.std.proofs.Common.{List, Option, ℕ, sym, subst, ◌≡◌, ◌+◌, ◌-◌, ◌/◌, ◌<◌, length, ap, ◌∙◌, arith}
 use Rattle.live_bytes.specs.Areas.{AreaState}
+use Rattle.live_bytes.specs.AreaChanges.{WritesArea}
 use Rattle.live_bytes.proofs.Cells.{quotient_more, writes_more}
 use Rattle.live_bytes.proofs.area.Area.write.Goals as goal
 
@@ -10,11 +11,11 @@ loop-at-preserved c =
     let size = ap (λ (a : AreaState). length a.cells) c.self.view_is in
     let first = c.args.addr - c.self.inside.base in
     let place : c.loop-at.self-inside.base + c.loop-at.at ≡ c.args.addr + (c.loop-at.at - first) = omega (arith, so_far.extent.base) in
-    let lt : c.loop-at.at < length c.loop-at.self-inside.cells.items = omega (arith, so_far.extent.size, c.requires.in_area) in
+    let lt : c.loop-at.at < length c.loop-at.self-inside.cells = omega (arith, so_far.extent.size, c.requires.in_area) in
     let one : c.loop-at.at + 1 - first ≡ (c.loop-at.at - first) + 1 = omega arith in
     record {
       first_is = c.loop-at.invariant.first_is;
       from_first = omega arith;
       rest_is = ap (λ q. q / 256) c.loop-at.invariant.rest_is ∙ quotient_more c.args.value (c.loop-at.at - first) _ one;
-      so_far = writes_more c.args.addr (c.loop-at.at - first) _ c.loop-at.at c.args.value c.loop-at.rest _ _ one c.loop-at.invariant.rest_is place lt so_far;
+      so_far = subst (λ (cells : List (Option ℕ)). WritesArea c.args.addr (c.loop-at.at + 1 - first) c.args.value c.args.self.now (record { base = c.loop-at.self-inside.base; cells = cells })) (sym c.set.ensures) (writes_more c.args.addr (c.loop-at.at - first) _ c.loop-at.at c.args.value c.loop-at.rest _ _ one c.loop-at.invariant.rest_is place lt so_far);
     }

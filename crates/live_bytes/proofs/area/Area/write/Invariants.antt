@@ -8,5 +8,5 @@ invariant-loop-at l = record {
   first_is : l.fn.self.base + l.first ≡ l.addr;
   from_first : l.first ≤ l.at;
   rest_is : l.rest ≡ l.value / 256 ^ (l.at - l.first);
-  so_far : WritesArea l.addr (l.at - l.first) l.value l.fn.self (record { base = l.self-inside.base; cells = l.self-inside.cells.items });
+  so_far : WritesArea l.addr (l.at - l.first) l.value l.fn.self (record { base = l.self-inside.base; cells = l.self-inside.cells });
 }
