@@ -12,6 +12,7 @@ ghost use Rattle.memory_of_runs.specs.Returns.{RefusedReturnsAreFindings, Return
 ghost use Rattle.memory_of_runs.specs.CallChecks.{MadeCallsPass, PartsGrow, RacesOfHoldsAreFound, RacesOfReadsAreFound, RefusedHoldsAreFound, RefusedKeysAreFound, RefusedReadsAreFound};
 ghost use Rattle.memory_of_runs.specs.Below.{AllocsBelowAreUnseen, ArgumentsBelowAreUnseen, FramesBelowAreUnseen, FreesBelowAreUnseen, LeavesBelowAreUnseen, StoresBelowAreUnseen};
 ghost use Rattle.memory_of_runs.specs.Owed.{PendingBytesAreOwed};
+ghost use Rattle.memory_of_runs.specs.Rights.{LoadsBelowShowTheRun, RightsAreHandedDown};
 ghost use Rattle.memory_of_runs.specs.PoolMarks.{AllocsAreMarks, FreesAreMarks, FreesOfNullAreMarks, RefusedAllocsAreMarks};
 
 /// Memory before a run stands for the run in which nothing was done yet.
@@ -185,6 +186,17 @@ pub fn refused_returns_are_findings()
 /// The checks of a step find one thing at most.
 pub fn checks_find_one_thing()
     ensures { ChecksFindOneThing }
+{}
+
+/// Code of a thread below the cut has the right to a byte above it exactly where an open call of the thread, or a key in
+/// use, hands it down.
+pub fn rights_are_handed_down()
+    ensures { RightsAreHandedDown }
+{}
+
+/// A load below the cut shows of memory above it the bytes that the run has, or pending ones.
+pub fn loads_below_show_the_run()
+    ensures { LoadsBelowShowTheRun }
 {}
 
 /// A store of code below the cut changes nothing that a run sees: it goes to system memory, or to bytes that wait.
