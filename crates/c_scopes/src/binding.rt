@@ -1,0 +1,57 @@
+//! Names with their meanings, in the order in which they were declared.
+
+ghost use Rattle.std.specs.Prelude.{◌≡◌, ◌<◌, ◌≤◌, ◌∷◌, [], ◌++◌, length, take, OnOk, OnErr};
+ghost use Rattle.c_scopes.specs.declared.binding.Binding.{Binding};
+ghost use Rattle.c_scopes.specs.Bindings.{Ties, bound};
+
+use std::alloc::AllocError;
+
+/// A name with its meaning. Names go by their numbers.
+#[derive(Clone, Copy, Debug)]
+pub(crate) struct Binding<V: Copy> {
+    pub(crate) name: usize,
+    pub(crate) meaning: V,
+    /// The place of the binding of the same name that this one hides.
+    pub(crate) hidden: Option<usize>,
+}
+
+/// Puts a binding of a name behind all others.
+pub(crate) fn bind<V: Copy>(
+    bindings: &mut Vec<Binding<V>>,
+    places: &mut [Option<usize>],
+    name: usize,
+    meaning: V,
+) -> Result<(), AllocError>
+    requires name { name < length places.old }
+    requires ties { Ties places.old bindings.old.items }
+    ensures bound { OnOk result (bindings.new.items ≡ bound name meaning bindings.old.items) }
+    ensures ties { Ties places.new bindings.new.items }
+    ensures err { OnErr result (bindings.new.items ≡ bindings.old.items) }
+{
+    let place = bindings.len();
+    bindings.push(Binding {
+        name,
+        meaning,
+        hidden: places[name],
+    })?;
+    places[name] = Some(place);
+    Ok(())
+}
+
+/// Takes the bindings from a place on away. What they hid is seen again.
+pub(crate) fn take_back<V: Copy>(
+    bindings: &mut Vec<Binding<V>>,
+    places: &mut [Option<usize>],
+    start: usize,
+)
+    requires ties { Ties places.old bindings.old.items }
+    ensures rest { bindings.new.items ≡ take start bindings.old.items }
+    ensures ties { Ties places.new bindings.new.items }
+{
+    while bindings.len() > start {
+        let Some(binding) = bindings.pop() else {
+            unreachable!("there are bindings behind the start")
+        };
+        places[binding.name] = binding.hidden;
+    }
+}

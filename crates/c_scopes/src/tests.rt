@@ -1,0 +1,1 @@
+//! Names that hide each other, and that memory suffices.
