@@ -1,1 +1,4 @@
--- none yet
+pub mod Numbers
+pub mod Places
+pub mod Meanings
+pub mod Starts

@@ -1,7 +1,7 @@
 -- How scopes are kept: names by numbers, and all bindings in one list, the newest last.
 use Rattle.std.specs.Prelude.{◌≡◌, ℕ, ◌<◌, ◌≤◌, ◌==◌, zero, suc, List, [], ◌∷◌, ◌++◌, Option, Some, None, if◌then◌else◌, length, take, drop, reverse, map, slice_get, position, Vec}
 use Rattle.std.specs.Option.{unwrap_or}
-use Rattle.std.specs.List.{All}
+use Rattle.std.specs.List.{AllByRecursion}
 use Rattle.std.specs.declared.alloc.Global.{Global}
 use Rattle.c_scopes.specs.declared.binding.Binding.{Binding}
 use Rattle.c_scopes.specs.Scopes.{Scope, same_name}
@@ -48,10 +48,10 @@ module _ {V : Type 0} where
   IsChain limit [] = Unit {0}
   IsChain limit (b ∷ older) = (b.name < limit) × (b.hidden ≡ newest b.name older) × IsChain limit older
 
-  -- each number of a name has the place of its newest binding
+  -- each number of a name has the place of its newest binding, where the newest binding comes first
   pub record Ties (places : List (Option ℕ)) (bindings : List (Binding V)) : Type 0 where
-    pub chain : IsChain (length places) (reverse bindings)
-    pub newest_of : (n : ℕ) → n < length places → slice_get places n ≡ Some (newest n (reverse bindings))
+    pub chain : IsChain (length places) bindings
+    pub newest_of : (n : ℕ) → n < length places → slice_get places n ≡ Some (newest n bindings)
 
   -- the bindings with one more
   abbrev pub bound : ℕ → V → List (Binding V) → List (Binding V)
@@ -60,6 +60,11 @@ module _ {V : Type 0} where
   -- the binding's name stands at its number
   abbrev pub IsNumbered : List Name → Binding V → Type 0
   IsNumbered names b = index_of (text_at names b.name) names ≡ Some b.name
+
+-- where the bindings of the innermost scope start
+abbrev pub innermost_start : List ℕ → ℕ
+innermost_start [] = 0
+innermost_start (start ∷ starts) = start
 
 -- starts of scopes, the innermost first: none behind the end, and none behind an inner one
 abbrev pub AreStarts : List ℕ → ℕ → Type 0
@@ -70,5 +75,5 @@ AreStarts (start ∷ starts) end = (start ≤ end) × AreStarts starts start
 pub record AreKept {V : Type 0} (names : List Name) (places : List (Option ℕ)) (starts : List ℕ) (bindings : List (Binding V)) : Type 0 where
   pub room : length names ≤ length places
   pub in_order : AreStarts starts (length bindings)
-  pub numbered : All (IsNumbered names) bindings
-  pub ties : Ties places bindings
+  pub numbered : AllByRecursion (IsNumbered names) (reverse bindings)
+  pub ties : Ties places (reverse bindings)

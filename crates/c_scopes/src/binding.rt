@@ -1,8 +1,8 @@
 //! Names with their meanings, in the order in which they were declared.
 
-ghost use Rattle.std.specs.Prelude.{◌≡◌, ◌<◌, ◌≤◌, ◌∷◌, [], ◌++◌, length, take, OnOk, OnErr};
+ghost use Rattle.std.specs.Prelude.{◌≡◌, ◌<◌, ◌≤◌, ◌∷◌, [], ◌++◌, length, reverse, take, OnOk, OnErr};
 ghost use Rattle.c_scopes.specs.declared.binding.Binding.{Binding};
-ghost use Rattle.c_scopes.specs.Bindings.{Ties, bound};
+ghost use Rattle.c_scopes.specs.Bindings.{Ties, bound, innermost_start};
 
 use std::alloc::AllocError;
 
@@ -23,9 +23,9 @@ pub(crate) fn bind<V: Copy>(
     meaning: V,
 ) -> Result<(), AllocError>
     requires name { name < length places.old }
-    requires ties { Ties places.old bindings.old.items }
+    requires ties { Ties places.old (reverse bindings.old.items) }
     ensures bound { OnOk result (bindings.new.items ≡ bound name meaning bindings.old.items) }
-    ensures ties { Ties places.new bindings.new.items }
+    ensures ties { Ties places.new (reverse bindings.new.items) }
     ensures err { OnErr result (bindings.new.items ≡ bindings.old.items) }
 {
     let place = bindings.len();
@@ -44,14 +44,24 @@ pub(crate) fn take_back<V: Copy>(
     places: &mut [Option<usize>],
     start: usize,
 )
-    requires ties { Ties places.old bindings.old.items }
+    requires ties { Ties places.old (reverse bindings.old.items) }
     ensures rest { bindings.new.items ≡ take start bindings.old.items }
-    ensures ties { Ties places.new bindings.new.items }
+    ensures ties { Ties places.new (reverse bindings.new.items) }
 {
     while bindings.len() > start {
         let Some(binding) = bindings.pop() else {
             unreachable!("there are bindings behind the start")
         };
         places[binding.name] = binding.hidden;
+    }
+}
+
+/// Where the bindings of the innermost scope begin, by where those of each scope but the outermost do.
+pub(crate) fn last_start(starts: &[usize]) -> usize
+    ensures { result ≡ innermost_start (reverse starts.now) }
+{
+    match starts {
+        [.., last] => *last,
+        [] => 0,
     }
 }

@@ -3,7 +3,7 @@
 ghost use Rattle.std.specs.Prelude.{◌≡◌, ◌≤◌, ◌∷◌, [], drop, length, OnOk, OnErr};
 ghost use Rattle.c_scopes.specs.Scopes.{declared, innermost, meaning_in, meaning_of};
 
-use crate::binding::{Binding, bind, take_back};
+use crate::binding::{Binding, bind, last_start, take_back};
 use crate::naming::{number_of, place_of};
 use indexmap::IndexSet;
 use std::alloc::{AllocError, Global};
@@ -103,8 +103,7 @@ impl<V: Copy> Scopes<V> {
         ensures { result ≡ meaning_in name.now (innermost self.now) }
     {
         let place = place_of(&self.names, &self.places, name)?;
-        let start = self.starts.last().copied().unwrap_or(0);
-        if place < start {
+        if place < last_start(&self.starts) {
             return None;
         }
         let binding = self.bindings.get(place)?;
