@@ -1,9 +1,10 @@
 -- What names mean, read off the bindings.
-use Rattle.std.proofs.Common.{◌≡◌, ℕ, zero, suc, ◌+◌, ◌<◌, ◌≤◌, Bool, true, false, cond, ltb, eqb, List, [], ◌∷◌, ◌++◌, length, take, drop, Option, Some, None, refl, sym, ap, subst, ◌∙◌, arith, length-append}
+use Rattle.std.proofs.Common.{◌≡◌, ℕ, zero, suc, ◌+◌, ◌<◌, ◌≤◌, Bool, true, false, cond, ltb, eqb, List, [], ◌∷◌, ◌++◌, length, get_or, take, drop, Option, Some, None, refl, sym, ap, subst, ◌∙◌, arith, length-append}
 use Rattle.std.specs.Prelude.{reverse, slice_get}
 use Rattle.std.specs.List.{AllByRecursion}
 use Rattle.std.specs.Option.{option_or, option_map, option_and_then, unwrap_or}
-use Rattle.std.proofs.lemmas.Bool.{le-ltb, lt-ltb, ltb-true}
+use Rattle.std.proofs.lemmas.Bool.{le-ltb, lt-ltb, ltb-true, ltb-false}
+use Rattle.std.proofs.lemmas.Option.{slice_get_past, slice_get_read}
 use Rattle.std.proofs.lemmas.List.{take-append-drop, reverse-append, reverse-reverse, length-reverse, length-take-le, append-nil}
 use Rattle.c_scopes.specs.declared.binding.Binding.{Binding}
 use Rattle.c_scopes.specs.Scopes.{Scope, same_name, meaning_in, meaning_of, innermost}
@@ -145,3 +146,36 @@ module _ {V : Type 0} where
           ∙ (ap (λ (zs : List (Binding V)). option_and_then (meaning_from s (reverse zs)) (newest n zs)) (sym (parts bs s))
           ∙ (ap (λ (zs : List (Binding V)). option_and_then (meaning_from s zs) (newest n (reverse bs))) (reverse-reverse bs)
           ∙ ap (option_and_then (meaning_from s bs)) (sym (place_is_newest name names places (reverse bs) n kept.room kept.ties e))))
+
+  -- the same, where a place was looked up
+  pub found_is : (name : List ℕ) (names : List Name) (places slots : List (Option ℕ)) (starts : List ℕ) (bs : List (Binding V)) (now : List (Scope V)) (place : Option ℕ) → AreKept names places starts bs
+      → scopes_of names starts bs ≡ now → slots ≡ places → place ≡ option_and_then (place_in slots) (index_of name names) → meaning_of name now ≡ option_and_then (meaning_at bs) place
+  found_is name names places slots starts bs now place kept view same look =
+      ap (meaning_of name) (sym view)
+      ∙ (meaning name names places starts bs kept
+      ∙ ap (option_and_then (meaning_at bs)) (sym (look ∙ ap (λ ps. option_and_then (place_in ps) (index_of name names)) same)))
+
+  pub found_here_is : (name : List ℕ) (names : List Name) (places slots : List (Option ℕ)) (starts : List ℕ) (bs : List (Binding V)) (now : List (Scope V)) (place : Option ℕ) → AreKept names places starts bs
+      → scopes_of names starts bs ≡ now → slots ≡ places → place ≡ option_and_then (place_in slots) (index_of name names)
+      → meaning_in name (innermost now) ≡ option_and_then (meaning_from (innermost_start starts) bs) place
+  found_here_is name names places slots starts bs now place kept view same look =
+      ap (λ (s : List (Scope V)). meaning_in name (innermost s)) (sym view)
+      ∙ (meaning_here name names places starts bs kept
+      ∙ ap (option_and_then (meaning_from (innermost_start starts) bs)) (sym (look ∙ ap (λ ps. option_and_then (place_in ps) (index_of name names)) same)))
+
+  -- what is read at a place
+  pub nothing_at : (bs read : List (Binding V)) (p : ℕ) → read ≡ bs → false ≡ ltb p (length read) → meaning_at bs p ≡ None
+  nothing_at bs read p same past =
+      let le : length read ≤ p = ltb-false p (length read) (sym past) in
+      ap (λ (xs : List (Binding V)). meaning_at xs p) (sym same) ∙ ap (option_map (λ (b : Binding V). b.meaning)) (slice_get_past read p le)
+
+  pub something_at : (bs read : List (Binding V)) (p : ℕ) (b : Binding V) → read ≡ bs → true ≡ ltb p (length read) → b ≡ get_or read p b → meaning_at bs p ≡ Some b.meaning
+  something_at bs read p b same within is =
+      let lt : p < length read = ltb-true p (length read) (sym within) in
+      ap (λ (xs : List (Binding V)). meaning_at xs p) (sym same) ∙ ap (option_map (λ (b : Binding V). b.meaning)) (slice_get_read read (length read) p b refl lt is)
+
+  pub from_below : (start p : ℕ) (bs : List (Binding V)) → p < start → meaning_from start bs p ≡ None
+  from_below start p bs lt = ap (λ t. cond t None (meaning_at bs p)) (lt-ltb p start lt)
+
+  pub from_above : (start p : ℕ) (bs : List (Binding V)) → start ≤ p → meaning_from start bs p ≡ meaning_at bs p
+  from_above start p bs le = ap (λ t. cond t None (meaning_at bs p)) (le-ltb p start le)

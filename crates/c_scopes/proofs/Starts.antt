@@ -1,6 +1,7 @@
 -- Scopes by where they start among the bindings.
-use Rattle.std.proofs.Common.{◌≡◌, ℕ, zero, suc, ◌+◌, ◌-◌, ◌<◌, ◌≤◌, List, [], ◌∷◌, ◌++◌, length, take, drop, Option, Some, None, refl, sym, ap, subst, ◌∙◌, arith, length-append, ◌⊎◌, inl, inr}
+use Rattle.std.proofs.Common.{◌≡◌, ℕ, zero, suc, ◌+◌, ◌-◌, ◌<◌, ◌≤◌, List, [], ◌∷◌, ◌++◌, length, take, drop, Option, Some, None, Result, Ok, Err, OnOk, OnErr, refl, sym, ap, subst, ◌∙◌, arith, length-append, ◌⊎◌, inl, inr}
 use Rattle.std.specs.Prelude.{reverse}
+use Rattle.std.proofs.Math.Seq.{take-append_seam}
 use Rattle.std.specs.List.{AllByRecursion}
 use Rattle.std.proofs.lemmas.List.{reverse-append, length-reverse, length-take-le, take-append-le, drop-append-le, take_all}
 use Rattle.c_scopes.specs.declared.binding.Binding.{Binding}
@@ -109,3 +110,28 @@ module _ {V : Type 0} where
     },
     ap (scopes_of names starts) less,
   )
+
+  -- no binding more
+  kept_same : (names : List Name) (places new_places : List (Option ℕ)) (starts : List ℕ) (bs new_bs : List (Binding V)) → AreKept names places starts bs
+      → new_bs ≡ bs → Ties new_places (reverse new_bs) → length new_places ≡ length places → AreKept names new_places starts new_bs
+  kept_same names places new_places starts bs new_bs kept same ties size = record {
+    room = let room = kept.room in omega arith;
+    in_order = let l : length new_bs ≡ length bs = ap length same in subst (AreStarts starts) (sym l) kept.in_order;
+    numbered = let holds : List (Binding V) → Type 0 = λ xs. AllByRecursion (IsNumbered names) (reverse xs) in subst holds (sym same) kept.numbered;
+    ties = ties;
+  }
+
+  -- after a binding was put behind the others, or refused
+  pub kept_declared : {T E : Type 0} (r : Result T E) (names : List Name) (places new_places : List (Option ℕ)) (starts : List ℕ) (bs new_bs : List (Binding V)) (now : List (Scope V)) (name : List ℕ) (n : ℕ) (meaning : V)
+      → AreKept names places starts bs → scopes_of names starts bs ≡ now → index_of name names ≡ Some n
+      → OnOk r (new_bs ≡ bound n meaning bs) → OnErr r (new_bs ≡ bs) → Ties new_places (reverse new_bs) → length new_places ≡ length places
+      → AreKept names new_places starts new_bs × OnOk r (scopes_of names starts new_bs ≡ declared name meaning now) × OnErr r (scopes_of names starts new_bs ≡ now)
+  kept_declared (Ok x) names places new_places starts bs new_bs now name n meaning kept view e grown same ties size =
+      let both = kept_bound names places new_places starts bs new_bs name n meaning kept e grown ties size in
+      (both.0, both.1 ∙ ap (declared name meaning) view, tt)
+  kept_declared (Err x) names places new_places starts bs new_bs now name n meaning kept view e grown same ties size =
+      (kept_same names places new_places starts bs new_bs kept same ties size, tt, ap (scopes_of names starts) same ∙ view)
+
+-- a list that was written over as a whole
+pub written : {A : Type 0} (n : ℕ) (new old : List A) → length new ≡ n → take n (new ++ drop (length new) old) ≡ new
+written n new old e = ap (λ k. take k (new ++ drop (length new) old)) (sym e) ∙ take-append_seam new (drop (length new) old)
