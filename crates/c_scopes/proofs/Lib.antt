@@ -1,5 +1,5 @@
-pub mod Numbers
-pub mod Places
-pub mod Meanings
-pub mod Starts
-pub mod Ends
+mod Numbers
+mod Places
+mod Meanings
+mod Starts
+mod Ends

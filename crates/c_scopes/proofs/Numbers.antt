@@ -1,5 +1,5 @@
 -- Names and their numbers.
-use Rattle.std.proofs.Common.{◌≡◌, ℕ, zero, suc, ◌+◌, ◌<◌, ◌≤◌, Bool, true, false, cond, ltb, eqb, List, [], ◌∷◌, ◌++◌, length, get_or, Option, Some, None, refl, sym, ap, subst, ◌∙◌, arith, length-append}
+use Rattle.std.proofs.Common.{◌≡◌, ℕ, zero, suc, ◌+◌, ◌<◌, Bool, true, false, cond, ltb, eqb, List, [], ◌∷◌, ◌++◌, length, get_or, Some, None, refl, sym, ap, ◌∙◌, arith, length-append}
 use Rattle.std.specs.List.{position, position_or_len}
 use Rattle.std.proofs.lemmas.Bool.{lt-ltb, eq-eqb, ne_eqb, both_ways}
 use Rattle.std.proofs.lemmas.List.Quantifiers.{position-Some}
@@ -8,7 +8,7 @@ use Rattle.std.proofs.lemmas.Slice.Eq.{bytes_eq-Decides}
 use Rattle.std.proofs.Math.ListN.{get_or-append}
 use Rattle.c_scopes.specs.declared.binding.Binding.{Binding}
 use Rattle.c_scopes.specs.Scopes.{same_name}
-use Rattle.c_scopes.specs.Bindings.{Name, Continues, index_of, text_at, IsNumbered}
+use Rattle.c_scopes.specs.Bindings.{Name, index_of, text_at, IsNumbered}
 
 -- the first place that passes
 position_from : {X : Type 0} (p : X → Bool) (xs : List X) (i : ℕ) (d : X) → i < length xs → p (get_or xs i d) ≡ true → ((k : ℕ) → k < i → p (get_or xs k d) ≡ false) → position p xs ≡ Some i
@@ -83,5 +83,5 @@ module _ {V : Type 0} where
           s ∙ sym (eq-eqb n b.name number)
       by false s =
           s ∙ sym (ne_eqb n b.name (λ h.
-              let there : text_at names b.name ≡ name = ap (text_at names) (sym h) ∙ text_found name names n i in
-              both_ways (same_name name (text_at names b.name)) s ((bytes_eq-Decides name (text_at names b.name)).1 (sym there))))
+          let there : text_at names b.name ≡ name = ap (text_at names) (sym h) ∙ text_found name names n i in
+          both_ways (same_name name (text_at names b.name)) s ((bytes_eq-Decides name (text_at names b.name)).1 (sym there))))

@@ -1,12 +1,12 @@
 -- Scopes by where they start among the bindings.
-use Rattle.std.proofs.Common.{◌≡◌, ℕ, zero, suc, ◌+◌, ◌-◌, ◌<◌, ◌≤◌, List, [], ◌∷◌, ◌++◌, length, take, drop, Option, Some, None, Result, Ok, Err, OnOk, OnErr, refl, sym, ap, subst, ◌∙◌, arith, length-append, ◌⊎◌, inl, inr}
+use Rattle.std.proofs.Common.{◌≡◌, ℕ, ◌+◌, ◌-◌, ◌≤◌, List, [], ◌∷◌, ◌++◌, length, take, drop, Option, Some, None, Result, Ok, Err, OnOk, OnErr, refl, sym, ap, subst, ◌∙◌, arith, length-append, ◌⊎◌, inl, inr}
 use Rattle.std.specs.Prelude.{reverse}
 use Rattle.std.proofs.Math.Seq.{take-append_seam}
 use Rattle.std.specs.List.{AllByRecursion}
-use Rattle.std.proofs.lemmas.List.{reverse-append, length-reverse, length-take-le, take-append-le, drop-append-le, take_all}
+use Rattle.std.proofs.lemmas.List.{reverse-append, length-take-le, take-append-le, drop-append-le}
 use Rattle.c_scopes.specs.declared.binding.Binding.{Binding}
 use Rattle.c_scopes.specs.Scopes.{Scope, declared}
-use Rattle.c_scopes.specs.Bindings.{Name, Continues, index_of, text_at, named, scopes_of, newest, bound, IsNumbered, Ties, AreStarts, AreKept, innermost_start}
+use Rattle.c_scopes.specs.Bindings.{Name, Continues, index_of, text_at, named, scopes_of, newest, bound, IsNumbered, Ties, AreStarts, AreKept}
 use Rattle.c_scopes.proofs.Numbers.{index_within, text_found, text_stays, numbered_stays}
 use Rattle.c_scopes.proofs.Places.{ties_grown}
 use Rattle.c_scopes.proofs.Meanings.{parts, all_left, all_right}

@@ -1,7 +1,6 @@
 //! Names with their meanings, in the order in which they were declared.
 
-ghost use Rattle.std.specs.Prelude.{◌≡◌, ◌<◌, ◌≤◌, ◌∷◌, [], ◌++◌, length, reverse, take, OnOk, OnErr};
-ghost use Rattle.c_scopes.specs.declared.binding.Binding.{Binding};
+ghost use Rattle.std.specs.Prelude.{◌≡◌, ◌<◌, length, reverse, take, OnOk, OnErr};
 ghost use Rattle.c_scopes.specs.Bindings.{Ties, bound, innermost_start};
 
 use std::alloc::AllocError;

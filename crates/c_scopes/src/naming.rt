@@ -1,6 +1,6 @@
 //! Names and their numbers, in the order in which they were first seen.
 
-ghost use Rattle.std.specs.Prelude.{◌≡◌, ◌⊎◌, ◌≤◌, ◌++◌, ◌∷◌, [], Option, ℕ, None, Some, IfOk, length, slice_get};
+ghost use Rattle.std.specs.Prelude.{◌≡◌, ◌⊎◌, ◌≤◌, ◌++◌, ◌∷◌, [], None, Some, IfOk, length};
 ghost use Rattle.std.specs.Option.{option_and_then};
 ghost use Rattle.c_scopes.specs.Bindings.{index_of, place_in, Continues};
 

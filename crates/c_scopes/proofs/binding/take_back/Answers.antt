@@ -1,4 +1,4 @@
-use Rattle.std.proofs.Common.{◌≡◌, ◌∙◌, ◌<◌, length, arith}
+use Rattle.std.proofs.Common.{◌∙◌, ◌<◌, length, arith}
 use Rattle.c_scopes.proofs.Ends.{ties_popped, front_popped}
 use Rattle.c_scopes.proofs.binding.take_back.Goals as goal
 

@@ -16,4 +16,4 @@ invariant_of-self g c =
     let holds : List (Option ℕ) → Type 0 = λ ps. AreKept names ps rest c.take_back.new.bindings.items in
     let room : length new ≡ s.places.len = omega (arith, size, s.places.ok.0) in
     subst holds (sym (written s.places.len new s.places.items room))
-      (kept_closed names s.places.items new c.in-Some.start rest s.bindings.items c.take_back.new.bindings.items kept c.take_back.ensures.rest c.take_back.ensures.ties size).0
+    (kept_closed names s.places.items new c.in-Some.start rest s.bindings.items c.take_back.new.bindings.items kept c.take_back.ensures.rest c.take_back.ensures.ties size).0

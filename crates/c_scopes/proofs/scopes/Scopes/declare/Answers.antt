@@ -38,7 +38,7 @@ invariant_of-self-2 g c =
     let room : length new ≡ c.number_of.new.places.len = omega (arith, size, c.number_of.new.places.ok.0) in
     let holds : List (Option ℕ) → Type 0 = λ ps. AreKept names ps starts c.bind.new.bindings.items in
     subst holds (sym (written c.number_of.new.places.len new places room))
-      (kept_declared c.bind.result names places new starts s.bindings.items c.bind.new.bindings.items c.args.self.now c.args.name.now c.in_ok-number.number c.args.meaning longer.0 (longer.1 ∙ c.self.view_is) c.in_ok-number.ensures.number c.bind.ensures.bound c.bind.ensures.err c.bind.ensures.ties size).0
+    (kept_declared c.bind.result names places new starts s.bindings.items c.bind.new.bindings.items c.args.self.now c.args.name.now c.in_ok-number.number c.args.meaning longer.0 (longer.1 ∙ c.self.view_is) c.in_ok-number.ensures.number c.bind.ensures.bound c.bind.ensures.err c.bind.ensures.ties size).0
 
 pub returns-clause-declared : goal.returns-clause-declared
 returns-clause-declared g c =
