@@ -1,2 +1,10 @@
-//! Names in nested scopes.
+//! Names in nested scopes (C11 6.2.1).
 #![tactic(auto)]
+
+mod binding;
+mod naming;
+mod scopes;
+#[cfg(test)]
+mod tests;
+
+pub use scopes::Scopes;

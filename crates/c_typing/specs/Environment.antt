@@ -10,7 +10,7 @@ use Rattle.std.specs.List.{starts_with}
 use Rattle.c_builtins.specs.declared.builtin.Builtin.{Builtin}
 use Rattle.c_builtins.specs.declared.builtin.Builtin.TheVariants.{Malloc, Free, Spawn, Join, Lock, Unlock, Print}
 use Rattle.c_builtins.specs.Table.{name_of}
-use Rattle.c_scopes.specs.Scopes.{Scope, same_name, meaning_in, meaning_of, declared}
+use Rattle.c_scopes.specs.Scopes.{Scope, same_name, innermost, meaning_in, declared}
 use Rattle.c_typing.specs.Checked.{Checked, Fine, Broken, keep, ◌>>=◌, ◌>>◌}
 
 -- what a name means
@@ -61,10 +61,6 @@ base_type env (bases.Struct tag) = struct_type tag (place_in tag env.tags)
 -- a further scope
 abbrev pub inner : Environment → Environment
 inner env = record env { scopes = [] ∷ env.scopes }
-
-abbrev innermost : List (Scope Meaning) → Scope Meaning
-innermost [] = []
-innermost (scope ∷ outer) = scope
 
 abbrev pub with_name : Environment → List ℕ → Meaning → Environment
 with_name env name m = record env { scopes = declared name m env.scopes }

@@ -1,0 +1,5 @@
+mod Numbers
+mod Places
+mod Meanings
+mod Starts
+mod Ends
