@@ -65,7 +65,7 @@ pub fn print_order<S: Sink>(alloc: Global, part: &Closed, out: &mut S) -> Result
     let count = part.count();
     let mut from = 0;
     while from < count {
-        let to = count.min(from + LINES);
+        let to = from + LINES.min(count - from);
         read_lines(part, from, to, &mut lines)?;
         put_lines(&mut text, &lines)?;
         put_long(&mut text, out)?;
