@@ -1,0 +1,206 @@
+// How a function begins.
+
+ghost use Rattle.std.specs.Prelude.{◌≡◌, ◌+◌, ◌<◌, ◌≤◌, ◌&&◌, not, false, ◌∷◌, ◌++◌, [], length, drop, reverse};
+ghost use Rattle.marks.specs.declared.side.Side.TheVariants.{Replay};
+ghost use Rattle.c_code.specs.declared.activation.Waiting.TheVariants.{ForBelow, ForUpRet, ForOutside};
+ghost use Rattle.c_code.specs.Valid.{most_values};
+ghost use Rattle.c_code.specs.Fits.{values_of, waits_of};
+ghost use Rattle.c_code.specs.Machine.{Entering, uncover as uncovered};
+ghost use Rattle.c_stacks.specs.Stacks.{held, room_of};
+ghost use Rattle.c_machine.specs.declared.state.State.TheVariants.{Calling as AtCalling};
+ghost use Rattle.c_machine.specs.Positions.{laid, config};
+ghost use Rattle.c_machine.specs.Moves.{MayBegin, begun, crosses as crosses_in, waiting as waiting_of};
+
+use crate::position::Position;
+use crate::state::{Entry, State};
+use crate::tops::{has_args, is_face};
+use c_code::{Call, Code, Placed, Side, Waiting};
+use c_stacks::Stack;
+
+impl Position {
+    // A function begins, at a call or outside of all.
+    pub(crate) fn begin(
+        &mut self,
+        code: &Code,
+        placed: &Placed,
+        func: u16,
+        args: &[u64],
+        side: Side,
+        up: bool,
+    )
+        requires may { MayBegin (laid code.now placed.now) (config self.old) func args.now side up }
+        requires few { length args.now ≤ most_values }
+        requires values { length (values_of (config self.old)) + length args.now < room_of self.old.values }
+        requires waits { length (waits_of (config self.old)) < room_of self.old.waits }
+        ensures begun { config self.new ≡ begun (laid code.now placed.now) (config self.old) func args.now side up }
+        ensures values { room_of self.new.values ≡ room_of self.old.values }
+        ensures waits { room_of self.new.waits ≡ room_of self.old.waits }
+    {
+        match self.state {
+            State::Calling(call) => self.begin_at(call, code, placed, func, args, side, up),
+            State::Done(_) => {
+                if up {
+                    self.begin_up_outside(func, args);
+                } else {
+                    self.begin_outside(func, args, side);
+                }
+            }
+            State::Going(_) => self.state = State::Lost,
+            State::Entering(_) => self.state = State::Lost,
+            State::Closing(_, _) => self.state = State::Lost,
+            State::Lost => {}
+        }
+    }
+
+    // The same at a call.
+    fn begin_at(
+        &mut self,
+        call: Call,
+        code: &Code,
+        placed: &Placed,
+        func: u16,
+        args: &[u64],
+        side: Side,
+        up: bool,
+    )
+        requires state { self.old.state ≡ AtCalling call }
+        requires may { MayBegin (laid code.now placed.now) (config self.old) func args.now side up }
+        requires few { length args.now ≤ most_values }
+        requires values { length (held self.old.values) + length args.now < room_of self.old.values }
+        requires waits { length (held self.old.waits) < room_of self.old.waits }
+        ensures begun { config self.new ≡ begun (laid code.now placed.now) (config self.old) func args.now side up }
+        ensures values { room_of self.new.values ≡ room_of self.old.values }
+        ensures waits { room_of self.new.waits ≡ room_of self.old.waits }
+    {
+        if !has_args(&self.values, call.args) {
+            self.state = State::Lost;
+            return;
+        }
+        if !up {
+            self.begin_called(call, crosses(call, code, placed), func, args, side);
+            return;
+        }
+        match call.then.side {
+            Side::Replay => self.begin_below(call, func, args),
+            Side::System => self.begin_up(call, func, args),
+        }
+    }
+
+    // The function of the call begins.
+    fn begin_called(&mut self, call: Call, crosses: bool, func: u16, args: &[u64], side: Side)
+        requires few { length args.now ≤ most_values }
+        requires values { length (held self.old.values) + length args.now < room_of self.old.values }
+        requires waits { length (held self.old.waits) < room_of self.old.waits }
+        ensures begun { config self.new ≡ Entering side (call.indirect && not crosses) func args.now (uncovered call.indirect (drop call.args (held self.old.values))) (waiting_of crosses call ∷ held self.old.waits) }
+        ensures values { room_of self.new.values ≡ room_of self.old.values }
+        ensures waits { room_of self.new.waits ≡ room_of self.old.waits }
+    {
+        self.uncover(call);
+        self.waits.push(waiting(crosses, call));
+        self.enter(side, call.indirect && !crosses, func, args);
+    }
+
+    // System code below a call by replay code calls a function back: the call stays, with its arguments.
+    fn begin_below(&mut self, call: Call, func: u16, args: &[u64])
+        requires few { length args.now ≤ most_values }
+        requires values { length (held self.old.values) + length args.now < room_of self.old.values }
+        requires waits { length (held self.old.waits) < room_of self.old.waits }
+        ensures begun { config self.new ≡ Entering Replay false func args.now (held self.old.values) (ForBelow call func ∷ held self.old.waits) }
+        ensures values { room_of self.new.values ≡ room_of self.old.values }
+        ensures waits { room_of self.new.waits ≡ room_of self.old.waits }
+    {
+        self.waits.push(Waiting::ForBelow(call, func));
+        self.enter(Side::Replay, false, func, args);
+    }
+
+    // A call by system code calls its function back.
+    fn begin_up(&mut self, call: Call, func: u16, args: &[u64])
+        requires few { length args.now ≤ most_values }
+        requires values { length (held self.old.values) + length args.now < room_of self.old.values }
+        requires waits { length (held self.old.waits) < room_of self.old.waits }
+        ensures begun { config self.new ≡ Entering Replay false func args.now (uncovered call.indirect (drop call.args (held self.old.values))) (ForUpRet call.then call.func ∷ held self.old.waits) }
+        ensures values { room_of self.new.values ≡ room_of self.old.values }
+        ensures waits { room_of self.new.waits ≡ room_of self.old.waits }
+    {
+        self.uncover(call);
+        self.waits.push(Waiting::ForUpRet(call.then, call.func));
+        self.enter(Side::Replay, false, func, args);
+    }
+
+    // A function is called back outside of all calls.
+    fn begin_up_outside(&mut self, func: u16, args: &[u64])
+        requires few { length args.now ≤ most_values }
+        requires values { length args.now < room_of self.old.values }
+        requires waits { 0 < room_of self.old.waits }
+        ensures begun { config self.new ≡ Entering Replay false func args.now [] (ForOutside func ∷ []) }
+        ensures values { room_of self.new.values ≡ room_of self.old.values }
+        ensures waits { room_of self.new.waits ≡ room_of self.old.waits }
+    {
+        self.values.clear();
+        self.waits.clear();
+        self.waits.push(Waiting::ForOutside(func));
+        self.enter(Side::Replay, false, func, args);
+    }
+
+    // A function begins outside of all calls.
+    fn begin_outside(&mut self, func: u16, args: &[u64], side: Side)
+        requires few { length args.now ≤ most_values }
+        requires values { length args.now < room_of self.old.values }
+        ensures begun { config self.new ≡ Entering side false func args.now [] [] }
+        ensures values { room_of self.new.values ≡ room_of self.old.values }
+        ensures waits { room_of self.new.waits ≡ room_of self.old.waits }
+    {
+        self.values.clear();
+        self.waits.clear();
+        self.enter(side, false, func, args);
+    }
+
+    // The function is to be entered, with these arguments on top of the values.
+    fn enter(&mut self, side: Side, indirect: bool, func: u16, args: &[u64])
+        requires few { length args.now ≤ most_values }
+        requires values { length (held self.old.values) + length args.now < room_of self.old.values }
+        ensures entering { config self.new ≡ Entering side indirect func args.now (held self.old.values) (held self.old.waits) }
+        ensures values { room_of self.new.values ≡ room_of self.old.values }
+        ensures waits { self.new.waits ≡ self.old.waits }
+    {
+        push_all(&mut self.values, args);
+        self.state = State::Entering(Entry {
+            side,
+            indirect,
+            func,
+            args: args.len() as u8,
+        });
+    }
+}
+
+// Puts the values on top, the last one topmost.
+fn push_all(stack: &mut Stack<u64>, values: &[u64])
+    requires { length (held stack.old) + length values.now < room_of stack.old }
+    ensures pushed { held stack.new ≡ reverse values.now ++ held stack.old }
+    ensures room { room_of stack.new ≡ room_of stack.old }
+{
+    for value in values {
+        stack.push(*value);
+    }
+}
+
+// Whether the call is one of replay code of a function of the interface.
+pub(crate) fn crosses(call: Call, code: &Code, placed: &Placed) -> bool
+    ensures { result ≡ crosses_in (laid code.now placed.now) call }
+{
+    match call.then.side {
+        Side::Replay => is_face(placed, call.func),
+        Side::System => false,
+    }
+}
+
+// What waits for the result of a function that begins at the call.
+fn waiting(crosses: bool, call: Call) -> Waiting
+    ensures { result ≡ waiting_of crosses call }
+{
+    if crosses {
+        Waiting::ForRet(call.then, call.func)
+    } else {
+        Waiting::ForValue(call.then)
+    }
+}

@@ -1,0 +1,153 @@
+// Instructions that make no mark.
+
+ghost use Rattle.std.specs.Prelude.{◌≡◌, ℕ, ◌+◌, ◌<◌, ◌^◌, List, length, Some, IfSome, IfNone, slice_get};
+ghost use Rattle.c_code.specs.declared.activation.Waiting.{Waiting};
+ghost use Rattle.c_code.specs.Machine.{act, next, at_place, address_of, push as pushed, Silent, Going, Flat};
+ghost use Rattle.c_stacks.specs.Stacks.{held, room_of};
+ghost use Rattle.c_machine.specs.Positions.{laid};
+ghost use Rattle.c_machine.specs.Silent.{IsLoud, Combines, passes};
+
+use c_code::{Activation, Combine, Instr, Place, Placed, Push};
+use c_stacks::Stack;
+
+// What an instruction does that makes no mark: where it leads; `None` where it is another one.
+pub(crate) fn effect(
+    instr: Instr,
+    a: Activation,
+    values: &mut Stack<u64>,
+    placed: &Placed,
+) -> Option<Activation>
+    requires room { length (held values.old) < room_of values.old }
+    requires place { a.at + 1 + passes instr < 2 ^ 32 }
+    ensures some { IfSome result (λ b. (code : Flat) (ws : List Waiting) → act (laid code placed.now) (Some instr) a (held values.old) ws ≡ Silent (Going b (held values.new) ws)) }
+    ensures side { IfSome result (λ b. b.side ≡ a.side) }
+    ensures none { IfNone result ((held values.new ≡ held values.old) × ((code : Flat) (ws : List Waiting) → IsLoud (act (laid code placed.now) (Some instr) a (held values.old) ws))) }
+    ensures room { room_of values.new ≡ room_of values.old }
+{
+    match instr {
+        Instr::Push(what) => {
+            values.push(push_value(what, a, placed));
+            Some(next(a))
+        }
+        Instr::Change(how) => {
+            let v = values.pop()?;
+            values.push(how.apply(v));
+            Some(next(a))
+        }
+        Instr::Combine(how) => {
+            if combine(how, values) {
+                Some(next(a))
+            } else {
+                None
+            }
+        }
+        Instr::EndIfZero(n) => {
+            let v = values.pop()?;
+            if v == 0 {
+                values.push(0);
+                Some(on_by(a, n))
+            } else {
+                Some(next(a))
+            }
+        }
+        Instr::EndUnlessZero(n) => {
+            let v = values.pop()?;
+            if v == 0 {
+                Some(next(a))
+            } else {
+                values.push(1);
+                Some(on_by(a, n))
+            }
+        }
+        Instr::SkipIfZero(n) => {
+            let v = values.pop()?;
+            if v == 0 {
+                Some(on_by(a, n))
+            } else {
+                Some(next(a))
+            }
+        }
+        Instr::GoOn(n) => Some(on_by(a, n)),
+        Instr::Drop => {
+            values.pop()?;
+            Some(next(a))
+        }
+        Instr::Load(_, _) => None,
+        Instr::LoadKeep(_, _) => None,
+        Instr::Store(_, _) => None,
+        Instr::StoreStep(_, _, _, _) => None,
+        Instr::Turn => None,
+        Instr::GoBack(_) => None,
+        Instr::Call(_, _) => None,
+        Instr::CallPointer(_, _) => None,
+        Instr::Finish => None,
+    }
+}
+
+// What is put on top.
+fn push_value(what: Push, a: Activation, placed: &Placed) -> u64
+    ensures { (code : Flat) → result ≡ pushed (laid code placed.now) what a }
+{
+    match what {
+        Push::Number(n) => n,
+        Push::Local(offset) => a.base.wrapping_add(offset),
+        Push::Global(g) => address(placed.globals.as_slice(), g),
+        Push::Text(s) => address(placed.strings.as_slice(), s),
+    }
+}
+
+// The address of the object with the number; 0 where there is none.
+fn address(objects: &[Place], number: u32) -> u64
+    ensures { result ≡ address_of (slice_get objects.now number) }
+{
+    match objects.get(number as usize) {
+        Some(object) => object.addr,
+        None => 0,
+    }
+}
+
+// An operator on the two topmost values. Where it faults, or there are too few, nothing changes.
+fn combine(how: Combine, values: &mut Stack<u64>) -> bool
+    requires room { length (held values.old) < room_of values.old }
+    ensures combined { Combines how (held values.old) (held values.new) result }
+    ensures room { room_of values.new ≡ room_of values.old }
+{
+    let Some((y, x)) = values.top_two() else {
+        return false;
+    };
+    match how.apply(x, y) {
+        Ok(v) => {
+            values.drop_top(2);
+            values.push(v);
+            true
+        }
+        Err(_) => false,
+    }
+}
+
+// The next instruction.
+pub(crate) fn next(a: Activation) -> Activation
+    requires { a.at + 1 < 2 ^ 32 }
+    ensures { result ≡ next a }
+{
+    at_place(a, a.at + 1)
+}
+
+fn on_by(a: Activation, n: u32) -> Activation
+    requires { a.at + 1 + n < 2 ^ 32 }
+    ensures { result ≡ at_place (a.at + 1 + n) a }
+{
+    at_place(a, a.at + 1 + n)
+}
+
+// The same activation at another instruction.
+pub(crate) fn at_place(a: Activation, at: u32) -> Activation
+    ensures { result ≡ at_place at a }
+{
+    Activation {
+        at,
+        base: a.base,
+        size: a.size,
+        side: a.side,
+    }
+}

@@ -1,0 +1,41 @@
+//! What a thread wants next, and what it is told.
+
+/// The next mark of a thread, or its next call.
+#[derive(Clone, Copy, Debug, PartialEq, Eq)]
+pub enum Want {
+    /// It is in no function: this is the result of the last one that ended, 0 before any.
+    Ended { result: u64 },
+    /// A loop begins a round.
+    Turn,
+    /// The bytes from the address on are read.
+    Load { addr: u64, width: u8 },
+    /// The number is written to the bytes from the address on; it is below 2 to the power of 8 times the width.
+    Store { addr: u64, width: u8, value: u64 },
+    /// A frame of so many bytes is taken for the function.
+    Enter { func: u16, size: u64 },
+    /// The frame of the innermost function is given back.
+    Leave,
+    /// The call of a function of the interface by replay code returns.
+    Ret { func: u16, result: u64 },
+    /// So many bytes are taken from the replay pool.
+    Alloc { size: u64 },
+    /// The block at the address is given back to the replay pool.
+    Free { addr: u64 },
+    /// The function is called.
+    Call { func: u16 },
+    /// The function that was called back has ended.
+    UpRet { result: u64 },
+    /// The code can't go on; the number is that of the fault's kind.
+    Fault(u8),
+}
+
+/// What a thread is told of its next mark or call.
+#[derive(Clone, Copy, Debug, PartialEq, Eq)]
+pub enum Answer {
+    /// The mark was made.
+    Go,
+    /// The value that is loaded, the address that the pool gives, or the result of the call.
+    Value(u64),
+    /// The address of the frame.
+    Frame(u64),
+}
