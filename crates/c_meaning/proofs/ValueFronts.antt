@@ -113,9 +113,9 @@ mutual
       address_cut R o k h m (λ a. value v h (λ x. store h (origin o) (object_type o) a x (go x))) (λ a. value v (making_calls h m) (λ x. store (making_calls h m) (origin o) (object_type o) a x (on x))) cs
       (λ a. value_cut R v k h m (λ x. store h (origin o) (object_type o) a x (go x)) (λ x. store (making_calls h m) (origin o) (object_type o) a x (on x)) cs (λ x. store_cut R k h m (origin o) (object_type o) a x (go x) (on x) (c x)))
   value_cut R (Changed o op kind v) k h m go on cs c =
-      changing_cut R k h m o (address o h) (address o (making_calls h m)) (λ old next. value v h (λ y. or_fault h.side (arith_of op kind (converted kind old) y) (λ r. next (converted_to (object_type o) r)))) (λ old next. value v (making_calls h m) (λ y. or_fault h.side (arith_of op kind (converted kind old) y) (λ r. next (converted_to (object_type o) r)))) go on
+      changing_cut R k h m o (address o h) (address o (making_calls h m)) (λ old next. value v h (λ y. or_fault h.side (arith_of op kind (converted kind old) y) (λ r. next (converted (kind_of (object_type o)) r)))) (λ old next. value v (making_calls h m) (λ y. or_fault h.side (arith_of op kind (converted kind old) y) (λ r. next (converted (kind_of (object_type o)) r)))) go on
       (λ f g d. address_cut R o k h m f g cs d)
-      (λ old f g d. value_cut R v k h m (λ y. or_fault h.side (arith_of op kind (converted kind old) y) (λ r. f (converted_to (object_type o) r))) (λ y. or_fault h.side (arith_of op kind (converted kind old) y) (λ r. g (converted_to (object_type o) r))) cs (λ y. cut_or_fault R k h.side (arith_of op kind (converted kind old) y) (λ r. f (converted_to (object_type o) r)) (λ r. g (converted_to (object_type o) r)) (λ r. d (converted_to (object_type o) r))))
+      (λ old f g d. value_cut R v k h m (λ y. or_fault h.side (arith_of op kind (converted kind old) y) (λ r. f (converted (kind_of (object_type o)) r))) (λ y. or_fault h.side (arith_of op kind (converted kind old) y) (λ r. g (converted (kind_of (object_type o)) r))) cs (λ y. cut_or_fault R k h.side (arith_of op kind (converted kind old) y) (λ r. f (converted (kind_of (object_type o)) r)) (λ r. g (converted (kind_of (object_type o)) r)) (λ r. d (converted (kind_of (object_type o)) r))))
       c
   value_cut R (Moved o w i size) k h m go on cs c =
       changing_cut R k h m o (address o h) (address o (making_calls h m)) (λ old next. value i h (λ y. next (moved_by w old y size))) (λ old next. value i (making_calls h m) (λ y. next (moved_by w old y size))) go on
@@ -124,7 +124,7 @@ mutual
       c
   value_cut R (Stepped o w g size) k h m go on cs c =
       let t = object_type o in
-      let new : ℕ → ℕ = λ old. converted_to t (stepped_by w old size) in
+      let new : ℕ → ℕ = λ old. converted (kind_of t) (stepped_by w old size) in
       address_cut R o k h m (λ a. load h (origin o) t (λ old. store h (origin o) t a (new old) (go (given g old (new old)))) a) (λ a. load (making_calls h m) (origin o) t (λ old. store (making_calls h m) (origin o) t a (new old) (on (given g old (new old)))) a) cs
       (λ a. load_cut R k h m (origin o) t (λ old. store h (origin o) t a (new old) (go (given g old (new old)))) (λ old. store (making_calls h m) (origin o) t a (new old) (on (given g old (new old)))) (λ old. store_cut R k h m (origin o) t a (new old) (go (given g old (new old))) (on (given g old (new old))) (c (given g old (new old)))) a)
   value_cut R (CallOf f vs t) k h m go on cs c =

@@ -44,8 +44,12 @@ truth n = at_zero n 0 1
 abbrev pub on_by : ℕ → ℕ → ℕ → ℕ
 on_by p i size = wrap (p + i * size)
 
+-- an integer is taken away as its negative, at long
+abbrev pub negative : ℕ → ℕ
+negative i = written (wrapped I64 (pos 0 -ℤ read I64 i))
+
 abbrev pub back_by : ℕ → ℕ → ℕ → ℕ
-back_by p i size = wrap (p + (2 ^ 64 - wrap (i * size)))
+back_by p i size = on_by p (negative i) size
 
 abbrev pub summed : Sum → ℕ → ℕ → ℕ → ℕ
 summed PointerMinus p i size = back_by p i size
@@ -64,16 +68,14 @@ abbrev pub in_order : Sum → ((ℕ → Marks) → Marks) → ((ℕ → Marks) �
 in_order PlusPointer pointer index go = index (λ i. pointer (λ p. go p i))
 in_order _ pointer index go = pointer (λ p. index (λ i. go p i))
 
--- a value that is converted: of void there is none
-abbrev pub converted_to : CType → ℕ → ℕ
-converted_to Void n = 0
-converted_to (Integer k) n = converted k n
-converted_to t n = n
-
 abbrev pub is_read : CType → Bool
 is_read (Integer k) = true
 is_read (PointerTo t) = true
 is_read t = false
+
+-- a value that is converted to a scalar type; what has no such type has no value that counts
+abbrev pub converted_to : CType → ℕ → ℕ
+converted_to t n = cond (is_read t) (converted (kind_of t) n) n
 
 abbrev pub width : CType → ℕ
 width t = bytes_of (kind_of t)
@@ -147,11 +149,11 @@ abbrev mutual
   value (Sequence a b) h go = value a h (λ x. value b h go)
   value (Assigned o v) h go = address o h (λ a. value v h (λ x. store h (origin o) (object_type o) a x (go x)))
   value (Changed o op k v) h go =
-      changing h o (address o h) (λ old next. value v h (λ y. or_fault h.side (arith_of op k (converted k old) y) (λ r. next (converted_to (object_type o) r)))) go
+      changing h o (address o h) (λ old next. value v h (λ y. or_fault h.side (arith_of op k (converted k old) y) (λ r. next (converted (kind_of (object_type o)) r)))) go
   value (Moved o w i size) h go = changing h o (address o h) (λ old next. value i h (λ y. next (moved_by w old y size))) go
   value (Stepped o w g size) h go =
       let t = object_type o in
-      address o h (λ a. load h (origin o) t (λ old. let new = converted_to t (stepped_by w old size) in store h (origin o) t a new (go (given g old new))) a)
+      address o h (λ a. load h (origin o) t (λ old. let new = converted (kind_of t) (stepped_by w old size) in store h (origin o) t a new (go (given g old new))) a)
   value (CallOf f vs t) h go = called f h (λ call. values vs h (λ xs. call xs go))
 
   pub values : Values → Here → (List ℕ → Marks) → Marks
