@@ -1,0 +1,2 @@
+mod Agree
+mod Expressions

@@ -1,0 +1,2 @@
+//! Where the code of a typed source lies in flat code, and that it then makes exactly the marks of its source.
+#![tactic(auto)]
