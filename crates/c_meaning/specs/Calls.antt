@@ -111,7 +111,7 @@ call_by_address r s bodies side t address args go = to_callee r s bodies side (c
 
 -- ---- functions
 
-abbrev locals_of : Option typed.Body → List CType
+abbrev pub locals_of : Option typed.Body → List CType
 locals_of (Some b) = b.locals
 locals_of None = []
 

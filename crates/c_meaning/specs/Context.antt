@@ -125,10 +125,10 @@ body_of s f = body_or (source_function s f)
 abbrev pub local_offsets : Source → List CType → List ℕ
 local_offsets s ts = offsets_from 0 (extents_in s.program ts)
 
-abbrev frame_with : ℕ → List ℕ → List ℕ
+abbrev pub frame_with : ℕ → List ℕ → List ℕ
 frame_with size params = params ++ replicate (size - length params) 0
 
-abbrev frame_of_body : Source → ℕ → Option typed.Body → List ℕ → List ℕ
+abbrev pub frame_of_body : Source → ℕ → Option typed.Body → List ℕ → List ℕ
 frame_of_body s f (Some b) args = frame_with (frame_size s.program b.locals) (params_bytes 0 (param_shapes s f) args)
 frame_of_body s f None args = []
 

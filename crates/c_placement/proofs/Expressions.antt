@@ -64,9 +64,9 @@ module _ (r : Reading) (s : Source) (code : Flat) where
   -- a call makes what is said of it, wherever its arguments lie
   pub record CallsAgree (n : ℕ) (p : Spot) : Type 0 where
     pub named : (j : ℕ) → j ≤ n → (f : ℕ) (args : List ℕ) (go : ℕ → Marks) (c : Config) (at : ℕ) (vs rest : List ℕ) (ws : List Waiting) →
-      action l c ≡ call_act f (stand p at) vs ws args rest → take_args (length args) [] vs ≡ Some (args, rest) → ((v : ℕ) → Agree r l j (go v) (Going (stand p (at + 1)) (v ∷ rest) ws)) → Agree r l j (p.call f args go) c
+        action l c ≡ call_act f (stand p at) vs ws args rest → take_args (length args) [] vs ≡ Some (args, rest) → ((v : ℕ) → Agree r l j (go v) (Going (stand p (at + 1)) (v ∷ rest) ws)) → Agree r l j (p.call f args go) c
     pub pointed : (j : ℕ) → j ≤ n → (t : CType) (sig a : ℕ) (args : List ℕ) (go : ℕ → Marks) (c : Config) (at : ℕ) (vs rest : List ℕ) (ws : List Waiting) →
-      IsSigOf s code t sig → action l c ≡ to_callee (callee l sig a) (stand p at) args vs rest ws → take_args (length args) [] vs ≡ Some (args, a ∷ rest) → ((v : ℕ) → Agree r l j (go v) (Going (stand p (at + 1)) (v ∷ rest) ws)) → Agree r l j (p.call_at t a args go) c
+        IsSigOf s code t sig → action l c ≡ to_callee (callee l sig a) (stand p at) args vs rest ws → take_args (length args) [] vs ≡ Some (args, a ∷ rest) → ((v : ℕ) → Agree r l j (go v) (Going (stand p (at + 1)) (v ∷ rest) ws)) → Agree r l j (p.call_at t a args go) c
 
   pub fewer_calls : (j n : ℕ) (p : Spot) → j ≤ n → CallsAgree n p → CallsAgree j p
   fewer_calls j n p le c = record { named = λ i li. c.named i (omega arith); pointed = λ i li. c.pointed i (omega arith) }
@@ -174,7 +174,7 @@ module _ (r : Reading) (s : Source) (code : Flat) where
       cg at h.0 (λ b. f (λ a. go (on_by a b size))) values ws h.2 (λ b. cf h.0 h.1 (λ a. go (on_by a b size)) (b ∷ values) ws h.3 (λ a. sums n (go (on_by a b size)) p (combine.IndexOf size) h.1 to b a (on_by a b size) values ws refl h.4 (c (on_by a b size))))
   sum_agrees n p PointerMinus f g F G size at to go values ws cf cg h c =
       cf at h.0 (λ a. g (λ b. go (back_by a b size))) values ws h.3 (λ a. cg h.0 h.1 (λ b. go (back_by a b size)) (a ∷ values) ws h.4 (λ b. changes n (go (back_by a b size)) p (change.Negate I64) h.1 h.2 b (a ∷ values) ws h.5
-        (sums n (go (back_by a b size)) p (combine.Index size) h.2 to a (negative b) (back_by a b size) values ws refl h.6 (c (back_by a b size)))))
+      (sums n (go (back_by a b size)) p (combine.Index size) h.2 to a (negative b) (back_by a b size) values ws refl h.6 (c (back_by a b size)))))
 
   move_agrees : (n : ℕ) (q : ℕ → Marks) (p : Spot) (w : Way) (size at to a b : ℕ) (values : List ℕ) (ws : List Waiting) → MoveAt (against_at p) w size at to → ((v : ℕ) → Agree r l n (q v) (Going (stand p to) (v ∷ values) ws)) → Agree r l n (q (moved_by w a b size)) (Going (stand p at) (b ∷ (a ∷ values)) ws)
   move_agrees n q p Up size at to a b values ws h c = sums n (q (on_by a b size)) p (combine.Index size) at to a b (on_by a b size) values ws refl h (c (on_by a b size))
@@ -198,8 +198,8 @@ module _ (r : Reading) (s : Source) (code : Flat) where
       by_ask r l n p.side (Stores o a (bytes_of_number (bytes_of k) new)) (λ x. go (given g old new)) (λ x. Going (stand p (at + 1)) (cond (keeps_old g) old new ∷ values) ws) (Going (stand p at) (old ∷ (a ∷ values)) ws)
       (ap (next_of r l) (acting r l (instr.StoreStep k (step_by w size) (keeps_old g) o) (stand p at) (old ∷ (a ∷ values)) ws h.here) ∙ ap (λ z. next_of r l (Asks p.side (Stores o a (bytes_of_number (bytes_of k) (converted k z))) (λ x. Going (stand p (at + 1)) (cond (keeps_old g) old (converted k z) ∷ values) ws))) (step_value w old size))
       (λ x j lt. fewer r l j n (go (given g old new)) (Going (stand p (at + 1)) (cond (keeps_old g) old new ∷ values) ws) (omega arith)
-        (subst (λ z. Agree r l n (go (given g old new)) (Going (stand p z) (cond (keeps_old g) old new ∷ values) ws)) (sym h.behind)
-          (subst (λ z. Agree r l n (go (given g old new)) (Going (stand p to) (z ∷ values) ws)) (sym (step_kept g old new)) (c (given g old new)))))
+      (subst (λ z. Agree r l n (go (given g old new)) (Going (stand p z) (cond (keeps_old g) old new ∷ values) ws)) (sym h.behind)
+      (subst (λ z. Agree r l n (go (given g old new)) (Going (stand p to) (z ∷ values) ws)) (sym (step_kept g old new)) (c (given g old new)))))
 
   -- ---- objects that are read, changed and stored
 
@@ -240,7 +240,7 @@ module _ (r : Reading) (s : Source) (code : Flat) where
       let some = all_taken xs stack in
       let same : take_args c [] (over xs stack) ≡ Some (xs, stack) = ap (λ m. take_args m [] (over xs stack)) (sym e) ∙ some in
       let acts : action l (Going (stand p at) (over xs stack) ws) ≡ call_act f (stand p at) (over xs stack) ws xs stack =
-        acting r l (instr.Call f c) (stand p at) (over xs stack) ws h.here ∙ ap (λ o. with_args o (call_act f (stand p at) (over xs stack) ws)) same in
+      acting r l (instr.Call f c) (stand p at) (over xs stack) ws h.here ∙ ap (λ o. with_args o (call_act f (stand p at) (over xs stack) ws)) same in
       cs.named n (omega arith) f xs go (Going (stand p at) (over xs stack) ws) at (over xs stack) stack ws acts some
       (λ v. subst (λ z. Agree r l n (go v) (Going (stand p z) (v ∷ stack) ws)) (sym h.behind) (k v))
 
@@ -250,7 +250,7 @@ module _ (r : Reading) (s : Source) (code : Flat) where
       let some = all_taken xs (a ∷ stack) in
       let same : take_args c [] (over xs (a ∷ stack)) ≡ Some (xs, a ∷ stack) = ap (λ m. take_args m [] (over xs (a ∷ stack))) (sym e) ∙ some in
       let acts : action l (Going (stand p at) (over xs (a ∷ stack)) ws) ≡ to_callee (callee l sig a) (stand p at) xs (over xs (a ∷ stack)) stack ws =
-        acting r l (instr.CallPointer sig c) (stand p at) (over xs (a ∷ stack)) ws h.here ∙ ap (λ o. with_args o (pointer_act l sig (stand p at) (over xs (a ∷ stack)) ws)) same in
+      acting r l (instr.CallPointer sig c) (stand p at) (over xs (a ∷ stack)) ws h.here ∙ ap (λ o. with_args o (pointer_act l sig (stand p at) (over xs (a ∷ stack)) ws)) same in
       cs.pointed n (omega arith) t sig a xs go (Going (stand p at) (over xs (a ∷ stack)) ws) at (over xs (a ∷ stack)) stack ws is acts some
       (λ v. subst (λ z. Agree r l n (go v) (Going (stand p z) (v ∷ stack) ws)) (sym h.behind) (k v))
 
@@ -307,16 +307,16 @@ module _ (r : Reading) (s : Source) (code : Flat) where
     value_agrees (Both a b) n p at to go stack ws cs h c =
         value_agrees a n p at h.0 (λ x. at_zero x (go 0) (value b (here_at p) (λ y. go (truth y)))) stack ws cs h.2
         (λ x. ends_at_zero n (go 0) (value b (here_at p) (λ y. go (truth y))) p h.0 to x stack ws h.3 (c 0)
-          (value_agrees b n p (h.0 + 1) h.1 (λ y. go (truth y)) stack ws cs h.4 (λ y. changes n (go (truth y)) p change.Truth h.1 to y stack ws h.5 (c (truth y)))))
+        (value_agrees b n p (h.0 + 1) h.1 (λ y. go (truth y)) stack ws cs h.4 (λ y. changes n (go (truth y)) p change.Truth h.1 to y stack ws h.5 (c (truth y)))))
     value_agrees (Either a b) n p at to go stack ws cs h c =
         value_agrees a n p at h.0 (λ x. at_zero x (value b (here_at p) (λ y. go (truth y))) (go 1)) stack ws cs h.2
         (λ x. ends_unless_zero n (value b (here_at p) (λ y. go (truth y))) (go 1) p h.0 to x stack ws h.3
-          (value_agrees b n p (h.0 + 1) h.1 (λ y. go (truth y)) stack ws cs h.4 (λ y. changes n (go (truth y)) p change.Truth h.1 to y stack ws h.5 (c (truth y)))) (c 1))
+        (value_agrees b n p (h.0 + 1) h.1 (λ y. go (truth y)) stack ws cs h.4 (λ y. changes n (go (truth y)) p change.Truth h.1 to y stack ws h.5 (c (truth y)))) (c 1))
     value_agrees (Choice t a b) n p at to go stack ws cs h c =
         value_agrees t n p at h.0 (λ x. at_zero x (value b (here_at p) go) (value a (here_at p) go)) stack ws cs h.2
         (λ x. skips n (value b (here_at p) go) (value a (here_at p) go) p h.0 (h.1 + 1) x stack ws h.3
-          (value_agrees b n p (h.1 + 1) to go stack ws cs h.6 c)
-          (value_agrees a n p (h.0 + 1) h.1 go stack ws cs h.4 (λ y. goes_on n (go y) p h.1 to (y ∷ stack) ws h.5 (c y))))
+        (value_agrees b n p (h.1 + 1) to go stack ws cs h.6 c)
+        (value_agrees a n p (h.0 + 1) h.1 go stack ws cs h.4 (λ y. goes_on n (go y) p h.1 to (y ∷ stack) ws h.5 (c y))))
     value_agrees (Sequence a b) n p at to go stack ws cs h c =
         value_agrees a n p at h.0 (λ x. value b (here_at p) go) stack ws cs h.2
         (λ x. drops n (value b (here_at p) go) p h.0 h.1 x stack ws h.3 (value_agrees b n p h.1 to go stack ws cs h.4 c))
@@ -329,21 +329,21 @@ module _ (r : Reading) (s : Source) (code : Flat) where
         let done : (a : ℕ) → (old : ℕ) → Marks = λ a old. value v (here_at p) (λ y. or_fault p.side (arith_of op k (converted k old) y) (λ x. kept a (converted (kind_of t) x))) in
         object_agrees o n p at h.0 (λ a. load (here_at p) (origin o) t (done a) a) stack ws cs h.7
         (λ a. keeps n o (done a) p h.0 h.1 a stack ws h.6 h.8 (λ w.
-          let old = converted (kind_of t) w in
-          changes n (done a old) p (change.Convert k) h.1 h.2 old (a ∷ stack) ws h.9
-          (value_agrees v n p h.2 h.3 (λ y. or_fault p.side (arith_of op k (converted k old) y) (λ x. kept a (converted (kind_of t) x))) (converted k old ∷ (a ∷ stack)) ws cs h.10
-            (λ y. combines n (λ x. kept a (converted (kind_of t) x)) p (combine.Arith op k) h.3 h.4 (converted k old) y (a ∷ stack) ws h.11
-              (λ x. changes n (kept a (converted (kind_of t) x)) p (change.Convert (kind_of t)) h.4 h.5 x (a ∷ stack) ws h.12
-                (store_agrees n (origin o) (kind_of t) (go (converted (kind_of t) x)) p h.5 to a (converted (kind_of t) x) stack ws h.13 (c (converted (kind_of t) x))))))))
+        let old = converted (kind_of t) w in
+        changes n (done a old) p (change.Convert k) h.1 h.2 old (a ∷ stack) ws h.9
+        (value_agrees v n p h.2 h.3 (λ y. or_fault p.side (arith_of op k (converted k old) y) (λ x. kept a (converted (kind_of t) x))) (converted k old ∷ (a ∷ stack)) ws cs h.10
+        (λ y. combines n (λ x. kept a (converted (kind_of t) x)) p (combine.Arith op k) h.3 h.4 (converted k old) y (a ∷ stack) ws h.11
+        (λ x. changes n (kept a (converted (kind_of t) x)) p (change.Convert (kind_of t)) h.4 h.5 x (a ∷ stack) ws h.12
+        (store_agrees n (origin o) (kind_of t) (go (converted (kind_of t) x)) p h.5 to a (converted (kind_of t) x) stack ws h.13 (c (converted (kind_of t) x))))))))
     value_agrees (Moved o w i size) n p at to go stack ws cs h c =
         let t = object_type o in
         let kept : (a : ℕ) → (ℕ → Marks) = λ a new. store (here_at p) (origin o) t a new (go new) in
         let done : (a : ℕ) → (old : ℕ) → Marks = λ a old. value i (here_at p) (λ y. kept a (moved_by w old y size)) in
         object_agrees o n p at h.0 (λ a. load (here_at p) (origin o) t (done a) a) stack ws cs h.5
         (λ a. keeps n o (done a) p h.0 h.1 a stack ws h.4 h.6 (λ z.
-          let old = converted (kind_of t) z in
-          value_agrees i n p h.1 h.2 (λ y. kept a (moved_by w old y size)) (old ∷ (a ∷ stack)) ws cs h.7
-          (λ y. move_agrees n (kept a) p w size h.2 h.3 old y (a ∷ stack) ws h.8 (λ new. store_agrees n (origin o) (kind_of t) (go new) p h.3 to a new stack ws h.9 (c new)))))
+        let old = converted (kind_of t) z in
+        value_agrees i n p h.1 h.2 (λ y. kept a (moved_by w old y size)) (old ∷ (a ∷ stack)) ws cs h.7
+        (λ y. move_agrees n (kept a) p w size h.2 h.3 old y (a ∷ stack) ws h.8 (λ new. store_agrees n (origin o) (kind_of t) (go new) p h.3 to a new stack ws h.9 (c new)))))
     value_agrees (Stepped o w g size) n p at to go stack ws cs h c =
         let t = object_type o in
         let new : ℕ → ℕ = λ old. converted (kind_of t) (stepped_by w old size) in

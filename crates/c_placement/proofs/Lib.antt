@@ -1,2 +1,4 @@
 mod Agree
 mod Expressions
+mod Statements
+mod Calling
