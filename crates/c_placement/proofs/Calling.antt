@@ -22,11 +22,10 @@ use Rattle.c_code.specs.Machine as machine
 use Rattle.c_code.specs.MarkLists.{Reading, Split, Above, Next, Wants, step, next_of, lists, has_entry, result_of, takes_values}
 use Rattle.c_code.specs.MarkLists as code_lists
 use Rattle.c_type_model.specs.Types.{CType}
-use Rattle.c_typing.specs.TypeTests.{same_type}
 use Rattle.c_typing.specs.TypedTree.{Body}
 use Rattle.c_typing.specs.Limits.{frame_size}
 use Rattle.c_meaning.specs.Reading.{Marks, wrong, ended, ask, with_value, with_frame}
-use Rattle.c_meaning.specs.Context.{Source, body_of, frame_of, frame_of_body, frame_with, is_face, local_offsets, param_shapes, result_shape, type_of}
+use Rattle.c_meaning.specs.Context.{Source, body_of, frame_of, frame_of_body, frame_with, is_face, is_function_of, local_offsets, param_shapes, result_shape}
 use Rattle.c_meaning.specs.Values.{Here}
 use Rattle.c_meaning.specs.Statements.{Exits}
 use Rattle.c_meaning.specs.Calls.{Bodies, any_below, any_step, back_or_plain, begun, behaviour, below, bodies, call, call_by_address, call_by_name, called_back, callee, calling, entering, entering_below, here, locals_of, making, outside, outside_step, own_below, pooling, started, stepping, thread_above, thread_behaviour}
@@ -251,7 +250,7 @@ module _ (s : Source) (code : Flat) (low : IsLowered s code) where
 
   -- the function of a type at an address, by its number of types
   same_function : (t : CType) (sig f : ℕ) (at : Bool) (known : Bool) → leb builtin_count f ≡ known → IsSigOf s code t sig
-      → cond (at && (known && same_type (type_of s f) t)) (Some f) None ≡ cond (at && (known && machine.has_sig sig (func_of code f))) (Some f) None
+      → cond (at && (known && is_function_of s t f)) (Some f) None ≡ cond (at && (known && machine.has_sig sig (func_of code f))) (Some f) None
   same_function t sig f at true e is = ap (λ z. cond (at && z) (Some f) None) (sym (is f e))
   same_function t sig f at false e is = refl
 

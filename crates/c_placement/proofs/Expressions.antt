@@ -28,7 +28,7 @@ use Rattle.c_typing.specs.TypedTree.{Object, Values, Callee, Sum, PointerPlus, P
 use Rattle.c_typing.specs.TypedTree as typed
 use Rattle.c_meaning.specs.Reading.{Marks, ask, or_fault, with_any}
 use Rattle.c_meaning.specs.Context.{Source, global_address, kind_of, member_offset, order_of, size_of, text_address}
-use Rattle.c_meaning.specs.Values.{Here, address, back_by, called, changing, converted_to, given, in_order, is_read, load, local_address, moved_by, negative, on_by, origin, stepped_by, store, summed, target, truth, value, values, width, wrap}
+use Rattle.c_meaning.specs.Values.{Here, address, back_by, called, changing, converted_to, fetch, given, in_order, is_read, load, local_address, moved_by, negative, on_by, origin, stepped_by, store, summed, target, truth, value, values, width, wrap}
 use Rattle.c_placement.specs.Places.{Has, Jumps}
 use Rattle.c_placement.specs.Placement.{Against, CallAt, CalleeAt, ConvertAt, IsSigOf, LoadAt, MoveAt, ObjectAt, SumAt, ValueAt, ValuesAt, count, keeps_old, loads, offset_of, step_by, stores}
 use Rattle.c_placement.specs.Laws.{laid}
@@ -204,12 +204,11 @@ module _ (r : Reading) (s : Source) (code : Flat) where
   -- ---- objects that are read, changed and stored
 
   -- a Load that leaves the address
-  pub keeps : (n : ℕ) (o : Object) (go : ℕ → Marks) (p : Spot) (at to a : ℕ) (values : List ℕ) (ws : List Waiting) → is_read (object_type o) ≡ true → Has code.instrs at (loads o) to
+  pub keeps : (n : ℕ) (o : Object) (go : ℕ → Marks) (p : Spot) (at to a : ℕ) (values : List ℕ) (ws : List Waiting) → Has code.instrs at (loads o) to
       → ((v : ℕ) → Agree r l n (go (converted (kind_of (object_type o)) v)) (Going (stand p to) (converted (kind_of (object_type o)) v ∷ (a ∷ values)) ws))
-      → Agree r l n (load (here_at p) (origin o) (object_type o) go a) (Going (stand p at) (a ∷ values) ws)
-  keeps n o go p at to a values ws is h c =
-      subst (λ b. Agree r l n (cond b (ask p.side (Loads (origin o) a (width (object_type o))) (with_any (λ v. go (converted (kind_of (object_type o)) v)))) (go a)) (Going (stand p at) (a ∷ values) ws)) (sym is)
-      (loads_of n (λ v. go (converted (kind_of (object_type o)) v)) p (loads o) (origin o) (kind_of (object_type o)) at to a values (λ v. converted (kind_of (object_type o)) v ∷ (a ∷ values)) ws h refl c)
+      → Agree r l n (fetch (here_at p) (origin o) (object_type o) go a) (Going (stand p at) (a ∷ values) ws)
+  keeps n o go p at to a values ws h c =
+      loads_of n (λ v. go (converted (kind_of (object_type o)) v)) p (loads o) (origin o) (kind_of (object_type o)) at to a values (λ v. converted (kind_of (object_type o)) v ∷ (a ∷ values)) ws h refl c
 
   -- ---- arguments
 
@@ -327,28 +326,28 @@ module _ (r : Reading) (s : Source) (code : Flat) where
         let t = object_type o in
         let kept : (a : ℕ) → (ℕ → Marks) = λ a new. store (here_at p) (origin o) t a new (go new) in
         let done : (a : ℕ) → (old : ℕ) → Marks = λ a old. value v (here_at p) (λ y. or_fault p.side (arith_of op k (converted k old) y) (λ x. kept a (converted (kind_of t) x))) in
-        object_agrees o n p at h.0 (λ a. load (here_at p) (origin o) t (done a) a) stack ws cs h.7
-        (λ a. keeps n o (done a) p h.0 h.1 a stack ws h.6 h.8 (λ w.
+        object_agrees o n p at h.0 (λ a. fetch (here_at p) (origin o) t (done a) a) stack ws cs h.6
+        (λ a. keeps n o (done a) p h.0 h.1 a stack ws h.7 (λ w.
         let old = converted (kind_of t) w in
-        changes n (done a old) p (change.Convert k) h.1 h.2 old (a ∷ stack) ws h.9
-        (value_agrees v n p h.2 h.3 (λ y. or_fault p.side (arith_of op k (converted k old) y) (λ x. kept a (converted (kind_of t) x))) (converted k old ∷ (a ∷ stack)) ws cs h.10
-        (λ y. combines n (λ x. kept a (converted (kind_of t) x)) p (combine.Arith op k) h.3 h.4 (converted k old) y (a ∷ stack) ws h.11
-        (λ x. changes n (kept a (converted (kind_of t) x)) p (change.Convert (kind_of t)) h.4 h.5 x (a ∷ stack) ws h.12
-        (store_agrees n (origin o) (kind_of t) (go (converted (kind_of t) x)) p h.5 to a (converted (kind_of t) x) stack ws h.13 (c (converted (kind_of t) x))))))))
+        changes n (done a old) p (change.Convert k) h.1 h.2 old (a ∷ stack) ws h.8
+        (value_agrees v n p h.2 h.3 (λ y. or_fault p.side (arith_of op k (converted k old) y) (λ x. kept a (converted (kind_of t) x))) (converted k old ∷ (a ∷ stack)) ws cs h.9
+        (λ y. combines n (λ x. kept a (converted (kind_of t) x)) p (combine.Arith op k) h.3 h.4 (converted k old) y (a ∷ stack) ws h.10
+        (λ x. changes n (kept a (converted (kind_of t) x)) p (change.Convert (kind_of t)) h.4 h.5 x (a ∷ stack) ws h.11
+        (store_agrees n (origin o) (kind_of t) (go (converted (kind_of t) x)) p h.5 to a (converted (kind_of t) x) stack ws h.12 (c (converted (kind_of t) x))))))))
     value_agrees (Moved o w i size) n p at to go stack ws cs h c =
         let t = object_type o in
         let kept : (a : ℕ) → (ℕ → Marks) = λ a new. store (here_at p) (origin o) t a new (go new) in
         let done : (a : ℕ) → (old : ℕ) → Marks = λ a old. value i (here_at p) (λ y. kept a (moved_by w old y size)) in
-        object_agrees o n p at h.0 (λ a. load (here_at p) (origin o) t (done a) a) stack ws cs h.5
-        (λ a. keeps n o (done a) p h.0 h.1 a stack ws h.4 h.6 (λ z.
+        object_agrees o n p at h.0 (λ a. fetch (here_at p) (origin o) t (done a) a) stack ws cs h.4
+        (λ a. keeps n o (done a) p h.0 h.1 a stack ws h.5 (λ z.
         let old = converted (kind_of t) z in
-        value_agrees i n p h.1 h.2 (λ y. kept a (moved_by w old y size)) (old ∷ (a ∷ stack)) ws cs h.7
-        (λ y. move_agrees n (kept a) p w size h.2 h.3 old y (a ∷ stack) ws h.8 (λ new. store_agrees n (origin o) (kind_of t) (go new) p h.3 to a new stack ws h.9 (c new)))))
+        value_agrees i n p h.1 h.2 (λ y. kept a (moved_by w old y size)) (old ∷ (a ∷ stack)) ws cs h.6
+        (λ y. move_agrees n (kept a) p w size h.2 h.3 old y (a ∷ stack) ws h.7 (λ new. store_agrees n (origin o) (kind_of t) (go new) p h.3 to a new stack ws h.8 (c new)))))
     value_agrees (Stepped o w g size) n p at to go stack ws cs h c =
         let t = object_type o in
         let new : ℕ → ℕ = λ old. converted (kind_of t) (stepped_by w old size) in
-        object_agrees o n p at h.0 (λ a. load (here_at p) (origin o) t (λ old. store (here_at p) (origin o) t a (new old) (go (given g old (new old)))) a) stack ws cs h.3
-        (λ a. keeps n o (λ old. store (here_at p) (origin o) t a (new old) (go (given g old (new old)))) p h.0 h.1 a stack ws h.2 h.4 (λ z. step_agrees n (origin o) (kind_of t) w g size go p h.1 to a (converted (kind_of t) z) stack ws h.5 c))
+        object_agrees o n p at h.0 (λ a. fetch (here_at p) (origin o) t (λ old. store (here_at p) (origin o) t a (new old) (go (given g old (new old)))) a) stack ws cs h.2
+        (λ a. keeps n o (λ old. store (here_at p) (origin o) t a (new old) (go (given g old (new old)))) p h.0 h.1 a stack ws h.3 (λ z. step_agrees n (origin o) (kind_of t) w g size go p h.1 to a (converted (kind_of t) z) stack ws h.4 c))
     value_agrees (CallOf f vs t) n p at to go stack ws cs h c =
         callee_agrees f n p at h.0 (λ make. values vs (here_at p) (λ xs. make xs go)) stack ws (count vs) h.1 to cs h.2 h.4
         (λ a make k. values_agree vs n p h.0 h.1 (λ xs. make xs go) (below_args f a stack) ws cs h.3 (λ xs e. k xs go stack ws e c))

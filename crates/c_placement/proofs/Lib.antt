@@ -2,3 +2,4 @@ mod Agree
 mod Expressions
 mod Statements
 mod Calling
+mod Lying

@@ -1,3 +1,4 @@
 pub mod Places
 pub mod Placement
 pub mod Laws
+pub mod Code

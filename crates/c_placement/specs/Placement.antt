@@ -12,11 +12,10 @@ use Rattle.c_code.specs.Machine.{Flat, func_of, has_sig}
 use Rattle.c_code.specs.Values.{written}
 use Rattle.c_type_model.specs.Types.{CType, CTypes}
 use Rattle.c_builtins.specs.Table.{number_of}
-use Rattle.c_typing.specs.TypeTests.{same_type}
 use Rattle.c_typing.specs.TypedTree.{Object, Value, Values, Callee, Sum, PointerPlus, PlusPointer, PointerMinus, Way, Up, Down, Given, New, Old, GlobalObject, LocalObject, TextObject, Pointed, Element, MemberOf, Constant, FunctionAddress, ReadOf, AddressOf, Convert, Negate, Complement, Arithmetic, PointerSum, PointerDifference, PointerComparison, Not, Both, Either, Choice, Sequence, Assigned, Changed, Moved, Stepped, CallOf, NoValues, MoreValues, SourceFunction, BuiltinFunction, Through, MaybeValue, NoValue, OneValue, Statement, Statements, Block, Evaluate, Initialise, If, IfElse, While, Do, For, Break, Continue, Return, NoStatements, MoreStatements, object_type, value_type}
 use Rattle.c_typing.specs.TypedTree as typed
 use Rattle.c_typing.specs.Limits.{frame_size}
-use Rattle.c_meaning.specs.Context.{Source, body_of, kind_of, local_offsets, member_offset, order_of, param_shapes, result_shape, size_of, type_of}
+use Rattle.c_meaning.specs.Context.{Source, is_function_of, kind_of, local_offsets, member_offset, order_of, param_shapes, result_shape, size_of}
 use Rattle.c_meaning.specs.Values.{is_read, origin, target, wrap}
 use Rattle.c_placement.specs.Places.{Has, Jumps, GoesBack}
 
@@ -38,7 +37,7 @@ offset_of x place = offset_or (slice_get x.offsets place)
 
 -- the number is that of functions of this type, and of no others
 abbrev pub IsSigOf : Source → Flat → CType → ℕ → Type 0
-IsSigOf s code t sig = (f : ℕ) → leb builtin_count f ≡ true → has_sig sig (func_of code f) ≡ same_type (type_of s f) t
+IsSigOf s code t sig = (f : ℕ) → leb builtin_count f ≡ true → has_sig sig (func_of code f) ≡ is_function_of s t f
 
 -- a pointer and an integer, in their order, and their sum
 abbrev pub SumAt : Against → Sum → (pointer index : ℕ → ℕ → Type 0) → (size : ℕ) → ℕ → ℕ → Type 0
@@ -109,13 +108,12 @@ abbrev mutual
   ValueAt (Choice c a b) x at to = (m n : ℕ) × ValueAt c x at m × Jumps (instrs x) m instr.SkipIfZero (n + 1) × ValueAt a x (m + 1) n × Jumps (instrs x) n instr.GoOn to × ValueAt b x (n + 1) to
   ValueAt (Sequence a b) x at to = (m n : ℕ) × ValueAt a x at m × Has (instrs x) m instr.Drop n × ValueAt b x n to
   ValueAt (Assigned o v) x at to = (m n : ℕ) × ObjectAt o x at m × ValueAt v x m n × Has (instrs x) n (stores o) to
-  -- what is changed is a scalar object
   ValueAt (Changed o op k v) x at to =
-      (m n p q r u : ℕ) × (is_read (object_type o) ≡ true) × ObjectAt o x at m × Has (instrs x) m (loads o) n × Has (instrs x) n (instr.Change (change.Convert k)) p × ValueAt v x p q ×
+      (m n p q r u : ℕ) × ObjectAt o x at m × Has (instrs x) m (loads o) n × Has (instrs x) n (instr.Change (change.Convert k)) p × ValueAt v x p q ×
       Has (instrs x) q (instr.Combine (combine.Arith op k)) r × Has (instrs x) r (instr.Change (change.Convert (kind_of (object_type o)))) u × Has (instrs x) u (stores o) to
-  ValueAt (Moved o w i size) x at to = (m n p q : ℕ) × (is_read (object_type o) ≡ true) × ObjectAt o x at m × Has (instrs x) m (loads o) n × ValueAt i x n p × MoveAt x w size p q × Has (instrs x) q (stores o) to
+  ValueAt (Moved o w i size) x at to = (m n p q : ℕ) × ObjectAt o x at m × Has (instrs x) m (loads o) n × ValueAt i x n p × MoveAt x w size p q × Has (instrs x) q (stores o) to
   ValueAt (Stepped o w g size) x at to =
-      (m n : ℕ) × (is_read (object_type o) ≡ true) × ObjectAt o x at m × Has (instrs x) m (loads o) n × Has (instrs x) n (instr.StoreStep (kind_of (object_type o)) (step_by w size) (keeps_old g) (origin o)) to
+      (m n : ℕ) × ObjectAt o x at m × Has (instrs x) m (loads o) n × Has (instrs x) n (instr.StoreStep (kind_of (object_type o)) (step_by w size) (keeps_old g) (origin o)) to
   ValueAt (CallOf f vs t) x at to = (m n : ℕ) × CalleeAt f x at m × ValuesAt vs x m n × CallAt f x (count vs) n to
 
   -- one after another

@@ -3,4 +3,4 @@
 
 mod laws;
 
-pub use laws::lowered_code_makes_the_marks;
+pub use laws::{emitted_code_makes_the_marks, lowered_code_makes_the_marks};
