@@ -12,7 +12,7 @@ use Rattle.c_builtins.specs.Table.{number_of}
 use Rattle.c_typing.specs.TypedTree.{Object, Value, Values, Callee, Sum, PointerPlus, PlusPointer, PointerMinus, GlobalObject, LocalObject, TextObject, Pointed, Element, MemberOf, Constant, FunctionAddress, ReadOf, AddressOf, Convert, Negate, Complement, Arithmetic, PointerSum, PointerDifference, PointerComparison, Not, Both, Either, Choice, Sequence, Assigned, Changed, Moved, Stepped, CallOf, NoValues, MoreValues, SourceFunction, BuiltinFunction, Through, object_type, value_type}
 use Rattle.c_meaning.specs.Reading.{Marks, ask, or_fault, with_any}
 use Rattle.c_meaning.specs.Context.{global_address, text_address, size_of, member_offset, kind_of}
-use Rattle.c_meaning.specs.Values.{Here, address, called, changing, converted_to, given, in_order, is_read, load, local_address, moved_by, origin, stepped_by, store, summed, target, truth, value, values, width, wrap}
+use Rattle.c_meaning.specs.Values.{Here, address, called, changing, converted_to, given, fetch, in_order, is_read, load, local_address, moved_by, origin, stepped_by, store, summed, target, truth, value, values, width, wrap}
 use Rattle.c_meaning.proofs.Relations.{Bounds, Less, AtMost, Relation, Cuts, itself, lower, through, weaker_all, cut_any, cut_at_zero, cut_cond, cut_or_fault}
 
 -- what calls make
@@ -35,11 +35,13 @@ fewer R j k h m le c = record {
   pointed = λ i li. c.pointed i (through i j k li le);
 }
 
+pub fetch_cut : (R : Relation) → (k : Bounds) (h : Here) (m : Makes) (o : Option ℕ) (t : CType) (go on : ℕ → Marks) → Cuts R k go on → Cuts R k (fetch h o t go) (fetch (making_calls h m) o t on)
+fetch_cut R k h m o t go on c a =
+    R.asks k h.side (Loads o a (width t)) (with_any (λ v. go (converted (kind_of t) v))) (with_any (λ v. on (converted (kind_of t) v)))
+    (λ x j lt. cut_any R j (λ v. go (converted (kind_of t) v)) (λ v. on (converted (kind_of t) v)) (λ v. R.weaker j k (go (converted (kind_of t) v)) (on (converted (kind_of t) v)) (lower j k lt) (c (converted (kind_of t) v))) x)
+
 pub load_cut : (R : Relation) → (k : Bounds) (h : Here) (m : Makes) (o : Option ℕ) (t : CType) (go on : ℕ → Marks) → Cuts R k go on → Cuts R k (load h o t go) (load (making_calls h m) o t on)
-load_cut R k h m o t go on c a =
-    cut_cond R k (is_read t) (ask h.side (Loads o a (width t)) (with_any (λ v. go (converted (kind_of t) v)))) (ask h.side (Loads o a (width t)) (with_any (λ v. on (converted (kind_of t) v)))) (go a) (on a)
-    (R.asks k h.side (Loads o a (width t)) (with_any (λ v. go (converted (kind_of t) v))) (with_any (λ v. on (converted (kind_of t) v))) (λ x j lt. cut_any R j (λ v. go (converted (kind_of t) v)) (λ v. on (converted (kind_of t) v)) (λ v. R.weaker j k (go (converted (kind_of t) v)) (on (converted (kind_of t) v)) (lower j k lt) (c (converted (kind_of t) v))) x))
-    (c a)
+load_cut R k h m o t go on c a = cut_cond R k (is_read t) (fetch h o t go a) (fetch (making_calls h m) o t on a) (go a) (on a) (fetch_cut R k h m o t go on c a) (c a)
 
 pub store_cut : (R : Relation) → (k : Bounds) (h : Here) (m : Makes) (o : Option ℕ) (t : CType) (a v : ℕ) (go on : Marks) → R.rel k go on → R.rel k (store h o t a v go) (store (making_calls h m) o t a v on)
 store_cut R k h m o t a v go on c = R.asks k h.side (Stores o a (bytes_of_number (width t) v)) (λ x. go) (λ x. on) (λ x j lt. R.weaker j k go on (lower j k lt) c)
@@ -59,8 +61,8 @@ changing_cut R k h m o a b f g go on ca cf c =
     let t = object_type o in
     let then : (x old : ℕ) → R.rel k (f old (λ new. store h (origin o) t x new (go new))) (g old (λ new. store (making_calls h m) (origin o) t x new (on new))) =
     λ x old. cf old (λ new. store h (origin o) t x new (go new)) (λ new. store (making_calls h m) (origin o) t x new (on new)) (λ new. store_cut R k h m (origin o) t x new (go new) (on new) (c new)) in
-    ca (λ x. load h (origin o) t (λ old. f old (λ new. store h (origin o) t x new (go new))) x) (λ x. load (making_calls h m) (origin o) t (λ old. g old (λ new. store (making_calls h m) (origin o) t x new (on new))) x)
-    (λ x. load_cut R k h m (origin o) t (λ old. f old (λ new. store h (origin o) t x new (go new))) (λ old. g old (λ new. store (making_calls h m) (origin o) t x new (on new))) (then x) x)
+    ca (λ x. fetch h (origin o) t (λ old. f old (λ new. store h (origin o) t x new (go new))) x) (λ x. fetch (making_calls h m) (origin o) t (λ old. g old (λ new. store (making_calls h m) (origin o) t x new (on new))) x)
+    (λ x. fetch_cut R k h m (origin o) t (λ old. f old (λ new. store h (origin o) t x new (go new))) (λ old. g old (λ new. store (making_calls h m) (origin o) t x new (on new))) (then x) x)
 
 -- for a list of values
 abbrev pub ListCuts : (R : Relation) → Bounds → (List ℕ → Marks) → (List ℕ → Marks) → Type 0
@@ -125,8 +127,8 @@ mutual
   value_cut R (Stepped o w g size) k h m go on cs c =
       let t = object_type o in
       let new : ℕ → ℕ = λ old. converted (kind_of t) (stepped_by w old size) in
-      address_cut R o k h m (λ a. load h (origin o) t (λ old. store h (origin o) t a (new old) (go (given g old (new old)))) a) (λ a. load (making_calls h m) (origin o) t (λ old. store (making_calls h m) (origin o) t a (new old) (on (given g old (new old)))) a) cs
-      (λ a. load_cut R k h m (origin o) t (λ old. store h (origin o) t a (new old) (go (given g old (new old)))) (λ old. store (making_calls h m) (origin o) t a (new old) (on (given g old (new old)))) (λ old. store_cut R k h m (origin o) t a (new old) (go (given g old (new old))) (on (given g old (new old))) (c (given g old (new old)))) a)
+      address_cut R o k h m (λ a. fetch h (origin o) t (λ old. store h (origin o) t a (new old) (go (given g old (new old)))) a) (λ a. fetch (making_calls h m) (origin o) t (λ old. store (making_calls h m) (origin o) t a (new old) (on (given g old (new old)))) a) cs
+      (λ a. fetch_cut R k h m (origin o) t (λ old. store h (origin o) t a (new old) (go (given g old (new old)))) (λ old. store (making_calls h m) (origin o) t a (new old) (on (given g old (new old)))) (λ old. store_cut R k h m (origin o) t a (new old) (go (given g old (new old))) (on (given g old (new old))) (c (given g old (new old)))) a)
   value_cut R (CallOf f vs t) k h m go on cs c =
       called_cut R f k h m (λ call. values vs h (λ xs. call xs go)) (λ call. values vs (making_calls h m) (λ xs. call xs on)) cs
       (λ call then d. values_cut R vs k h m (λ xs. call xs go) (λ xs. then xs on) cs (λ xs. d xs go on c))

@@ -11,11 +11,10 @@ use Rattle.c_code.specs.declared.shape.Shape.TheVariants.{Pointer}
 use Rattle.c_code.specs.Frames.{are_values}
 use Rattle.c_code.specs.MarkLists.{Reading, Split, Above, Verdict, Ended, Open, Wrong}
 use Rattle.c_type_model.specs.Types.{CType}
-use Rattle.c_typing.specs.TypeTests.{same_type}
 use Rattle.c_typing.specs.TypedTree as typed
 use Rattle.c_typing.specs.Limits.{frame_size}
 use Rattle.c_meaning.specs.Reading.{Marks, wrong, ended, ask, fails, with_value, with_frame}
-use Rattle.c_meaning.specs.Context.{Source, body_of, frame_of, is_face, local_offsets, param_shapes, result_shape, type_of}
+use Rattle.c_meaning.specs.Context.{Source, body_of, frame_of, is_face, is_function_of, local_offsets, param_shapes, result_shape}
 use Rattle.c_meaning.specs.Values.{Here}
 use Rattle.c_meaning.specs.Statements.{statement}
 
@@ -100,7 +99,7 @@ call_by_name r s bodies side f args go = cond (is_pool side f) (pooling f args g
 abbrev pub callee : Source → CType → (address : ℕ) → Option ℕ
 callee s t address =
     let f = (address - function_address 0) / 16 in
-    cond (eqb address (function_address f) && (leb builtin_count f && same_type (type_of s f) t)) (Some f) None
+    cond (eqb address (function_address f) && (leb builtin_count f && is_function_of s t f)) (Some f) None
 
 abbrev pub to_callee : Reading → Source → Bodies → Side → Option ℕ → (args : List ℕ) → (ℕ → Marks) → Marks
 to_callee r s bodies side (Some f) args go = call r s bodies side true f args go
@@ -111,7 +110,7 @@ call_by_address r s bodies side t address args go = to_callee r s bodies side (c
 
 -- ---- functions
 
-abbrev locals_of : Option typed.Body → List CType
+abbrev pub locals_of : Option typed.Body → List CType
 locals_of (Some b) = b.locals
 locals_of None = []
 

@@ -15,6 +15,7 @@ use Rattle.c_builtins.specs.Table.{number_of, prototype_of}
 use Rattle.c_code.specs.declared.shape.Shape.{Shape}
 use Rattle.c_code.specs.declared.shape.Shape.TheVariants as shapes
 use Rattle.c_code.specs.Frames.{params_bytes}
+use Rattle.c_typing.specs.TypeTests.{same_type}
 use Rattle.c_typing.specs.Operators.{size_in}
 use Rattle.c_typing.specs.TypedTree as typed
 use Rattle.c_typing.specs.Environment.{Struct}
@@ -107,6 +108,14 @@ type_or None b = prototype_or b
 abbrev pub type_of : Source → ℕ → CType
 type_of s f = type_or (source_function s f) (builtin_of f)
 
+abbrev is_typed : Option Function → CType → Bool
+is_typed (Some f) t = same_type f.type t
+is_typed None t = false
+
+-- the number is that of a function of the source, which has this type
+abbrev pub is_function_of : Source → CType → ℕ → Bool
+is_function_of s t f = is_typed (source_function s f) t
+
 abbrev pub result_shape : Source → ℕ → Shape
 result_shape s f = shape_of (result_of (type_of s f))
 
@@ -125,10 +134,10 @@ body_of s f = body_or (source_function s f)
 abbrev pub local_offsets : Source → List CType → List ℕ
 local_offsets s ts = offsets_from 0 (extents_in s.program ts)
 
-abbrev frame_with : ℕ → List ℕ → List ℕ
+abbrev pub frame_with : ℕ → List ℕ → List ℕ
 frame_with size params = params ++ replicate (size - length params) 0
 
-abbrev frame_of_body : Source → ℕ → Option typed.Body → List ℕ → List ℕ
+abbrev pub frame_of_body : Source → ℕ → Option typed.Body → List ℕ → List ℕ
 frame_of_body s f (Some b) args = frame_with (frame_size s.program b.locals) (params_bytes 0 (param_shapes s f) args)
 frame_of_body s f None args = []
 

@@ -80,9 +80,13 @@ converted_to t n = cond (is_read t) (converted (kind_of t) n) n
 abbrev pub width : CType → ℕ
 width t = bytes_of (kind_of t)
 
+-- an object that is to be changed is loaded; it is a scalar
+abbrev pub fetch : Here → (origin : Option ℕ) → CType → (ℕ → Marks) → ℕ → Marks
+fetch h o t go a = ask h.side (Loads o a (width t)) (with_any (λ v. go (converted (kind_of t) v)))
+
 -- a scalar object is loaded; of a struct its address is all
 abbrev pub load : Here → (origin : Option ℕ) → CType → (ℕ → Marks) → ℕ → Marks
-load h o t go a = cond (is_read t) (ask h.side (Loads o a (width t)) (with_any (λ v. go (converted (kind_of t) v)))) (go a)
+load h o t go a = cond (is_read t) (fetch h o t go a) (go a)
 
 -- the low bytes of a value are stored
 abbrev pub store : Here → (origin : Option ℕ) → CType → (at value : ℕ) → Marks → Marks
@@ -114,7 +118,7 @@ target t = Void
 abbrev pub changing : Here → Object → ((ℕ → Marks) → Marks) → (ℕ → (ℕ → Marks) → Marks) → (ℕ → Marks) → Marks
 changing h o address change go =
     let t = object_type o in
-    address (λ a. load h (origin o) t (λ old. change old (λ new. store h (origin o) t a new (go new))) a)
+    address (λ a. fetch h (origin o) t (λ old. change old (λ new. store h (origin o) t a new (go new))) a)
 
 abbrev pub given : Given → ℕ → ℕ → ℕ
 given New old new = new
@@ -153,7 +157,7 @@ abbrev mutual
   value (Moved o w i size) h go = changing h o (address o h) (λ old next. value i h (λ y. next (moved_by w old y size))) go
   value (Stepped o w g size) h go =
       let t = object_type o in
-      address o h (λ a. load h (origin o) t (λ old. let new = converted (kind_of t) (stepped_by w old size) in store h (origin o) t a new (go (given g old new))) a)
+      address o h (λ a. fetch h (origin o) t (λ old. let new = converted (kind_of t) (stepped_by w old size) in store h (origin o) t a new (go (given g old new))) a)
   value (CallOf f vs t) h go = called f h (λ call. values vs h (λ xs. call xs go))
 
   pub values : Values → Here → (List ℕ → Marks) → Marks

@@ -1,0 +1,5 @@
+mod Agree
+mod Expressions
+mod Statements
+mod Calling
+mod Lying

@@ -1,0 +1,48 @@
+-- Code makes exactly the marks of its source.
+use Rattle.std.specs.Prelude.{◌≡◌, ℕ, List, Some, None}
+use Rattle.marks.specs.declared.side.Side.{Side}
+use Rattle.marks.specs.Marks.{Mark}
+use Rattle.c_code.specs.declared.code.FuncInfo.{FuncInfo}
+use Rattle.c_code.specs.Machine.{Flat, Laid, Done, entry, func_of}
+use Rattle.c_code.specs.MarkLists.{Split, Above, lists, mark_lists, result_of, thread_lists}
+use Rattle.c_type_model.specs.Types.{CType}
+use Rattle.c_typing.specs.TypedTree.{Body}
+use Rattle.c_typing.specs.Limits.{frame_size}
+use Rattle.c_meaning.specs.Context.{Source, body_of, param_shapes, result_shape}
+use Rattle.c_meaning.specs.Calls.{behaviour, thread_above, thread_behaviour}
+use Rattle.c_placement.specs.Placement.{HasCode, IsSigOf}
+use Rattle.c_placement.specs.Code.{Lies, body_code, making}
+
+abbrev pub laid : Source → Flat → Laid
+laid s code = record { code = code; placed = s.placed }
+
+-- the code of each function of the source lies in flat code, which knows the results of all functions
+pub record IsLowered (s : Source) (code : Flat) : Type 0 where
+  pub bodies : (f : ℕ) (b : Body) → body_of s f ≡ Some b → HasCode s code f b
+  pub others : (f : ℕ) → body_of s f ≡ None → entry (laid s code) f ≡ None
+  pub results : (f : ℕ) → result_of (laid s code) f ≡ result_shape s f
+
+-- what callers know of a function with a body, and where its code stands
+pub record IsFunction (s : Source) (code : Flat) (sig : CType → ℕ) (f : ℕ) (b : Body) : Type 0 where
+  pub info : FuncInfo
+  pub entry : ℕ
+  pub known : func_of code f ≡ Some info
+  pub begins : info.entry ≡ Some entry
+  pub params : info.params ≡ param_shapes s f
+  pub result : info.result ≡ result_shape s f
+  pub frame : info.frame ≡ frame_size s.program b.locals
+  pub lies : Lies code.instrs entry (body_code b (making s code sig b))
+
+-- flat code that holds the code of each function of the source
+pub record IsEmitted (s : Source) (code : Flat) (sig : CType → ℕ) : Type 0 where
+  pub bodies : (f : ℕ) (b : Body) → body_of s f ≡ Some b → IsFunction s code sig f b
+  pub others : (f : ℕ) → body_of s f ≡ None → entry (laid s code) f ≡ None
+  pub results : (f : ℕ) → result_of (laid s code) f ≡ result_shape s f
+  pub sigs : (t : CType) → IsSigOf s code t (sig t)
+
+-- the mark lists of the code are those of the source, for each function with a body on either side, each thread, and what
+-- a thread makes above the cut
+pub record MakesTheMarks (s : Source) (code : Flat) : Type 0 where
+  pub calls : (side : Side) (f : ℕ) (b : Body) (args : List ℕ) (ms : List Mark) → body_of s f ≡ Some b → behaviour Split s side f args ms ≡ mark_lists Split (laid s code) side f args ms
+  pub threads : (t : CType) (sig address : ℕ) (args : List ℕ) (ms : List Mark) → IsSigOf s code t sig → thread_behaviour s t address args ms ≡ thread_lists (laid s code) sig address args ms
+  pub above : (ms : List Mark) → thread_above s ms ≡ lists Above ms (laid s code) (Done 0)

@@ -1,0 +1,4 @@
+pub mod Places
+pub mod Placement
+pub mod Laws
+pub mod Code

@@ -1,0 +1,19 @@
+//! What holds of code that is placed as its source says.
+
+ghost use Rattle.std.specs.Prelude.{ℕ};
+ghost use Rattle.c_code.specs.Machine.{Flat};
+ghost use Rattle.c_type_model.specs.Types.{CType};
+ghost use Rattle.c_meaning.specs.Context.{Source};
+ghost use Rattle.c_placement.specs.Laws.{IsEmitted, IsLowered, MakesTheMarks};
+
+/// A law: where the code of each function of a source lies in flat code, the lists of marks that the code can make are
+/// exactly those of the source: of each call, each thread, and each thread above the cut.
+pub fn lowered_code_makes_the_marks()
+    ensures { (s : Source) (code : Flat) → IsLowered s code → MakesTheMarks s code }
+{}
+
+/// A law: code that is made construct by construct makes exactly the marks of its source, wherever each function's code
+/// stands.
+pub fn emitted_code_makes_the_marks()
+    ensures { (s : Source) (code : Flat) (sig : CType → ℕ) → IsEmitted s code sig → MakesTheMarks s code }
+{}
