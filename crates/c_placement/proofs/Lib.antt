@@ -3,3 +3,4 @@ mod Expressions
 mod Statements
 mod Calling
 mod Lying
+mod Keeping
