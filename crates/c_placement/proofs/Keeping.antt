@@ -32,7 +32,7 @@ module _ (x : Making) (height : ℕ → ℕ) where
   abbrev code : Flat
   code = x.against.code
 
-  split_stand : (hs ks : List ℕ) (at : ℕ) → Stand height at (hs ++ ks) → Stand height at hs × Stand height (at + length hs) ks
+  pub split_stand : (hs ks : List ℕ) (at : ℕ) → Stand height at (hs ++ ks) → Stand height at hs × Stand height (at + length hs) ks
   split_stand [] ks at h = let e : at ≡ at + 0 = omega arith in (tt, subst (λ z. Stand height z ks) e h)
   split_stand (k ∷ hs) ks at h =
       let r = split_stand hs ks (at + 1) h.1 in
@@ -40,7 +40,7 @@ module _ (x : Making) (height : ℕ → ℕ) where
       ((h.0, r.0), subst (λ z. Stand height z ks) e r.1)
 
   -- of as many heights as instructions
-  parted : (hs ks : List ℕ) (is : List Instr) (at : ℕ) → length hs ≡ length is → Stand height at (hs ++ ks) → Stand height at hs × Stand height (at + length is) ks
+  pub parted : (hs ks : List ℕ) (is : List Instr) (at : ℕ) → length hs ≡ length is → Stand height at (hs ++ ks) → Stand height at hs × Stand height (at + length is) ks
   parted hs ks is at e h = let r = split_stand hs ks at h in (r.0, subst (λ z. Stand height (at + z) ks) e r.1)
 
   pub joined : (is js : List Instr) (at : ℕ) → Kept code height at is → Kept code height (at + length is) js → Kept code height at (is ++ js)
@@ -103,7 +103,7 @@ module _ (x : Making) (height : ℕ → ℕ) where
 
   -- ---- as many heights as instructions
 
-  len_app : (hs ks : List ℕ) (is js : List Instr) → length hs ≡ length is → length ks ≡ length js → length (hs ++ ks) ≡ length (is ++ js)
+  pub len_app : (hs ks : List ℕ) (is js : List Instr) → length hs ≡ length is → length ks ≡ length js → length (hs ++ ks) ≡ length (is ++ js)
   len_app hs ks is js e f = let a = length-append hs ks in let b = length-append is js in omega (arith, e, f, a, b)
 
   len_cons : (h : ℕ) (ks : List ℕ) (i : Instr) (js : List Instr) → length ks ≡ length js → length (h ∷ ks) ≡ length (i ∷ js)

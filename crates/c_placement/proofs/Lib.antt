@@ -4,3 +4,5 @@ mod Statements
 mod Calling
 mod Lying
 mod Keeping
+mod Steady
+mod Whole

@@ -117,7 +117,6 @@ maybe_waits NoValue = 0
 maybe_waits (OneValue v) = value_waits v
 
 abbrev mutual
-  -- and at most so many values wait in a statement, before which none does
   pub StatementCalls : Statement → Making → Type 0
   StatementCalls (Block ss) x = StatementsCall ss x
   StatementCalls (Evaluate v) x = ValueCalls v x
@@ -136,6 +135,7 @@ abbrev mutual
   StatementsCall (MoreStatements s ss) x = StatementCalls s x × StatementsCall ss x
 
 abbrev mutual
+  -- how many values wait at most in a statement, before which none does
   pub statement_waits : Statement → ℕ
   statement_waits (Block ss) = statements_waits ss
   statement_waits (Evaluate v) = value_waits v
