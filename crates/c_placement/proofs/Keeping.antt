@@ -1,5 +1,5 @@
 -- The code of an expression keeps what valid code keeps: as many values wait before each instruction as it needs, and at most 64.
-use Rattle.std.proofs.Common.{◌≡◌, ℕ, zero, suc, ◌+◌, ◌-◌, ◌<◌, ◌≤◌, Bool, true, false, List, [], ◌∷◌, ◌++◌, length, length-append, max, Option, Some, None, refl, sym, ap, ◌∙◌, subst, arith, ⊎_elim}
+use Rattle.std.proofs.Common.{◌≡◌, ℕ, suc, ◌+◌, ◌-◌, ◌<◌, ◌≤◌, Bool, true, false, List, [], ◌∷◌, ◌++◌, length, length-append, max, Option, Some, None, refl, sym, ap, ◌∙◌, subst, arith, ⊎_elim}
 use Rattle.std.specs.Prelude.{slice_get}
 use Rattle.std.proofs.lemmas.Option.{slice_get_past}
 use Rattle.std.proofs.lemmas.Bool.{cases_lt}
@@ -321,7 +321,7 @@ module _ (x : Making) (height : ℕ → ℕ) where
       let e2 = length-append b (one i) in
       joined a (b ++ one i) at (ka at c.0 d.0 (bb m c2.0 d2.0) (omega arith))
       (joined b (one i) m (kb m c2.0 d2.0 (leads_at n n (h + 2) (h + 1 + 1) refl (omega arith) (leads_to n i (h + 2) c2.1.0 d2.1.0)) (omega arith))
-        (ki n d2.1.0 (omega arith) (leads_at (at + length (a ++ (b ++ one i))) (n + 1) (h + 1) (h + 1) (omega arith) refl to), tt))
+      (ki n d2.1.0 (omega arith) (leads_at (at + length (a ++ (b ++ one i))) (n + 1) (h + 1) (h + 1) (omega arith) refl to), tt))
 
   sum_kept : (s : Sum) (p i : List Instr) (hp hi : ℕ → List ℕ) (size h wp wi : ℕ) → ((k : ℕ) → length (hp k) ≡ length p) → ((k : ℕ) → length (hi k) ≡ length i) → 1 ≤ wp → 1 ≤ wi → ((k : ℕ) → Begins p (hp k) k) → ((k : ℕ) → Begins i (hi k) k)
       → ((k : ℕ) → Keeping p (hp k) k wp) → ((k : ℕ) → Keeping i (hi k) k wi) → Keeping (sum_code s p i size) (sum_heights s hp hi h) h (sum_waits s wp wi)
@@ -338,9 +338,10 @@ module _ (x : Making) (height : ℕ → ℕ) where
       let e = length-append p (i ++ last) in
       let e2 = length-append i last in
       joined p (i ++ last) at (kp h at c.0 d.0 (bi (h + 1) m c2.0 d2.0) (omega arith))
-      (joined i last m (ki (h + 1) m c2.0 d2.0 (leads_at n n (h + 2) (h + 1 + 1) refl (omega arith) (leads_to n (instr.Change (change.Negate I64)) (h + 2) c2.1.0 d2.1.0)) (omega arith))
-        (k_change (change.Negate I64) n (h + 1) (d2.1.0 ∙ (let g : h + 2 ≡ h + 1 + 1 = omega arith in g)) (omega arith) (leads_at (n + 1) (n + 1) (h + 2) (h + 1 + 1) refl (omega arith) (leads_to (n + 1) (instr.Combine (combine.Index size)) (h + 2) c2.1.1.0 d2.1.1.0)),
-          (k_combine (combine.Index size) (n + 1) h d2.1.1.0 (omega arith) (leads_at (at + length (p ++ (i ++ last))) (n + 1 + 1) (h + 1) (h + 1) (omega arith) refl to), tt)))
+      (joined i last m (ki (h + 1) m c2.0 d2.0 (leads_at n n (h + 2) (h + 1 + 1) refl (omega arith) (leads_to n (instr.Change (change.Negate I64)) (h + 2) c2.1.0 d2.1.0)) (omega arith)) (
+        k_change (change.Negate I64) n (h + 1) (d2.1.0 ∙ (let g : h + 2 ≡ h + 1 + 1 = omega arith in g)) (omega arith) (leads_at (n + 1) (n + 1) (h + 2) (h + 1 + 1) refl (omega arith) (leads_to (n + 1) (instr.Combine (combine.Index size)) (h + 2) c2.1.1.0 d2.1.1.0)),
+        (k_combine (combine.Index size) (n + 1) h d2.1.1.0 (omega arith) (leads_at (at + length (p ++ (i ++ last))) (n + 1 + 1) (h + 1) (h + 1) (omega arith) refl to), tt),
+      ))
 
   -- a jump over the second value, whose truth is taken
   logic_kept : (j : Instr) (a b : List Instr) (ha hb : List ℕ) (h wa wb : ℕ) → length ha ≡ length a → length hb ≡ length b → 1 ≤ wa → 1 ≤ wb → Begins b hb h → Keeping a ha h wa → Keeping b hb h wb
@@ -358,9 +359,10 @@ module _ (x : Making) (height : ℕ → ℕ) where
       let e = length-append a rest in
       let e2 = length-append b last in
       let end = at + length (a ++ rest) in
-      joined a rest at (ka at c.0 d.0 (leads_to m j (h + 1) c.1.0 d.1.0) (omega arith))
-      (kj m end d.1.0 (omega arith) (omega arith) (bb (m + 1) c2.0 d2.0) to,
-        joined b last (m + 1) (kb (m + 1) c2.0 d2.0 (leads_to n (instr.Change change.Truth) (h + 1) c2.1.0 d2.1.0) (omega arith)) (k_change change.Truth n h d2.1.0 (omega arith) (leads_at end (n + 1) (h + 1) (h + 1) (omega arith) refl to), tt))
+      joined a rest at (ka at c.0 d.0 (leads_to m j (h + 1) c.1.0 d.1.0) (omega arith)) (
+        kj m end d.1.0 (omega arith) (omega arith) (bb (m + 1) c2.0 d2.0) to,
+        joined b last (m + 1) (kb (m + 1) c2.0 d2.0 (leads_to n (instr.Change change.Truth) (h + 1) c2.1.0 d2.1.0) (omega arith)) (k_change change.Truth n h d2.1.0 (omega arith) (leads_at end (n + 1) (h + 1) (h + 1) (omega arith) refl to), tt),
+      )
 
   load_kept : (b : Bool) (o : Object) (a : List Instr) (ha : List ℕ) (h w : ℕ) → length ha ≡ length a → 1 ≤ w → Keeping a ha h w → Keeping (a ++ load_code b o) (ha ++ if_true b (h + 1)) h w
   load_kept true o a ha h w len some k at l s to le = single_kept (instr.Load (kind_of (object_type o)) (origin o)) a ha h w len some k (λ n e f to. k_load (kind_of (object_type o)) (origin o) n h e f to) at l s to le
@@ -380,9 +382,10 @@ module _ (x : Making) (height : ℕ → ℕ) where
 
   move_kept : (w : Way) (size at h : ℕ) → Lies code.instrs at (move_code w size) → Stand height at (move_heights w (h + 3)) → h + 3 ≤ 64 → Leads code height (at + length (move_code w size)) (h + 2) → Kept code height at (move_code w size)
   move_kept Up size at h l s le to = (k_combine (combine.Index size) at (h + 1) (s.0 ∙ (let g : h + 3 ≡ h + 1 + 2 = omega arith in g)) (omega arith) (leads_at (at + 1) (at + 1) (h + 2) (h + 1 + 1) refl (omega arith) to), tt)
-  move_kept Down size at h l s le to =
-      (k_change (change.Negate I64) at (h + 2) (s.0 ∙ (let g : h + 3 ≡ h + 2 + 1 = omega arith in g)) (omega arith) (leads_at (at + 1) (at + 1) (h + 3) (h + 2 + 1) refl (omega arith) (leads_to (at + 1) (instr.Combine (combine.Index size)) (h + 3) l.1.0 s.1.0)),
-        (k_combine (combine.Index size) (at + 1) (h + 1) (s.1.0 ∙ (let g : h + 3 ≡ h + 1 + 2 = omega arith in g)) (omega arith) (leads_at (at + length (move_code Down size)) (at + 1 + 1) (h + 2) (h + 1 + 1) (omega arith) (omega arith) to), tt))
+  move_kept Down size at h l s le to = (
+    k_change (change.Negate I64) at (h + 2) (s.0 ∙ (let g : h + 3 ≡ h + 2 + 1 = omega arith in g)) (omega arith) (leads_at (at + 1) (at + 1) (h + 3) (h + 2 + 1) refl (omega arith) (leads_to (at + 1) (instr.Combine (combine.Index size)) (h + 3) l.1.0 s.1.0)),
+    (k_combine (combine.Index size) (at + 1) (h + 1) (s.1.0 ∙ (let g : h + 3 ≡ h + 1 + 2 = omega arith in g)) (omega arith) (leads_at (at + length (move_code Down size)) (at + 1 + 1) (h + 2) (h + 1 + 1) (omega arith) (omega arith) to), tt),
+  )
 
   call_kept : (f : Callee) (n h at : ℕ) → CalleeCalls f x n → height at ≡ under_args f h + n → under_args f h + n ≤ 64 → Leads code height (at + 1) (h + 1) → Kept code height at (call_code f x n)
   call_kept (SourceFunction number) n h at t e le to = (k_call number n at h e le t to, tt)
@@ -470,11 +473,13 @@ module _ (x : Making) (height : ℕ → ℕ) where
         let end = at + length (value_code t x ++ rest) in
         let ones = value_some a in
         let begins_b = value_begins b h (n + 1) c2.1.1 d2.1.1 in
-        joined (value_code t x) rest at (value_kept t h u.0 at c.0 d.0 (leads_to m (instr.SkipIfZero (length (value_code a x) + 1)) (h + 1) c.1.0 d.1.0) (omega arith))
-        (k_skip (length (value_code a x) + 1) m h (n + 1) d.1.0 (omega (arith, ones, le)) (omega arith) (value_begins a h (m + 1) c2.0 d2.0) begins_b,
-          joined (value_code a x) second (m + 1) (value_kept a h u.1 (m + 1) c2.0 d2.0 (leads_to n (instr.GoOn (length (value_code b x))) (h + 1) c2.1.0 d2.1.0) (omega arith))
-          (k_on (length (value_code b x)) n (h + 1) end d2.1.0 (omega (arith, ones, le)) (omega arith) to,
-            value_kept b h u.2 (n + 1) c2.1.1 d2.1.1 (leads_at end (n + 1 + length (value_code b x)) (h + 1) (h + 1) (omega arith) refl to) (omega arith)))
+        joined (value_code t x) rest at (value_kept t h u.0 at c.0 d.0 (leads_to m (instr.SkipIfZero (length (value_code a x) + 1)) (h + 1) c.1.0 d.1.0) (omega arith)) (
+          k_skip (length (value_code a x) + 1) m h (n + 1) d.1.0 (omega (arith, ones, le)) (omega arith) (value_begins a h (m + 1) c2.0 d2.0) begins_b,
+          joined (value_code a x) second (m + 1) (value_kept a h u.1 (m + 1) c2.0 d2.0 (leads_to n (instr.GoOn (length (value_code b x))) (h + 1) c2.1.0 d2.1.0) (omega arith)) (
+            k_on (length (value_code b x)) n (h + 1) end d2.1.0 (omega (arith, ones, le)) (omega arith) to,
+            value_kept b h u.2 (n + 1) c2.1.1 d2.1.1 (leads_at end (n + 1 + length (value_code b x)) (h + 1) (h + 1) (omega arith) refl to) (omega arith),
+          ),
+        )
     value_kept (Sequence a b) h u at l s to le =
         let rest = instr.Drop ∷ value_code b x in
         let c = split x (value_code a x) rest at l in
@@ -501,13 +506,19 @@ module _ (x : Making) (height : ℕ → ℕ) where
         let two : h + 2 ≡ h + 1 + 1 = omega arith in
         let three : h + 3 ≡ h + 1 + 2 = omega arith in
         let more : h + 3 ≡ h + 2 + 1 = omega arith in
-        joined (object_code o x) rest at (object_kept o h u.0 at c.0 d.0 (leads_to m (loads o) (h + 1) c.1.0 d.1.0) (omega arith))
-        (k_keep (kind_of (object_type o)) (origin o) m h d.1.0 (omega (arith, ones, le)) (leads_to (m + 1) (instr.Change (change.Convert k)) (h + 2) c.1.1.0 d.1.1.0),
-          (k_change (change.Convert k) (m + 1) (h + 1) (d.1.1.0 ∙ two) (omega (arith, ones, le)) (leads_at (m + 1 + 1) (m + 1 + 1) (h + 2) (h + 1 + 1) refl two (value_begins v (h + 2) (m + 1 + 1) c2.0 d2.0)),
-          joined (value_code v x) end (m + 1 + 1) (value_kept v (h + 2) u.1 (m + 1 + 1) c2.0 d2.0 (leads_at n n (h + 3) (h + 2 + 1) refl more (leads_to n (instr.Combine (combine.Arith op k)) (h + 3) c2.1.0 d2.1.0)) (omega arith))
-          (k_combine (combine.Arith op k) n (h + 1) (d2.1.0 ∙ three) (omega (arith, ones, le)) (leads_at (n + 1) (n + 1) (h + 2) (h + 1 + 1) refl two (leads_to (n + 1) (instr.Change (change.Convert (kind_of (object_type o)))) (h + 2) c2.1.1.0 d2.1.1.0)),
-            (k_change (change.Convert (kind_of (object_type o))) (n + 1) (h + 1) (d2.1.1.0 ∙ two) (omega (arith, ones, le)) (leads_at (n + 1 + 1) (n + 1 + 1) (h + 2) (h + 1 + 1) refl two (leads_to (n + 1 + 1) (stores o) (h + 2) c2.1.1.1.0 d2.1.1.1.0)),
-            (k_store (kind_of (object_type o)) (origin o) (n + 1 + 1) h d2.1.1.1.0 (omega (arith, ones, le)) (leads_at (at + length (object_code o x ++ rest)) (n + 1 + 1 + 1) (h + 1) (h + 1) (omega arith) refl to), tt)))))
+        joined (object_code o x) rest at (object_kept o h u.0 at c.0 d.0 (leads_to m (loads o) (h + 1) c.1.0 d.1.0) (omega arith)) (
+          k_keep (kind_of (object_type o)) (origin o) m h d.1.0 (omega (arith, ones, le)) (leads_to (m + 1) (instr.Change (change.Convert k)) (h + 2) c.1.1.0 d.1.1.0),
+          (
+            k_change (change.Convert k) (m + 1) (h + 1) (d.1.1.0 ∙ two) (omega (arith, ones, le)) (leads_at (m + 1 + 1) (m + 1 + 1) (h + 2) (h + 1 + 1) refl two (value_begins v (h + 2) (m + 1 + 1) c2.0 d2.0)),
+            joined (value_code v x) end (m + 1 + 1) (value_kept v (h + 2) u.1 (m + 1 + 1) c2.0 d2.0 (leads_at n n (h + 3) (h + 2 + 1) refl more (leads_to n (instr.Combine (combine.Arith op k)) (h + 3) c2.1.0 d2.1.0)) (omega arith)) (
+              k_combine (combine.Arith op k) n (h + 1) (d2.1.0 ∙ three) (omega (arith, ones, le)) (leads_at (n + 1) (n + 1) (h + 2) (h + 1 + 1) refl two (leads_to (n + 1) (instr.Change (change.Convert (kind_of (object_type o)))) (h + 2) c2.1.1.0 d2.1.1.0)),
+              (
+                k_change (change.Convert (kind_of (object_type o))) (n + 1) (h + 1) (d2.1.1.0 ∙ two) (omega (arith, ones, le)) (leads_at (n + 1 + 1) (n + 1 + 1) (h + 2) (h + 1 + 1) refl two (leads_to (n + 1 + 1) (stores o) (h + 2) c2.1.1.1.0 d2.1.1.1.0)),
+                (k_store (kind_of (object_type o)) (origin o) (n + 1 + 1) h d2.1.1.1.0 (omega (arith, ones, le)) (leads_at (at + length (object_code o x ++ rest)) (n + 1 + 1 + 1) (h + 1) (h + 1) (omega arith) refl to), tt),
+              ),
+            ),
+          ),
+        )
     value_kept (Moved o w i size) h u at l s to le =
         let last = one (stores o) in
         let end = move_code w size ++ last in
@@ -526,11 +537,12 @@ module _ (x : Making) (height : ℕ → ℕ) where
         let e3 = length-append (move_code w size) last in
         let ones = value_some i in
         let more : h + 3 ≡ h + 2 + 1 = omega arith in
-        joined (object_code o x) rest at (object_kept o h u.0 at c.0 d.0 (leads_to m (loads o) (h + 1) c.1.0 d.1.0) (omega arith))
-        (k_keep (kind_of (object_type o)) (origin o) m h d.1.0 (omega (arith, ones, le)) (value_begins i (h + 2) (m + 1) c2.0 d2.0),
+        joined (object_code o x) rest at (object_kept o h u.0 at c.0 d.0 (leads_to m (loads o) (h + 1) c.1.0 d.1.0) (omega arith)) (
+          k_keep (kind_of (object_type o)) (origin o) m h d.1.0 (omega (arith, ones, le)) (value_begins i (h + 2) (m + 1) c2.0 d2.0),
           joined (value_code i x) end (m + 1) (value_kept i (h + 2) u.1 (m + 1) c2.0 d2.0 (leads_at p p (h + 3) (h + 2 + 1) refl more (move_begins w size p (h + 3) c3.0 d3.0)) (omega arith))
-          (joined (move_code w size) last p (move_kept w size p h c3.0 d3.0 (omega (arith, ones, le)) (leads_to q (stores o) (h + 2) c3.1.0 d3.1.0))
-            (k_store (kind_of (object_type o)) (origin o) q h d3.1.0 (omega (arith, ones, le)) (leads_at (at + length (object_code o x ++ rest)) (q + 1) (h + 1) (h + 1) (omega arith) refl to), tt)))
+              (joined (move_code w size) last p (move_kept w size p h c3.0 d3.0 (omega (arith, ones, le)) (leads_to q (stores o) (h + 2) c3.1.0 d3.1.0))
+              (k_store (kind_of (object_type o)) (origin o) q h d3.1.0 (omega (arith, ones, le)) (leads_at (at + length (object_code o x ++ rest)) (q + 1) (h + 1) (h + 1) (omega arith) refl to), tt)),
+        )
     value_kept (Stepped o w g size) h u at l s to le =
         let step = instr.StoreStep (kind_of (object_type o)) (step_by w size) (keeps_old g) (origin o) in
         let rest = loads o ∷ one step in
@@ -538,9 +550,10 @@ module _ (x : Making) (height : ℕ → ℕ) where
         let d = parted (object_heights o h) ((h + 1) ∷ ((h + 2) ∷ [])) (object_code o x) at (object_len o h) s in
         let m = at + length (object_code o x) in
         let e = length-append (object_code o x) rest in
-        joined (object_code o x) rest at (object_kept o h u at c.0 d.0 (leads_to m (loads o) (h + 1) c.1.0 d.1.0) (omega arith))
-        (k_keep (kind_of (object_type o)) (origin o) m h d.1.0 (omega arith) (leads_to (m + 1) step (h + 2) c.1.1.0 d.1.1.0),
-          (k_step (kind_of (object_type o)) (step_by w size) (keeps_old g) (origin o) (m + 1) h d.1.1.0 (omega arith) (leads_at (at + length (object_code o x ++ rest)) (m + 1 + 1) (h + 1) (h + 1) (omega arith) refl to), tt))
+        joined (object_code o x) rest at (object_kept o h u at c.0 d.0 (leads_to m (loads o) (h + 1) c.1.0 d.1.0) (omega arith)) (
+          k_keep (kind_of (object_type o)) (origin o) m h d.1.0 (omega arith) (leads_to (m + 1) step (h + 2) c.1.1.0 d.1.1.0),
+          (k_step (kind_of (object_type o)) (step_by w size) (keeps_old g) (origin o) (m + 1) h d.1.1.0 (omega arith) (leads_at (at + length (object_code o x ++ rest)) (m + 1 + 1) (h + 1) (h + 1) (omega arith) refl to), tt),
+        )
     value_kept (CallOf f vs t) h u at l s to le =
         let last = call_code f x (count vs) in
         let rest = values_code vs x ++ last in
@@ -558,7 +571,7 @@ module _ (x : Making) (height : ℕ → ℕ) where
         let room = call_room f vs h le in
         joined (callee_code f x) rest at (callee_kept f (count vs) h u.0 at c.0 d.0 (values_begin vs last f k (λ m n e. call_begins f (count vs) m n e) m c.1 d.1) (callee_room f (values_waits vs) h le))
         (joined (values_code vs x) last m (values_kept vs k u.1 m c2.0 d2.0 there room)
-          (call_kept f (count vs) h n u.0 d2.1.0 (args_room f vs h le) (leads_at (at + length (callee_code f x ++ rest)) (n + 1) (h + 1) (h + 1) (omega (arith, e, e2, e3)) refl to)))
+        (call_kept f (count vs) h n u.0 d2.1.0 (args_room f vs h le) (leads_at (at + length (callee_code f x ++ rest)) (n + 1) (h + 1) (h + 1) (omega (arith, e, e2, e3)) refl to)))
 
     pub values_kept : (vs : Values) (h : ℕ) → ValuesCall vs x → (at : ℕ) → Lies code.instrs at (values_code vs x) → Stand height at (values_heights vs h) → Leads code height (at + length (values_code vs x)) (h + count vs) → h + values_waits vs ≤ 64 → Kept code height at (values_code vs x)
     values_kept NoValues h u at l s to le = tt

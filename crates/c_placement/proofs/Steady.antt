@@ -1,5 +1,5 @@
 -- The code of a statement keeps what valid code keeps.
-use Rattle.std.proofs.Common.{◌≡◌, ℕ, zero, suc, ◌+◌, ◌-◌, ◌<◌, ◌≤◌, List, [], ◌∷◌, ◌++◌, length, length-append, max, Option, Some, None, refl, sym, ap, ◌∙◌, subst, arith}
+use Rattle.std.proofs.Common.{◌≡◌, ℕ, suc, ◌+◌, ◌-◌, ◌≤◌, [], ◌∷◌, ◌++◌, length, length-append, Some, None, refl, sym, ap, ◌∙◌, arith}
 use Rattle.std.specs.Prelude.{slice_get}
 use Rattle.c_code.specs.declared.instr.Push.TheVariants.{Number, Local}
 use Rattle.c_code.specs.declared.instr.Instr.{Instr}
@@ -12,7 +12,7 @@ use Rattle.c_placement.specs.Placement.{offset_of}
 use Rattle.c_placement.specs.Code.{Lies, Making, body_code, last_code, one, return_code, statement_code, statements_code, test_code, value_code}
 use Rattle.c_placement.specs.Heights.{Kept, MaybeCalls, Stand, StatementCalls, StatementsCall, ValueCalls, body_heights, maybe_waits, return_heights, statement_heights, statement_waits, statements_heights, statements_waits, test_heights, value_heights, value_waits}
 use Rattle.c_placement.proofs.Lying.{split}
-use Rattle.c_placement.proofs.Keeping.{joined, k_drop, k_on, k_push, k_skip, k_store, leads_at, leads_to, len_app, parted, split_stand, value_begins, value_kept, value_len, value_some}
+use Rattle.c_placement.proofs.Keeping.{joined, k_drop, k_on, k_push, k_skip, k_store, leads_at, leads_to, len_app, parted, split_stand, value_begins, value_kept, value_len}
 
 module _ (x : Making) (height : ℕ → ℕ) where
   abbrev code : Flat
@@ -107,12 +107,12 @@ module _ (x : Making) (height : ℕ → ℕ) where
         let body = statement_code z x 1 0 in
         let back = one (instr.GoBack (length (value_code v x) + 1 + length body)) in
         ap suc (len_app x height (value_heights v 0) (1 ∷ (statement_heights z ++ (0 ∷ []))) (value_code v x) (instr.SkipIfZero (length body + 1) ∷ (body ++ back)) (value_len x height v 0)
-          (ap suc (len_app x height (statement_heights z) (0 ∷ []) body back (statement_len z 1 0) refl)))
+        (ap suc (len_app x height (statement_heights z) (0 ∷ []) body back (statement_len z 1 0) refl)))
     statement_len (Do z v) stop again =
         let body = statement_code z x (length (value_code v x) + 2) 0 in
         let end = instr.SkipIfZero 1 ∷ one (instr.GoBack (length body + length (value_code v x) + 1)) in
         ap suc (len_app x height (statement_heights z) (value_heights v 0 ++ (1 ∷ (0 ∷ []))) body (value_code v x ++ end) (statement_len z (length (value_code v x) + 2) 0)
-          (len_app x height (value_heights v 0) (1 ∷ (0 ∷ [])) (value_code v x) end (value_len x height v 0) refl))
+        (len_app x height (value_heights v 0) (1 ∷ (0 ∷ [])) (value_code v x) end (value_len x height v 0) refl))
     statement_len (For first v last z) stop again =
         let final = last_code last x in
         let body = statement_code z x (length final + 1) 0 in
@@ -122,7 +122,7 @@ module _ (x : Making) (height : ℕ → ℕ) where
         let loop = instr.Turn ∷ (test ++ (body ++ (final ++ back))) in
         len_app x height (statements_heights first) (0 ∷ (test_heights v ++ (statement_heights z ++ (test_heights last ++ (0 ∷ []))))) (statements_code first x (length loop + stop) (length loop + again)) loop (statements_len first (length loop + stop) (length loop + again))
         (ap suc (len_app x height (test_heights v) (statement_heights z ++ (test_heights last ++ (0 ∷ []))) test (body ++ (final ++ back)) (test_len v over)
-          (len_app x height (statement_heights z) (test_heights last ++ (0 ∷ [])) body (final ++ back) (statement_len z (length final + 1) 0) (len_app x height (test_heights last) (0 ∷ []) final back (last_len last) refl))))
+        (len_app x height (statement_heights z) (test_heights last ++ (0 ∷ [])) body (final ++ back) (statement_len z (length final + 1) 0) (len_app x height (test_heights last) (0 ∷ []) final back (last_len last) refl))))
     statement_len Break stop again = refl
     statement_len Continue stop again = refl
     statement_len (Return v) stop again = return_len v
@@ -193,11 +193,13 @@ module _ (x : Making) (height : ℕ → ℕ) where
         let e = length-append (value_code v x) end in
         let m = at + 1 + length (value_code v x) in
         let two : 2 ≡ 1 + 1 = omega arith in
-        let both : 2 ≡ 0 + 2 = omega arith in
-        (k_push x height (Local (offset_of x.against place)) at 0 s.0 (omega arith) (leads_at x height (at + 1) (at + 1) 1 (0 + 1) refl one_more (value_begins x height v 1 (at + 1) c.0 d.0)),
-          joined x height (value_code v x) end (at + 1) (value_kept x height v 1 u (at + 1) c.0 d.0 (leads_to x height m (instr.Store (kind_of t) None) (1 + 1) c.1.0 (d.1.0 ∙ two)) (omega arith))
-          (k_store x height (kind_of t) None m 0 (d.1.0 ∙ both) (omega arith) (leads_to x height (m + 1) instr.Drop (0 + 1) c.1.1.0 (d.1.1.0 ∙ one_more)),
-            (k_drop x height (m + 1) 0 (d.1.1.0 ∙ one_more) (omega arith) (there (at + length (statement_code (Initialise place t v) x stop again)) (m + 1 + 1) (omega (arith, e)) to), tt)))
+        let both : 2 ≡ 0 + 2 = omega arith in (
+          k_push x height (Local (offset_of x.against place)) at 0 s.0 (omega arith) (leads_at x height (at + 1) (at + 1) 1 (0 + 1) refl one_more (value_begins x height v 1 (at + 1) c.0 d.0)),
+          joined x height (value_code v x) end (at + 1) (value_kept x height v 1 u (at + 1) c.0 d.0 (leads_to x height m (instr.Store (kind_of t) None) (1 + 1) c.1.0 (d.1.0 ∙ two)) (omega arith)) (
+            k_store x height (kind_of t) None m 0 (d.1.0 ∙ both) (omega arith) (leads_to x height (m + 1) instr.Drop (0 + 1) c.1.1.0 (d.1.1.0 ∙ one_more)),
+            (k_drop x height (m + 1) 0 (d.1.1.0 ∙ one_more) (omega arith) (there (at + length (statement_code (Initialise place t v) x stop again)) (m + 1 + 1) (omega (arith, e)) to), tt),
+          ),
+        )
     statement_kept (If v z) stop again at u l s le to st ag =
         let body = statement_code z x stop again in
         let rest = instr.SkipIfZero (length body) ∷ body in
@@ -207,9 +209,10 @@ module _ (x : Making) (height : ℕ → ℕ) where
         let m = at + length (value_code v x) in
         let end = at + length (value_code v x ++ rest) in
         let last = there end (m + 1 + length body) (omega (arith, e)) to in
-        joined x height (value_code v x) rest at (value_kept x height v 0 u.0 at c.0 d.0 (leads_to x height m (instr.SkipIfZero (length body)) (0 + 1) c.1.0 (d.1.0 ∙ one_more)) (omega arith))
-        (k_skip x height (length body) m 0 (m + 1 + length body) (d.1.0 ∙ one_more) (omega arith) refl (statement_lead z stop again (m + 1) c.1.1 d.1.1 last) last,
-          statement_kept z stop again (m + 1) u.1 c.1.1 d.1.1 (omega arith) last (there (end + stop) (m + 1 + length body + stop) (omega (arith, e)) st) (there (end + again) (m + 1 + length body + again) (omega (arith, e)) ag))
+        joined x height (value_code v x) rest at (value_kept x height v 0 u.0 at c.0 d.0 (leads_to x height m (instr.SkipIfZero (length body)) (0 + 1) c.1.0 (d.1.0 ∙ one_more)) (omega arith)) (
+          k_skip x height (length body) m 0 (m + 1 + length body) (d.1.0 ∙ one_more) (omega arith) refl (statement_lead z stop again (m + 1) c.1.1 d.1.1 last) last,
+          statement_kept z stop again (m + 1) u.1 c.1.1 d.1.1 (omega arith) last (there (end + stop) (m + 1 + length body + stop) (omega (arith, e)) st) (there (end + again) (m + 1 + length body + again) (omega (arith, e)) ag),
+        )
     statement_kept (IfElse v z y) stop again at u l s le to st ag =
         let other = statement_code y x stop again in
         let on = length other + 1 + stop in
@@ -230,11 +233,12 @@ module _ (x : Making) (height : ℕ → ℕ) where
         let stopping = there (end + stop) (n + 1 + length other + stop) (omega (arith, e, e2)) st in
         let going = there (end + again) (n + 1 + length other + again) (omega (arith, e, e2)) ag in
         let leaving = leads_to x height n (instr.GoOn (length other)) 0 c2.1.0 d2.1.0 in
-        joined x height (value_code v x) rest at (value_kept x height v 0 u.0 at c.0 d.0 (leads_to x height m (instr.SkipIfZero (length body + 1)) (0 + 1) c.1.0 (d.1.0 ∙ one_more)) (omega arith))
-        (k_skip x height (length body + 1) m 0 (n + 1) (d.1.0 ∙ one_more) (omega arith) (omega arith) (statement_lead z on anew (m + 1) c2.0 d2.0 leaving) (statement_lead y stop again (n + 1) c2.1.1 d2.1.1 last),
+        joined x height (value_code v x) rest at (value_kept x height v 0 u.0 at c.0 d.0 (leads_to x height m (instr.SkipIfZero (length body + 1)) (0 + 1) c.1.0 (d.1.0 ∙ one_more)) (omega arith)) (
+          k_skip x height (length body + 1) m 0 (n + 1) (d.1.0 ∙ one_more) (omega arith) (omega arith) (statement_lead z on anew (m + 1) c2.0 d2.0 leaving) (statement_lead y stop again (n + 1) c2.1.1 d2.1.1 last),
           joined x height body second (m + 1)
-          (statement_kept z on anew (m + 1) u.1 c2.0 d2.0 (omega arith) leaving (there (n + 1 + length other + stop) (n + on) (omega arith) stopping) (there (n + 1 + length other + again) (n + anew) (omega arith) going))
-          (k_on x height (length other) n 0 (n + 1 + length other) d2.1.0 (omega arith) refl last, statement_kept y stop again (n + 1) u.2 c2.1.1 d2.1.1 (omega arith) last stopping going))
+              (statement_kept z on anew (m + 1) u.1 c2.0 d2.0 (omega arith) leaving (there (n + 1 + length other + stop) (n + on) (omega arith) stopping) (there (n + 1 + length other + again) (n + anew) (omega arith) going))
+              (k_on x height (length other) n 0 (n + 1 + length other) d2.1.0 (omega arith) refl last, statement_kept y stop again (n + 1) u.2 c2.1.1 d2.1.1 (omega arith) last stopping going),
+        )
     statement_kept (While v z) stop again at u l s le to st ag =
         let body = statement_code z x 1 0 in
         let by = length (value_code v x) + 1 + length body in
@@ -250,11 +254,13 @@ module _ (x : Making) (height : ℕ → ℕ) where
         let e2 = length-append body back in
         let head = value_begins x height v 0 (at + 1) c.0 d.0 in
         let last = there (at + length (statement_code (While v z) x stop again)) (n + 1) (omega (arith, e, e2)) to in
-        let returning = leads_to x height n (instr.GoBack by) 0 c2.1.0 d2.1.0 in
-        (k_turn at s.0 head,
-          joined x height (value_code v x) rest (at + 1) (value_kept x height v 0 u.0 (at + 1) c.0 d.0 (leads_to x height m (instr.SkipIfZero (length body + 1)) (0 + 1) c.1.0 (d.1.0 ∙ one_more)) (omega arith))
-          (k_skip x height (length body + 1) m 0 (n + 1) (d.1.0 ∙ one_more) (omega arith) (omega arith) (statement_lead z 1 0 (m + 1) c2.0 d2.0 returning) last,
-            joined x height body back (m + 1) (statement_kept z 1 0 (m + 1) u.1 c2.0 d2.0 (omega arith) returning last (there n (n + 0) (omega arith) returning)) (k_back by n at d2.1.0 (omega arith) l.0 head, tt)))
+        let returning = leads_to x height n (instr.GoBack by) 0 c2.1.0 d2.1.0 in (
+          k_turn at s.0 head,
+          joined x height (value_code v x) rest (at + 1) (value_kept x height v 0 u.0 (at + 1) c.0 d.0 (leads_to x height m (instr.SkipIfZero (length body + 1)) (0 + 1) c.1.0 (d.1.0 ∙ one_more)) (omega arith)) (
+            k_skip x height (length body + 1) m 0 (n + 1) (d.1.0 ∙ one_more) (omega arith) (omega arith) (statement_lead z 1 0 (m + 1) c2.0 d2.0 returning) last,
+            joined x height body back (m + 1) (statement_kept z 1 0 (m + 1) u.1 c2.0 d2.0 (omega arith) returning last (there n (n + 0) (omega arith) returning)) (k_back by n at d2.1.0 (omega arith) l.0 head, tt),
+          ),
+        )
     statement_kept (Do z v) stop again at u l s le to st ag =
         let over = length (value_code v x) + 2 in
         let body = statement_code z x over 0 in
@@ -271,11 +277,12 @@ module _ (x : Making) (height : ℕ → ℕ) where
         let e2 = length-append (value_code v x) end in
         let testing = value_begins x height v 0 m c2.0 d2.0 in
         let head = statement_lead z over 0 (at + 1) c.0 d.0 testing in
-        let last = there (at + length (statement_code (Do z v) x stop again)) (n + 1 + 1) (omega (arith, e, e2)) to in
-        (k_turn at s.0 head,
+        let last = there (at + length (statement_code (Do z v) x stop again)) (n + 1 + 1) (omega (arith, e, e2)) to in (
+          k_turn at s.0 head,
           joined x height body rest (at + 1) (statement_kept z over 0 (at + 1) u.0 c.0 d.0 (omega arith) testing (there (n + 1 + 1) (m + over) (omega arith) last) (there m (m + 0) (omega arith) testing))
-          (joined x height (value_code v x) end m (value_kept x height v 0 u.1 m c2.0 d2.0 (leads_to x height n (instr.SkipIfZero 1) (0 + 1) c2.1.0 (d2.1.0 ∙ one_more)) (omega arith))
-            (k_skip x height 1 n 0 (n + 1 + 1) (d2.1.0 ∙ one_more) (omega arith) refl (leads_to x height (n + 1) (instr.GoBack by) 0 c2.1.1.0 d2.1.1.0) last, (k_back by (n + 1) at d2.1.1.0 (omega arith) l.0 head, tt))))
+              (joined x height (value_code v x) end m (value_kept x height v 0 u.1 m c2.0 d2.0 (leads_to x height n (instr.SkipIfZero 1) (0 + 1) c2.1.0 (d2.1.0 ∙ one_more)) (omega arith))
+              (k_skip x height 1 n 0 (n + 1 + 1) (d2.1.0 ∙ one_more) (omega arith) refl (leads_to x height (n + 1) (instr.GoBack by) 0 c2.1.1.0 d2.1.1.0) last, (k_back by (n + 1) at d2.1.1.0 (omega arith) l.0 head, tt))),
+        )
     statement_kept (For first v last z) stop again at u l s le to st ag =
         let final = last_code last x in
         let leave = length final + 1 in
@@ -313,11 +320,12 @@ module _ (x : Making) (height : ℕ → ℕ) where
         let inside = statement_lead z leave 0 m c3.0 d3.0 ending in
         let head = test_lead v over (h + 1) c2.0 d2.0 inside in
         joined x height before loop at
-        (statements_kept first on anew at u.0 c.0 d.0 (omega arith) (leads_to x height h instr.Turn 0 c.1.0 d.1.0) (there (end + stop) (h + on) (omega (arith, e)) st) (there (end + again) (h + anew) (omega (arith, e)) ag))
-        (k_turn h d.1.0 head,
+        (statements_kept first on anew at u.0 c.0 d.0 (omega arith) (leads_to x height h instr.Turn 0 c.1.0 d.1.0) (there (end + stop) (h + on) (omega (arith, e)) st) (there (end + again) (h + anew) (omega (arith, e)) ag)) (
+          k_turn h d.1.0 head,
           joined x height test (body ++ tail) (h + 1) (test_kept v over (h + 1) u.1 c2.0 d2.0 (omega arith) inside (there (q + 1) (h + 1 + length test + over) (omega arith) done))
-          (joined x height body tail m (statement_kept z leave 0 m u.3 c3.0 d3.0 (omega arith) ending (there (q + 1) (n + leave) (omega arith) done) (there n (n + 0) (omega arith) ending))
-            (joined x height final back n (last_kept last n u.2 c4.0 d4.0 (omega arith) returning) (k_back by q h d4.1.0 (omega arith) c.1.0 head, tt))))
+              (joined x height body tail m (statement_kept z leave 0 m u.3 c3.0 d3.0 (omega arith) ending (there (q + 1) (n + leave) (omega arith) done) (there n (n + 0) (omega arith) ending))
+              (joined x height final back n (last_kept last n u.2 c4.0 d4.0 (omega arith) returning) (k_back by q h d4.1.0 (omega arith) c.1.0 head, tt))),
+        )
     statement_kept Break stop again at u l s le to st ag = (k_on x height stop at 0 (at + 1 + stop) s.0 (omega arith) refl st, tt)
     statement_kept Continue stop again at u l s le to st ag = (k_on x height again at 0 (at + 1 + again) s.0 (omega arith) refl ag, tt)
     statement_kept (Return v) stop again at u l s le to st ag = return_kept v at u l s (omega arith)
@@ -353,6 +361,7 @@ module _ (x : Making) (height : ℕ → ℕ) where
       let c = split x first end at l in
       let d = parted x height (statement_heights b.statements) (0 ∷ (1 ∷ [])) first at (statement_len b.statements 0 0) s in
       let m = at + length first in
-      let to = leads_to x height m (instr.Push (Number 0)) 0 c.1.0 d.1.0 in
-      (statement_lead b.statements 0 0 at c.0 d.0 to,
-        joined x height first end at (statement_kept b.statements 0 0 at u c.0 d.0 le to (there m (m + 0) (omega arith) to) (there m (m + 0) (omega arith) to)) (return_kept NoValue m tt c.1 d.1 (omega arith)))
+      let to = leads_to x height m (instr.Push (Number 0)) 0 c.1.0 d.1.0 in (
+        statement_lead b.statements 0 0 at c.0 d.0 to,
+        joined x height first end at (statement_kept b.statements 0 0 at u c.0 d.0 le to (there m (m + 0) (omega arith) to) (there m (m + 0) (omega arith) to)) (return_kept NoValue m tt c.1 d.1 (omega arith)),
+      )
