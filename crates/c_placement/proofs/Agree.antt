@@ -1,5 +1,5 @@
 -- What is said of lists of marks, up to a length, is what flat code says from a configuration on.
-use Rattle.std.proofs.Common.{◌≡◌, ℕ, zero, suc, ◌+◌, ◌<◌, ◌≤◌, Bool, true, false, cond, List, [], ◌∷◌, length, Option, Some, None, Result, Ok, Err, refl, sym, ap, ◌∙◌, subst, arith}
+use Rattle.std.proofs.Common.{◌≡◌, ℕ, zero, suc, ◌<◌, ◌≤◌, Bool, true, false, cond, List, [], ◌∷◌, length, Option, Some, None, Result, Ok, Err, refl, sym, ap, ◌∙◌, subst, arith}
 use Rattle.std.specs.Prelude.{slice_get}
 use Rattle.marks.specs.declared.side.Side.{Side}
 use Rattle.marks.specs.declared.fault.FaultKind.{FaultKind}
@@ -10,10 +10,10 @@ use Rattle.c_code.specs.declared.instr.Instr.{Instr}
 use Rattle.c_code.specs.declared.activation.Activation.{Activation}
 use Rattle.c_code.specs.declared.activation.Waiting.{Waiting}
 use Rattle.c_code.specs.Values.{at_zero, is_value}
-use Rattle.c_code.specs.Machine.{Laid, Config, Going, Lost, Done, Action, Silent, Asks, Pends, Awaits, Starts, Over, Stuck, act, action, combine, next, valued}
-use Rattle.c_code.specs.MarkLists.{Reading, Split, Next, Wants, Quiet, Verdict, Ended, Open, Wrong, step, next_of, settled, reply, closed, follow, follow_to, at_end, lists}
+use Rattle.c_code.specs.Machine.{Laid, Config, Going, Lost, Action, Silent, Asks, Pends, Awaits, Starts, Over, Stuck, act, action, combine, next, valued}
+use Rattle.c_code.specs.MarkLists.{Reading, Wants, step, next_of, reply, closed, follow, follow_to, at_end, lists}
 use Rattle.c_code.proofs.Settles.{IsLoud, settled_loud, settled_silent, lists_settled}
-use Rattle.c_meaning.specs.Reading.{Marks, wrong, ended, heard, ask, fails, or_fault, with_value}
+use Rattle.c_meaning.specs.Reading.{Marks, wrong, heard, ask, fails, or_fault, with_value}
 
 module _ (r : Reading) (l : Laid) where
   abbrev pub Agree : ℕ → Marks → Config → Type 0

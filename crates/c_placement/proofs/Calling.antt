@@ -1,5 +1,5 @@
 -- The code of a function makes the marks of its calls.
-use Rattle.std.proofs.Common.{◌≡◌, ℕ, zero, suc, ◌+◌, ◌-◌, ◌/◌, ◌<◌, ◌≤◌, ◌&&◌, Bool, true, false, cond, List, [], ◌∷◌, length, Option, Some, None, is_some, refl, sym, ap, ◌∙◌, subst, arith}
+use Rattle.std.proofs.Common.{◌≡◌, ℕ, zero, suc, ◌-◌, ◌/◌, ◌<◌, ◌≤◌, ◌&&◌, Bool, true, false, cond, List, [], ◌∷◌, length, Option, Some, None, is_some, refl, sym, ap, ◌∙◌, subst, arith}
 use Rattle.std.specs.Prelude.{leb, eqb, slice_get}
 use Rattle.marks.specs.declared.side.Side.{Side}
 use Rattle.marks.specs.declared.side.Side.TheVariants.{Replay, System}
@@ -27,14 +27,13 @@ use Rattle.c_typing.specs.Limits.{frame_size}
 use Rattle.c_meaning.specs.Reading.{Marks, wrong, ended, ask, with_value, with_frame}
 use Rattle.c_meaning.specs.Context.{Source, body_of, frame_of, frame_of_body, frame_with, is_face, is_function_of, local_offsets, param_shapes, result_shape}
 use Rattle.c_meaning.specs.Values.{Here}
-use Rattle.c_meaning.specs.Statements.{Exits}
 use Rattle.c_meaning.specs.Calls.{Bodies, any_below, any_step, back_or_plain, begun, behaviour, below, bodies, call, call_by_address, call_by_name, called_back, callee, calling, entering, entering_below, here, locals_of, making, outside, outside_step, own_below, pooling, started, stepping, thread_above, thread_behaviour}
 use Rattle.c_meaning.specs.Calls as meaning
-use Rattle.c_placement.specs.Placement.{BodyAt, HasCode, IsSigOf, against}
+use Rattle.c_placement.specs.Placement.{BodyAt, IsSigOf, against}
 use Rattle.c_placement.specs.Laws.{IsLowered, laid}
 use Rattle.c_placement.proofs.Agree.{Agree, by_ask, by_cond, by_fails, by_lost, by_value, fewer}
 use Rattle.c_placement.proofs.Expressions.{Spot, stand, here_at, CallsAgree, pushes}
-use Rattle.c_placement.proofs.Statements.{Leads, statement_agrees}
+use Rattle.c_placement.proofs.Statements.{statement_agrees}
 
 module _ (s : Source) (code : Flat) (low : IsLowered s code) where
   abbrev lay : Laid

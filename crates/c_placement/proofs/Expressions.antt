@@ -1,6 +1,5 @@
 -- The code of an expression makes the marks of the expression.
-use Rattle.std.proofs.Common.{◌≡◌, ℕ, zero, suc, ◌+◌, ◌-◌, ◌*◌, ◌%◌, ◌^◌, ◌<◌, ◌≤◌, ◌-ℤ◌, pos, negsuc, Bool, true, false, cond, List, [], ◌∷◌, ◌++◌, length, Option, Some, None, Result, Ok, Err, refl, sym, ap, ◌∙◌, subst, arith}
-use Rattle.std.specs.Prelude.{slice_get}
+use Rattle.std.proofs.Common.{◌≡◌, ℕ, suc, ◌+◌, ◌%◌, ◌^◌, ◌≤◌, ◌-ℤ◌, pos, negsuc, Bool, true, false, cond, List, [], ◌∷◌, ◌++◌, length, Option, Some, Ok, refl, sym, ap, ◌∙◌, subst, arith}
 use Rattle.r2_num.specs.declared.kinds.IntKind.{IntKind}
 use Rattle.r2_num.specs.declared.kinds.IntKind.TheVariants.{I64, U64}
 use Rattle.r2_num.specs.declared.operations.Op.TheVariants.{Div}
@@ -21,18 +20,18 @@ use Rattle.c_code.specs.declared.activation.Activation.{Activation}
 use Rattle.c_code.specs.declared.activation.Waiting.{Waiting}
 use Rattle.c_code.specs.Values.{arith_of, at_zero, bytes_of, changed, combined, converted, read, written}
 use Rattle.c_code.specs.Machine.{Flat, Laid, Config, Going, Lost, Silent, Asks, act, action, at_place, call_act, callee, loaded, next, pointer_act, push, take_args, to_callee, with_args}
-use Rattle.c_code.specs.MarkLists.{Reading, next_of, lists}
+use Rattle.c_code.specs.MarkLists.{Reading, next_of}
 use Rattle.c_type_model.specs.Types.{CType}
 use Rattle.c_builtins.specs.Table.{number_of}
 use Rattle.c_typing.specs.TypedTree.{Object, Values, Callee, Sum, PointerPlus, PlusPointer, PointerMinus, Way, Up, Down, Given, New, Old, GlobalObject, LocalObject, TextObject, Pointed, Element, MemberOf, Constant, FunctionAddress, ReadOf, AddressOf, Convert, Negate, Complement, Arithmetic, PointerSum, PointerDifference, PointerComparison, Not, Both, Either, Choice, Sequence, Assigned, Changed, Moved, Stepped, CallOf, NoValues, MoreValues, SourceFunction, BuiltinFunction, Through, object_type, value_type}
 use Rattle.c_typing.specs.TypedTree as typed
 use Rattle.c_meaning.specs.Reading.{Marks, ask, or_fault, with_any}
 use Rattle.c_meaning.specs.Context.{Source, global_address, kind_of, member_offset, order_of, size_of, text_address}
-use Rattle.c_meaning.specs.Values.{Here, address, back_by, called, changing, converted_to, fetch, given, in_order, is_read, load, local_address, moved_by, negative, on_by, origin, stepped_by, store, summed, target, truth, value, values, width, wrap}
+use Rattle.c_meaning.specs.Values.{Here, address, back_by, called, converted_to, fetch, given, in_order, is_read, load, local_address, moved_by, negative, on_by, origin, stepped_by, store, summed, target, truth, value, values, width, wrap}
 use Rattle.c_placement.specs.Places.{Has, Jumps}
-use Rattle.c_placement.specs.Placement.{Against, CallAt, CalleeAt, ConvertAt, IsSigOf, LoadAt, MoveAt, ObjectAt, SumAt, ValueAt, ValuesAt, count, keeps_old, loads, offset_of, step_by, stores}
+use Rattle.c_placement.specs.Placement.{Against, CallAt, CalleeAt, ConvertAt, IsSigOf, LoadAt, MoveAt, ObjectAt, SumAt, ValueAt, ValuesAt, count, keeps_old, loads, offset_of, step_by}
 use Rattle.c_placement.specs.Laws.{laid}
-use Rattle.c_placement.proofs.Agree.{Agree, acting, by_ask, by_combine, by_cond, by_silent, by_zero, by_lost, fewer, the_same}
+use Rattle.c_placement.proofs.Agree.{Agree, acting, by_ask, by_combine, by_silent, by_zero, by_lost, fewer}
 
 -- where an activation of a function runs, and what its calls make
 pub record Spot : Type 0 where

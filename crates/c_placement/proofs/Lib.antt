@@ -3,3 +3,6 @@ mod Expressions
 mod Statements
 mod Calling
 mod Lying
+mod Keeping
+mod Steady
+mod Whole

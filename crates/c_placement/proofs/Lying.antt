@@ -1,8 +1,7 @@
 -- The code of a construct, where it stands, lies as the placement says.
-use Rattle.std.proofs.Common.{◌≡◌, ℕ, zero, suc, ◌+◌, ◌-◌, ◌<◌, ◌≤◌, Bool, true, false, List, [], ◌∷◌, ◌++◌, length, length-append, Option, Some, None, refl, sym, ap, ◌∙◌, subst, arith}
-use Rattle.std.specs.Prelude.{slice_get}
+use Rattle.std.proofs.Common.{◌≡◌, ℕ, ◌+◌, ◌-◌, Bool, true, false, List, [], ◌∷◌, ◌++◌, length, length-append, None, refl, subst, arith}
 use Rattle.r2_num.specs.declared.kinds.IntKind.TheVariants.{I64, U64}
-use Rattle.c_code.specs.declared.instr.Push.TheVariants.{Number, Local, Global, Text}
+use Rattle.c_code.specs.declared.instr.Push.TheVariants.{Number, Local, Global}
 use Rattle.c_code.specs.declared.instr.Change.TheVariants as change
 use Rattle.c_code.specs.declared.instr.Combine.TheVariants as combine
 use Rattle.c_code.specs.declared.instr.Instr.{Instr}
@@ -17,7 +16,7 @@ use Rattle.c_typing.specs.TypedTree.{Body}
 use Rattle.c_code.specs.Machine.{Flat}
 use Rattle.c_meaning.specs.Context.{Source}
 use Rattle.c_placement.specs.Laws.{IsEmitted, IsLowered}
-use Rattle.c_placement.specs.Placement.{Against, BodyAt, CallAt, CalleeAt, ConvertAt, IsSigOf, LastAt, LoadAt, MoveAt, ObjectAt, ReturnAt, StatementAt, StatementsAt, SumAt, TestAt, ValueAt, ValuesAt, count, keeps_old, loads, offset_of, step_by, stores}
+use Rattle.c_placement.specs.Placement.{BodyAt, CallAt, CalleeAt, ConvertAt, LastAt, LoadAt, MoveAt, ObjectAt, ReturnAt, StatementAt, StatementsAt, SumAt, TestAt, ValueAt, ValuesAt, count, keeps_old, loads, offset_of, step_by, stores}
 use Rattle.c_placement.specs.Code.{HasSigs, Lies, Making, body_code, making, call_code, callee_code, convert_code, last_code, load_code, move_code, object_code, one, return_code, statement_code, statements_code, sum_code, test_code, value_code, values_code}
 
 module _ (x : Making) where

@@ -1,25 +1,22 @@
 -- The code of a statement makes the marks of the statement.
-use Rattle.std.proofs.Common.{◌≡◌, ℕ, zero, suc, ◌+◌, ◌-◌, ◌<◌, ◌≤◌, List, [], ◌∷◌, length, Option, Some, None, refl, sym, ap, ◌∙◌, subst, arith}
+use Rattle.std.proofs.Common.{◌≡◌, ℕ, zero, suc, ◌+◌, ◌<◌, ◌≤◌, List, ◌∷◌, length, Some, None, sym, ap, ◌∙◌, subst, arith}
 use Rattle.std.specs.Prelude.{slice_get}
-use Rattle.marks.specs.declared.side.Side.{Side}
-use Rattle.marks.specs.Wants.{Turns, Answer}
+use Rattle.marks.specs.Wants.{Turns}
 use Rattle.c_code.specs.declared.instr.Push.TheVariants.{Number, Local}
-use Rattle.c_code.specs.declared.instr.Instr.{Instr}
 use Rattle.c_code.specs.declared.instr.Instr.TheVariants as instr
-use Rattle.c_code.specs.declared.activation.Activation.{Activation}
 use Rattle.c_code.specs.declared.activation.Waiting.{Waiting}
 use Rattle.c_code.specs.Values.{at_zero}
-use Rattle.c_code.specs.Machine.{Flat, Laid, Config, Going, Asks, act, action}
+use Rattle.c_code.specs.Machine.{Flat, Laid, Config, Going, Asks}
 use Rattle.c_code.specs.MarkLists.{Reading, Wants, next_of, step}
 use Rattle.c_typing.specs.TypedTree.{MaybeValue, NoValue, OneValue, Statement, Statements, Block, Evaluate, Initialise, If, IfElse, While, Do, For, Break, Continue, Return, NoStatements, MoreStatements}
-use Rattle.c_meaning.specs.Reading.{Marks, ask}
+use Rattle.c_meaning.specs.Reading.{Marks}
 use Rattle.c_meaning.specs.Context.{Source, kind_of}
-use Rattle.c_meaning.specs.Values.{Here, local_address, store, value}
+use Rattle.c_meaning.specs.Values.{local_address, store, value}
 use Rattle.c_meaning.specs.Statements.{Exits, looping, maybe, rounds, statement, statements, within}
-use Rattle.c_placement.specs.Places.{Has, Jumps, GoesBack}
-use Rattle.c_placement.specs.Placement.{Against, LastAt, ReturnAt, StatementAt, StatementsAt, TestAt, ValueAt, offset_of}
-use Rattle.c_placement.proofs.Agree.{Agree, acting, by_ask, by_silent, by_zero, fewer}
-use Rattle.c_placement.proofs.Expressions.{Spot, stand, l, here_at, against_at, CallsAgree, fewer_calls, steps, pushes, drops, skips, goes_on, store_agrees, value_agrees}
+use Rattle.c_placement.specs.Places.{GoesBack}
+use Rattle.c_placement.specs.Placement.{LastAt, ReturnAt, StatementAt, StatementsAt, TestAt, offset_of}
+use Rattle.c_placement.proofs.Agree.{Agree, acting, by_ask, fewer}
+use Rattle.c_placement.proofs.Expressions.{Spot, stand, l, here_at, against_at, CallsAgree, fewer_calls, pushes, drops, skips, goes_on, store_agrees, value_agrees}
 
 module _ (r : Reading) (s : Source) (code : Flat) where
   abbrev lay : Laid

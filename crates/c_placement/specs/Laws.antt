@@ -1,10 +1,13 @@
 -- Code makes exactly the marks of its source.
-use Rattle.std.specs.Prelude.{◌≡◌, ℕ, List, Some, None}
+use Rattle.std.specs.Prelude.{◌≡◌, ℕ, ◌+◌, ◌<◌, ◌≤◌, List, length, Some, None, slice_get}
 use Rattle.marks.specs.declared.side.Side.{Side}
 use Rattle.marks.specs.Marks.{Mark}
 use Rattle.c_code.specs.declared.code.FuncInfo.{FuncInfo}
+use Rattle.c_code.specs.declared.instr.Instr.{Instr}
+use Rattle.c_code.specs.Frames.{params_end}
 use Rattle.c_code.specs.Machine.{Flat, Laid, Done, entry, func_of}
 use Rattle.c_code.specs.MarkLists.{Split, Above, lists, mark_lists, result_of, thread_lists}
+use Rattle.c_code.specs.Valid.{most_values}
 use Rattle.c_type_model.specs.Types.{CType}
 use Rattle.c_typing.specs.TypedTree.{Body}
 use Rattle.c_typing.specs.Limits.{frame_size}
@@ -12,6 +15,7 @@ use Rattle.c_meaning.specs.Context.{Source, body_of, param_shapes, result_shape}
 use Rattle.c_meaning.specs.Calls.{behaviour, thread_above, thread_behaviour}
 use Rattle.c_placement.specs.Placement.{HasCode, IsSigOf}
 use Rattle.c_placement.specs.Code.{Lies, body_code, making}
+use Rattle.c_placement.specs.Heights.{Stand, StatementCalls, body_heights, statement_waits}
 
 abbrev pub laid : Source → Flat → Laid
 laid s code = record { code = code; placed = s.placed }
@@ -46,3 +50,26 @@ pub record MakesTheMarks (s : Source) (code : Flat) : Type 0 where
   pub calls : (side : Side) (f : ℕ) (b : Body) (args : List ℕ) (ms : List Mark) → body_of s f ≡ Some b → behaviour Split s side f args ms ≡ mark_lists Split (laid s code) side f args ms
   pub threads : (t : CType) (sig address : ℕ) (args : List ℕ) (ms : List Mark) → IsSigOf s code t sig → thread_behaviour s t address args ms ≡ thread_lists (laid s code) sig address args ms
   pub above : (ms : List Mark) → thread_above s ms ≡ lists Above ms (laid s code) (Done 0)
+
+-- a place within the code of a function
+pub record IsWithin (s : Source) (code : Flat) (sig : CType → ℕ) (e : IsEmitted s code sig) (place : ℕ) : Type 0 where
+  pub func : ℕ
+  pub body : Body
+  pub defined : body_of s func ≡ Some body
+  pub by : ℕ
+  pub inside : by < length (body_code body (making s code sig body))
+  pub there : (e.bodies func body defined).entry + by ≡ place
+
+-- a function in which few values wait, each of whose calls has one value per parameter, and whose frame holds its own
+-- parameters
+pub record IsFit (s : Source) (code : Flat) (sig : CType → ℕ) (f : ℕ) (b : Body) : Type 0 where
+  pub few : statement_waits b.statements ≤ most_values
+  pub calls : StatementCalls b.statements (making s code sig b)
+  pub holds : params_end 0 (param_shapes s f) ≤ frame_size s.program b.locals
+
+-- flat code that holds nothing but the functions of the source, each of them fit, and how many values wait at each place
+pub record IsMadeOf (s : Source) (code : Flat) (sig : CType → ℕ) (height : ℕ → ℕ) : Type 0 where
+  pub emitted : IsEmitted s code sig
+  pub within : (p : ℕ) (i : Instr) → slice_get code.instrs p ≡ Some i → IsWithin s code sig emitted p
+  pub stands : (f : ℕ) (b : Body) (d : body_of s f ≡ Some b) → Stand height (emitted.bodies f b d).entry (body_heights b)
+  pub fits : (f : ℕ) (b : Body) → body_of s f ≡ Some b → IsFit s code sig f b

@@ -2,3 +2,4 @@ pub mod Places
 pub mod Placement
 pub mod Laws
 pub mod Code
+pub mod Heights

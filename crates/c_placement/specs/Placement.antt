@@ -1,5 +1,5 @@
 -- Where the code of a typed source lies in flat code: `at` is where the code of a construct begins, and `to` the place behind it.
-use Rattle.std.specs.Prelude.{◌≡◌, ℕ, zero, suc, ◌+◌, ◌-◌, ◌^◌, leb, ltb, Bool, true, false, cond, List, [], ◌∷◌, length, Option, Some, None, slice_get}
+use Rattle.std.specs.Prelude.{◌≡◌, ℕ, suc, ◌+◌, ◌-◌, ◌^◌, leb, Bool, true, false, List, Option, Some, None, slice_get}
 use Rattle.r2_num.specs.declared.kinds.IntKind.TheVariants.{I64, U64}
 use Rattle.marks.specs.Places.{builtin_count, function_address}
 use Rattle.c_code.specs.declared.instr.Push.TheVariants.{Number, Local, Global, Text}
@@ -10,7 +10,7 @@ use Rattle.c_code.specs.declared.instr.Instr.TheVariants as instr
 use Rattle.c_code.specs.declared.code.FuncInfo.{FuncInfo}
 use Rattle.c_code.specs.Machine.{Flat, func_of, has_sig}
 use Rattle.c_code.specs.Values.{written}
-use Rattle.c_type_model.specs.Types.{CType, CTypes}
+use Rattle.c_type_model.specs.Types.{CType}
 use Rattle.c_builtins.specs.Table.{number_of}
 use Rattle.c_typing.specs.TypedTree.{Object, Value, Values, Callee, Sum, PointerPlus, PlusPointer, PointerMinus, Way, Up, Down, Given, New, Old, GlobalObject, LocalObject, TextObject, Pointed, Element, MemberOf, Constant, FunctionAddress, ReadOf, AddressOf, Convert, Negate, Complement, Arithmetic, PointerSum, PointerDifference, PointerComparison, Not, Both, Either, Choice, Sequence, Assigned, Changed, Moved, Stepped, CallOf, NoValues, MoreValues, SourceFunction, BuiltinFunction, Through, MaybeValue, NoValue, OneValue, Statement, Statements, Block, Evaluate, Initialise, If, IfElse, While, Do, For, Break, Continue, Return, NoStatements, MoreStatements, object_type, value_type}
 use Rattle.c_typing.specs.TypedTree as typed

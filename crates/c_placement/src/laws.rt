@@ -2,9 +2,10 @@
 
 ghost use Rattle.std.specs.Prelude.{ℕ};
 ghost use Rattle.c_code.specs.Machine.{Flat};
+ghost use Rattle.c_code.specs.Valid.{IsSteady};
 ghost use Rattle.c_type_model.specs.Types.{CType};
 ghost use Rattle.c_meaning.specs.Context.{Source};
-ghost use Rattle.c_placement.specs.Laws.{IsEmitted, IsLowered, MakesTheMarks};
+ghost use Rattle.c_placement.specs.Laws.{IsEmitted, IsLowered, IsMadeOf, MakesTheMarks};
 
 /// A law: where the code of each function of a source lies in flat code, the lists of marks that the code can make are
 /// exactly those of the source: of each call, each thread, and each thread above the cut.
@@ -16,4 +17,11 @@ pub fn lowered_code_makes_the_marks()
 /// stands.
 pub fn emitted_code_makes_the_marks()
     ensures { (s : Source) (code : Flat) (sig : CType → ℕ) → IsEmitted s code sig → MakesTheMarks s code }
+{}
+
+/// A law: in code that holds nothing but the functions of a source, each construct by construct, it is known at each place
+/// how many values wait, each jump lands within its function, a backward jump on the head of its loop, and each call has
+/// one value per parameter.
+pub fn emitted_code_is_steady()
+    ensures { (s : Source) (code : Flat) (sig : CType → ℕ) (height : ℕ → ℕ) → IsMadeOf s code sig height → IsSteady code height }
 {}

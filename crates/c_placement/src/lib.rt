@@ -1,6 +1,9 @@
-//! Where the code of a typed source lies in flat code, and that it then makes exactly the marks of its source.
+//! Where the code of a typed source lies in flat code, that it then makes exactly the marks of its source, and that it is
+//! code in which it is known at each place how many values wait.
 #![tactic(auto)]
 
 mod laws;
 
-pub use laws::{emitted_code_makes_the_marks, lowered_code_makes_the_marks};
+pub use laws::{
+    emitted_code_is_steady, emitted_code_makes_the_marks, lowered_code_makes_the_marks,
+};
