@@ -1,10 +1,10 @@
 -- What an access to memory may touch, and the first test that it fails.
-use Rattle.std.specs.Prelude.{ℕ, Bool, true, false, List}
+use Rattle.std.specs.Prelude.{◌≡◌, ℕ, ◌+◌, ◌<◌, ◌≤◌, Bool, true, false, List, []}
 use Rattle.marks.specs.declared.side.Side.{Side}
 use Rattle.marks.specs.declared.side.Side.TheVariants.{Replay, System}
 use Rattle.places.specs.declared.areas.TheConstants.{CONSTANTS, REPLAY_MEMORY, SYSTEM_MEMORY}
 use Rattle.places.specs.Ranges.{IsInRange, NoneIn, IsLeastIn}
-use Rattle.live_bytes.specs.Areas.{AreaState, IsDead}
+use Rattle.live_bytes.specs.Areas.{AreaState, IsDead, AllLive}
 use Rattle.held_regions.specs.declared.holder.Region.{Region}
 use Rattle.held_regions.specs.Held.{IsPending, IsServed}
 use Rattle.access_checks.specs.declared.access.Access.{Access}
@@ -55,3 +55,12 @@ IsRefused bytes regions a (StackFull x) = ⊥
 IsRefused bytes regions a (KeyInUse x) = ⊥
 IsRefused bytes regions a (NoKey x) = ⊥
 IsRefused bytes regions a (Size x) = ⊥
+
+-- replay code touches eight live bytes of its own memory, other than the last eight, and no region is held
+pub record IsPlainWord (bytes : List AreaState) (regions : List Region) (a : Access) : Type 0 where
+  pub by : a.side ≡ Replay
+  pub word : a.range.len ≡ 8
+  pub from : REPLAY_MEMORY.addr ≤ a.range.addr
+  pub to : a.range.addr + 8 < REPLAY_MEMORY.addr + REPLAY_MEMORY.len
+  pub idle : regions ≡ []
+  pub live : AllLive bytes a.range.addr 8

@@ -3,7 +3,7 @@ ghost use Rattle.std.specs.Prelude.{◌≡◌, ◌+◌, ◌^◌, ◌<◌, ◌≤
 ghost use Rattle.places.specs.Ranges.{IsFirstIn};
 ghost use Rattle.live_bytes.specs.Areas.{extents, LiesIn};
 ghost use Rattle.access_checks.specs.declared.refusal.Refusal.{Refusal};
-ghost use Rattle.access_checks.specs.Accesses.{IsForeign, IsWithoutRight, IsPendingTo, IsConstantTo, IsAllowed, IsRefused};
+ghost use Rattle.access_checks.specs.Accesses.{IsForeign, IsWithoutRight, IsPendingTo, IsConstantTo, IsAllowed, IsRefused, IsPlainWord};
 
 use crate::Refusal;
 use held_regions::Regions;
@@ -35,10 +35,13 @@ pub fn check_access(bytes: &LiveBytes, held: &Regions, access: Access) -> Result
     check_each(bytes, held, access)
 }
 
-// Whether replay code accesses eight live bytes of its own memory, while no region is held: then no test can fail.
-#[inline]
-fn is_plain_word(bytes: &LiveBytes, held: &Regions, access: Access) -> bool
+/// Whether replay code accesses eight live bytes of its own memory, other than the last eight, while no region is held: then
+/// no test can fail.
+#[inline(always)]
+pub fn is_plain_word(bytes: &LiveBytes, held: &Regions, access: Access) -> bool
     ensures allowed { IsTrue result → IsAllowed bytes.now held.now.regions access }
+    ensures not_refused { IsTrue result → (r : Refusal) → ¬ IsRefused bytes.now held.now.regions access r }
+    ensures plain { IsTrue result ↔ IsPlainWord bytes.now held.now.regions access }
     ensures ends { IsTrue result → access.range.addr + access.range.len < 2 ^ 64 }
     ensures one_area { IsTrue result → LiesIn access.range (extents bytes.now) }
 {

@@ -4,7 +4,7 @@
 mod access;
 mod refusal;
 
-pub use access::{Access, check_access};
+pub use access::{Access, check_access, is_plain_word};
 pub use refusal::Refusal;
 
 #[cfg(test)]

@@ -1,5 +1,5 @@
 // The two memories of a run.
-ghost use Rattle.std.specs.Prelude.{◌≡◌, ◌⊎◌, ℕ, ◌+◌, ◌-◌, ◌*◌, ◌%◌, ◌^◌, ◌<◌, ◌≤◌, ◌↔◌, true, false, [], ◌∷◌, ◌++◌, All, EachIndex, length, map, replicate, option_map, slice_index, slice_set, Some, None, Ok, Err, IsOk, IsSomeAnd, IfOk, IfSome, IfNone, OnOk, OnErr};
+ghost use Rattle.std.specs.Prelude.{◌≡◌, ◌⊎◌, ℕ, ◌+◌, ◌-◌, ◌*◌, ◌%◌, ◌^◌, ◌<◌, ◌≤◌, ◌↔◌, true, false, [], ◌∷◌, ◌++◌, All, EachIndex, IsTrue, length, map, replicate, option_map, slice_index, slice_set, Some, None, Ok, Err, IsOk, IsSomeAnd, IfOk, IfSome, IfNone, OnOk, OnErr};
 ghost use Rattle.std.specs.List.{range_with_len};
 ghost use Rattle.marks.specs.declared.side.Side.TheVariants.{Replay};
 ghost use Rattle.places.specs.declared.areas.TheConstants.{THREADS, REPLAY_STACKS, REPLAY_POOL, SYSTEM_STACKS, SYSTEM_POOL};
@@ -28,7 +28,7 @@ use crate::objects::{areas, end_of_constants, put_objects};
 use crate::regions::{first_pending, holder_of, region_of, region_range};
 use crate::release::{check_release, committed_key};
 use crate::{Cell, HoldError, Sides};
-use access_checks::{Access, Refusal, check_access};
+use access_checks::{Access, Refusal, check_access, is_plain_word};
 use held_regions::{Holder, Regions};
 use live_bytes::LiveBytes;
 use marks::Side;
@@ -80,7 +80,7 @@ impl Spaces {
     /// The number in `width` bytes, 1 to 8, from the address on, the lowest first, for code of the side. `OtherSpace` for a
     /// byte of the other side, `NotLive` for a dead byte, `Pending` for one that replay code may not touch: the first of
     /// these that some byte meets, with the least such byte.
-    #[inline]
+    #[inline(always)]
     pub fn load(&self, side: Side, thread: u8, addr: u64, width: u8) -> Result<u64, Refusal>
         requires some { 1 ≤ width }
         requires at_most_8 { width ≤ 8 }
@@ -90,7 +90,11 @@ impl Spaces {
         ensures refused { (r : Refusal) → (result ≡ Err r) ↔ IsRefused self.now.bytes self.now.held.regions (record { side = side; thread = thread; range = record { addr = addr; len = width }; write = false }) r }
     {
         let len = width as u64;
-        match self.check(side, thread, Range { addr, len }, false) {
+        let range = Range { addr, len };
+        if self.is_plain(side, thread, range, false) {
+            return Ok(self.bytes.read(addr, width));
+        }
+        match self.check(side, thread, range, false) {
             Ok(()) => Ok(self.bytes.read(addr, width)),
             Err(refusal) => Err(refusal),
         }
@@ -98,7 +102,7 @@ impl Spaces {
 
     /// Writes the low `width` bytes of the value, 1 to 8, from the address on, the lowest first, for code of the side. It is
     /// refused as a load is, and last of all with `ReadOnly` for a constant.
-    #[inline]
+    #[inline(always)]
     pub fn store(
         &mut self,
         side: Side,
@@ -117,7 +121,12 @@ impl Spaces {
         ensures unchanged { OnErr result (self.new ≡ self.old) }
     {
         let len = width as u64;
-        self.check(side, thread, Range { addr, len }, true)?;
+        let range = Range { addr, len };
+        if self.is_plain(side, thread, range, true) {
+            self.bytes.write(addr, width, value);
+            return Ok(());
+        }
+        self.check(side, thread, range, true)?;
         self.bytes.write(addr, width, value);
         Ok(())
     }
@@ -359,8 +368,25 @@ impl Spaces {
         cells
     }
 
+    // Whether an access of code of the side is one that passes each test, as far as a glance shows it.
+    #[inline(always)]
+    fn is_plain(&self, side: Side, thread: u8, range: Range, write: bool) -> bool
+        ensures allowed { IsTrue result → IsAllowed self.now.bytes self.now.held.regions (record { side = side; thread = thread; range = range; write = write }) }
+        ensures not_refused { IsTrue result → (r : Refusal) → ¬ IsRefused self.now.bytes self.now.held.regions (record { side = side; thread = thread; range = range; write = write }) r }
+        ensures ends { IsTrue result → range.addr + range.len < 2 ^ 64 }
+        ensures one_area { IsTrue result → LiesIn range (extents self.now.bytes) }
+    {
+        let access = Access {
+            side,
+            thread,
+            range,
+            write,
+        };
+        is_plain_word(&self.bytes, &self.held, access)
+    }
+
     // Tests an access of code of the side: the first test that fails refuses it, at its least byte.
-    #[inline]
+    #[inline(never)]
     fn check(&self, side: Side, thread: u8, range: Range, write: bool) -> Result<(), Refusal>
         ensures allowed { IsOk result ↔ IsAllowed self.now.bytes self.now.held.regions (record { side = side; thread = thread; range = range; write = write }) }
         ensures refused { (r : Refusal) → (result ≡ Err r) ↔ IsRefused self.now.bytes self.now.held.regions (record { side = side; thread = thread; range = range; write = write }) r }
