@@ -36,16 +36,17 @@ impl TypedTable {
     {
         match self.get(id) {
             Node::Constant(..) => true,
-            Node::Convert(ty, value) =>
-                kind_of(self.types(), *ty).is_some() && self.is_of_constants(*value),
+            Node::Convert(ty, value) => kind_of(self.types(), *ty).is_some()
+                && self.is_of_constants(*value),
             Node::Negate(_, value) | Node::Complement(_, value) | Node::Not(value) =>
                 self.is_of_constants(*value),
-            Node::Arithmetic(_, _, left, right) | Node::Both(left, right) | Node::Either(left, right) =>
-                self.is_of_constants(*left) && self.is_of_constants(*right),
-            Node::Choice(condition, then, other) =>
-                self.is_of_constants(*condition)
-                    && self.is_of_constants(*then)
-                    && self.is_of_constants(*other),
+            Node::Arithmetic(_, _, left, right)
+            | Node::Both(left, right)
+            | Node::Either(left, right) => self.is_of_constants(*left)
+                && self.is_of_constants(*right),
+            Node::Choice(condition, then, other) => self.is_of_constants(*condition)
+                && self.is_of_constants(*then)
+                && self.is_of_constants(*other),
             _ => false,
         }
     }

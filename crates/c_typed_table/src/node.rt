@@ -38,7 +38,10 @@ pub enum Node {
     /// the source.
     LocalObject(u32, TypeId),
     /// The string that stands at this offset, with its length without the ending zero.
-    TextObject { from: u32, length: u32 },
+    TextObject {
+        from: u32,
+        length: u32,
+    },
     /// What a pointer points to.
     Pointed(NodeId, TypeId),
     /// A subscript (C11 6.5.2.1).

@@ -15,5 +15,5 @@ returns-in_ok-value-in-Complement-clause-any t c = any_of c.in-Complement.kind c
 pub returns-in_ok-right-in-Arithmetic-clause-range : goal.returns-in_ok-right-in-Arithmetic-clause-range
 returns-in_ok-right-in-Arithmetic-clause-range t c = λ k e.
     let same : Integer (result_kind c.in-Arithmetic.op c.in-Arithmetic.kind) ≡ Integer k =
-        sym (ap (λ o. value_type (value_in o)) c.get.ensures.meaning ∙ ap (λ n. value_type (value_in (Some (made_in c.args.self.now n)))) c.in-Arithmetic.is) ∙ e in
+    sym (ap (λ o. value_type (value_in o)) c.get.ensures.meaning ∙ ap (λ n. value_type (value_in (Some (made_in c.args.self.now n)))) c.in-Arithmetic.is) ∙ e in
     arithmetic_range c.in-Arithmetic.op c.in-Arithmetic.kind k _ _ c.binary.result c.ok.result c.binary.ensures.answer c.binary.ensures.range c.ok.ensures.value same
