@@ -1,18 +1,19 @@
 -- Tables that grow.
-use Rattle.std.proofs.Common.{◌≡◌, ℕ, zero, suc, ◌+◌, ◌<◌, List, [], ◌∷◌, ◌++◌, length, get_or, Some, refl, sym, ap, ◌∙◌, arith, length-append, subst, ◌⊎◌, inl, inr}
+use Rattle.std.proofs.Common.{◌≡◌, ℕ, zero, suc, ◌+◌, ◌<◌, ◌≤◌, List, [], ◌∷◌, ◌++◌, length, get_or, Option, Some, refl, sym, ap, ◌∙◌, arith, length-append, subst, ◌⊎◌, inl, inr}
 use Rattle.std.specs.Prelude.{slice_get}
 use Rattle.r2_num.specs.declared.kinds.IntKind.{IntKind}
 use Rattle.r2_num.specs.declared.kinds.IntKind.TheVariants.{I8, U8, I16, U16, I32, U32, I64, U64}
 use Rattle.c_type_model.specs.Types.{CType, Void, Integer}
+use Rattle.c_type_table.specs.declared.ids.TypeId.{TypeId}
 use Rattle.c_type_table.specs.declared.ty.Ty.{Ty}
-use Rattle.c_type_table.specs.Tables.{types_of, type_at}
+use Rattle.c_type_table.specs.Tables.{at, types_of, type_at}
 use Rattle.c_typing.specs.TypedTree.{Typed, typed_type}
 use Rattle.c_typed_table.specs.declared.ids.NodeId.{NodeId}
 use Rattle.c_typed_table.specs.declared.node.Node.{Node}
 use Rattle.c_typed_table.specs.declared.entry.Entry.{Entry}
 use Rattle.c_typed_table.specs.declared.basics.BasicTypes.{BasicTypes}
 use Rattle.std.proofs.lemmas.Option.{slice_get-get_or}
-use Rattle.c_typed_table.specs.Parts.{typed_in, made, IsMadeOf}
+use Rattle.c_typed_table.specs.Parts.{part, typed_in, made, IsMadeOf, IsObject, IsAValue, IsFunction}
 use Rattle.c_typed_table.specs.Tables.{Table, typed_after, typed_of, typed_at, node_at, Names, KeepsTypes, made_in, CanHold, Keeps, IsEntry, IsTable, IsNode, AreBasic, IsSound, of_kind}
 use Rattle.c_typed_table.proofs.Kept.{Extends, SameTypes, Alike, value_kept, object_kept, callee_kept, parts_kept, made_like}
 

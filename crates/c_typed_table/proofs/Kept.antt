@@ -1,11 +1,11 @@
 -- What nodes stand for where there are more types and nodes than before.
-use Rattle.std.proofs.Common.{◌≡◌, ℕ, ◌<◌, ◌≤◌, List, [], ◌∷◌, Some, refl, sym, ap, ◌∙◌, subst, arith}
+use Rattle.std.proofs.Common.{◌≡◌, ℕ, ◌<◌, ◌≤◌, List, [], ◌∷◌, length, Option, Some, refl, sym, ap, ◌∙◌, subst, arith}
 use Rattle.std.specs.List.{All}
 use Rattle.std.proofs.lemmas.List.Elements.{All-nil, All-cons, All-head, All-tail}
 use Rattle.c_type_model.specs.Types.{CType}
 use Rattle.c_type_table.specs.declared.ids.TypeId.{TypeId}
 use Rattle.c_type_table.specs.Tables.{IsBelow, at}
-use Rattle.c_typing.specs.TypedTree.{Value, Typed, AnObject, AFunction, AValue, MoreValues, value_type, typed_type}
+use Rattle.c_typing.specs.TypedTree.{Value, Values, Typed, AnObject, AFunction, AValue, MoreValues, value_type, typed_type}
 use Rattle.c_typed_table.specs.declared.ids.NodeId.{NodeId}
 use Rattle.c_typed_table.specs.declared.node.Node.{Node}
 use Rattle.c_typed_table.specs.declared.node.Node.TheVariants as nodes

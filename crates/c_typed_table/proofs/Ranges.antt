@@ -1,5 +1,5 @@
 -- Ranges of constants.
-use Rattle.std.proofs.Common.{◌≡◌, ℤ, pos, negsuc, FitsSigned, to_z, of_z, Bool, true, false, Result, Ok, Err, Option, IfOk, IfSome, refl, sym, subst, arith}
+use Rattle.std.proofs.Common.{◌≡◌, ℤ, pos, negsuc, FitsSigned, to_z, of_z, Bool, true, false, Result, Ok, Err, Option, Some, None, IfOk, IfSome, refl, sym, ap, ◌∙◌, subst, arith, ◌≤ℤ◌}
 use Rattle.std.specs.Int.{w128}
 use Rattle.std.specs.Result.{result_ok}
 use Rattle.std.proofs.lemmas.Int.{ints, to_z-of_z}
@@ -10,8 +10,8 @@ use Rattle.r2_num.specs.declared.operations.Op.TheVariants.{Eq, Ne, Lt, Le, Gt, 
 use Rattle.r2_num.specs.declared.operations.Arith.{Arith}
 use Rattle.r2_num.specs.Kinds.{IsValue}
 use Rattle.r2_num.specs.Conversions.{wrapped}
-use Rattle.r2_num.specs.Operations.{IsAnyValue, binary_of, truth}
-use Rattle.c_type_model.specs.Types.{Integer}
+use Rattle.r2_num.specs.Operations.{IsAnyValue, binary_of, exact, truth}
+use Rattle.c_type_model.specs.Types.{CType, Integer}
 use Rattle.c_typing.specs.TypedTree.{result_kind}
 
 any_value : (k : IntKind) (v : ℤ) → IsValue k v → IsAnyValue v

@@ -1,5 +1,5 @@
 -- Where the type of a node, and the value that it is converted to, come from.
-use Rattle.std.specs.Prelude.{◌+◌, Option, Some, None}
+use Rattle.std.specs.Prelude.{ℕ, ◌+◌, Option, Some, None}
 use Rattle.r2_num.specs.declared.kinds.IntKind.TheVariants.{I32, I64}
 use Rattle.c_type_table.specs.declared.ids.TypeId.{TypeId}
 use Rattle.c_type_table.specs.declared.ty.Ty.{Ty}

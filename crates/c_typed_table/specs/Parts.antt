@@ -1,5 +1,5 @@
 -- What nodes stand for, where the numbers of types stand for `ts` and those of nodes for `xs`.
-use Rattle.std.specs.Prelude.{◌≡◌, ℕ, pos, List, [], ◌∷◌, length, Option, Some, None, slice_get}
+use Rattle.std.specs.Prelude.{◌≡◌, ℕ, pos, ◌<◌, List, [], ◌∷◌, length, Option, Some, None, slice_get}
 use Rattle.std.specs.List.{All}
 use Rattle.r2_num.specs.declared.kinds.IntKind.{IntKind}
 use Rattle.r2_num.specs.declared.kinds.IntKind.TheVariants.{I32}
@@ -7,6 +7,7 @@ use Rattle.r2_num.specs.declared.operations.Op.{Op}
 use Rattle.r2_num.specs.declared.operations.Op.TheVariants.{Shl, Shr}
 use Rattle.r2_num.specs.Kinds.{IsValue}
 use Rattle.c_type_model.specs.Types.{CType, Void, Integer}
+use Rattle.c_type_table.specs.declared.ids.TypeId.{TypeId}
 use Rattle.c_type_table.specs.Tables.{IsBelow, at}
 use Rattle.c_typing.specs.TypedTree as tree
 use Rattle.c_typing.specs.TypedTree.{Object, Value, Values, Callee, Typed, AnObject, AFunction, AValue, NoValues, MoreValues, object_type, value_type, typed_type}
