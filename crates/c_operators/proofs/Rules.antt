@@ -13,7 +13,7 @@ use Rattle.c_typing.proofs.SameTypes.{types_compared}
 use Rattle.c_typing.specs.Checked.{Checked, Fine, Broken, keep, need, ◌>>=◌, ◌>>◌}
 use Rattle.c_typing.specs.TypeTests.{same_type, is_integer, is_complete, kind_in}
 use Rattle.c_typing.specs.Constants.{is_null}
-use Rattle.c_typing.specs.Operators.{arithmetic, shift, to_kind, sum, sum_of, pointer_sum, difference, difference_of, pointer_difference, comparison, comparison_of, are_comparable, size_in}
+use Rattle.c_typing.specs.Operators.{are_comparable, arithmetic, comparison, comparison_of, difference, difference_of, pointer_difference, pointer_sum, promoted_operand, shift, size_in, sum, sum_of, to_kind}
 use Rattle.c_typing.specs.TypedTree.{Value, Sum, Arithmetic, PointerSum, PointerPlus, PlusPointer, PointerMinus, PointerDifference, PointerComparison, Convert, value_type}
 use Rattle.c_typed_table.specs.Parts.{IsRightType}
 use Rattle.c_operators.specs.declared.error.TypeError.{TypeError}
@@ -249,3 +249,12 @@ pub difference_made : (structs : List Extent) (from : ℕ) (t u : CType) (a b : 
 difference_made structs from t u a b size h k e =
     kept from 5 (same_type t u && is_complete structs t) (Fine (PointerDifference a b (size_in structs t))) (ap (λ p. p && is_complete structs t) h ∙ k)
     ∙ ap (λ n. Fine (PointerDifference a b n)) (sym e)
+
+-- ---- one operand
+
+pub operand_missing : (from : ℕ) (make : IntKind → Value → Value) (v : Value) → kind_in (value_type v) ≡ None → promoted_operand from make v ≡ Broken from 5
+operand_missing from make v h = ap (λ o. need from 5 o >>= (λ k. Fine (make (promoted k) (to_kind (promoted k) v)))) h
+
+pub operand_made : (from : ℕ) (make : IntKind → Value → Value) (v : Value) (k kind : IntKind) → kind_in (value_type v) ≡ Some k → kind ≡ promoted k → promoted_operand from make v ≡ Fine (make kind (to_kind kind v))
+operand_made from make v k kind h e =
+    ap (λ o. need from 5 o >>= (λ k. Fine (make (promoted k) (to_kind (promoted k) v)))) h ∙ ap (λ j. Fine (make j (to_kind j v))) (sym e)

@@ -1,12 +1,12 @@
 -- How answers agree with what the rules say.
-use Rattle.std.specs.Prelude.{◌≡◌, ℕ, ◌<◌, Bool, true, false, List, length, Option, Some, None, Result, Ok, Err}
+use Rattle.std.specs.Prelude.{◌≡◌, ℕ, ◌<◌, Bool, true, false, ◌&&◌, ◌||◌, List, length, Option, Some, None, Result, Ok, Err}
 use Rattle.c_type_model.specs.declared.extent.Extent.{Extent}
 use Rattle.c_type_model.specs.Types.{CType, PointerTo}
 use Rattle.c_type_table.specs.declared.ids.TypeId.{TypeId}
 use Rattle.c_type_table.specs.declared.ty.Ty.{Ty}
 use Rattle.c_type_table.specs.Tables.{type_at}
 use Rattle.c_typing.specs.Checked.{Checked, Fine, Broken, keep, ◌>>◌}
-use Rattle.c_typing.specs.TypeTests.{is_complete}
+use Rattle.c_typing.specs.TypeTests.{is_complete, is_object, is_void, same_type}
 use Rattle.c_typing.specs.Operators.{size_in}
 use Rattle.c_typing.specs.TypedTree.{Value, AValue}
 use Rattle.c_typed_table.specs.declared.ids.NodeId.{NodeId}
@@ -42,3 +42,7 @@ IsSizeOf structs c None = is_complete structs c ≡ false
 -- what a node is, where it keeps the rule
 abbrev pub if_kept : (from rule : ℕ) → Bool → Checked Value → Checked Value
 if_kept from rule holds c = keep from rule holds >> c
+
+-- a pointer to one of these may be assigned to a pointer to the other (C11 6.5.16.1)
+abbrev pub are_compatible : CType → CType → Bool
+are_compatible t u = same_type t u || ((is_void t && is_object u) || (is_object t && is_void u))

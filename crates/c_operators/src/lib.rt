@@ -4,12 +4,16 @@
 mod arithmetic;
 mod between;
 mod comparison;
+mod conversions;
 mod error;
 mod logic;
 mod pointers;
 mod queries;
 #[cfg(test)]
 mod tests;
+mod unary;
 
 pub use between::binary;
+pub use conversions::{assigned, cast};
 pub use error::TypeError;
+pub use unary::signed_operand;
