@@ -8,7 +8,7 @@ use Rattle.c_type_table.specs.Tables.{type_at}
 use Rattle.c_typing.specs.Checked.{Checked, Fine, Broken, keep, ◌>>◌}
 use Rattle.c_typing.specs.TypeTests.{is_complete, is_object, is_void, same_type}
 use Rattle.c_typing.specs.Operators.{size_in}
-use Rattle.c_typing.specs.TypedTree.{Value, AValue}
+use Rattle.c_typing.specs.TypedTree.{Value, Typed, AValue}
 use Rattle.c_typed_table.specs.declared.ids.NodeId.{NodeId}
 use Rattle.c_typed_table.specs.Tables.{Table, typed_at}
 use Rattle.c_operators.specs.declared.error.TypeError.{TypeError}
@@ -24,6 +24,10 @@ Agrees is _ _ = ⊥
 -- the value stands at the number
 abbrev pub IsAt : Table → Value → NodeId → Type 0
 IsAt t v id = typed_at t id ≡ Some (AValue v)
+
+-- the same of what is an object, a function or a value
+abbrev pub StandsAt : Table → Typed → NodeId → Type 0
+StandsAt t x id = typed_at t id ≡ Some x
 
 abbrev pub is_pointer : CType → Bool
 is_pointer (PointerTo t) = true

@@ -9,6 +9,7 @@ mod error;
 mod logic;
 mod pointers;
 mod queries;
+mod subscripts;
 #[cfg(test)]
 mod tests;
 mod unary;
@@ -16,4 +17,5 @@ mod unary;
 pub use between::binary;
 pub use conversions::{assigned, cast};
 pub use error::TypeError;
+pub use subscripts::subscript;
 pub use unary::signed_operand;
