@@ -1,3 +1,4 @@
 mod Rules
 mod Values
 mod Elements
+mod Targets
