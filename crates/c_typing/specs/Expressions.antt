@@ -94,7 +94,7 @@ element structs from s t p i = do
   keep from 14 (is_integer (value_type i))
   Fine (AnObject (Element s p (to_kind I64 i) t))
 
-abbrev subscript_of : (structs : List Extent) → (from : ℕ) → Value → Value → CType → CType → Checked Typed
+abbrev pub subscript_of : (structs : List Extent) → (from : ℕ) → Value → Value → CType → CType → Checked Typed
 subscript_of structs from a b (PointerTo t) u = element structs from PointerPlus t a b
 subscript_of structs from a b t (PointerTo u) = element structs from PlusPointer u b a
 subscript_of structs from a b t u = Broken from 14
@@ -109,7 +109,7 @@ address from (AnObject o) = Fine (AValue (AddressOf o (PointerTo (object_type o)
 address from (AFunction f t) = Fine (AValue (address_of_callee f t))
 address from (AValue v) = Broken from 8
 
-abbrev a_value : Checked Value → Checked Typed
+abbrev pub a_value : Checked Value → Checked Typed
 a_value c = do
   v ← c
   Fine (AValue v)
@@ -133,7 +133,7 @@ abbrev pub function_type : (from : ℕ) → CType → Checked (CType × CTypes)
 function_type from (FunctionOf r ps) = Fine (r, ps)
 function_type from t = Broken from 9
 
-abbrev called_value : (from : ℕ) → Value → CType → Checked (Callee × CType × CTypes)
+abbrev pub called_value : (from : ℕ) → Value → CType → Checked (Callee × CType × CTypes)
 called_value from v (PointerTo t) = do
   f ← function_type from t
   Fine (Through v, f.0, f.1)

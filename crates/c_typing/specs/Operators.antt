@@ -47,7 +47,7 @@ pointer_sum structs from rule s t p i = do
   keep from rule (is_integer (value_type i))
   Fine (PointerSum s p (to_kind I64 i) (size_in structs t))
 
-abbrev sum_of : (structs : List Extent) → (from : ℕ) → Value → Value → CType → CType → Checked Value
+abbrev pub sum_of : (structs : List Extent) → (from : ℕ) → Value → Value → CType → CType → Checked Value
 sum_of structs from a b (PointerTo t) u = pointer_sum structs from 5 PointerPlus t a b
 sum_of structs from a b t (PointerTo u) = pointer_sum structs from 5 PlusPointer u b a
 sum_of structs from a b t u = arithmetic from Add a b
@@ -60,7 +60,7 @@ pointer_difference structs from t u a b = do
   keep from 5 (same_type t u && is_complete structs t)
   Fine (PointerDifference a b (size_in structs t))
 
-abbrev difference_of : (structs : List Extent) → (from : ℕ) → Value → Value → CType → CType → Checked Value
+abbrev pub difference_of : (structs : List Extent) → (from : ℕ) → Value → Value → CType → CType → Checked Value
 difference_of structs from a b (PointerTo t) (PointerTo u) = pointer_difference structs from t u a b
 difference_of structs from a b (PointerTo t) u = pointer_sum structs from 5 PointerMinus t a b
 difference_of structs from a b t u = arithmetic from Sub a b
@@ -72,7 +72,7 @@ difference structs from a b = difference_of structs from a b (value_type a) (val
 abbrev pub are_comparable : CType → CType → Bool
 are_comparable t u = same_type t u || (is_void t || is_void u)
 
-abbrev comparison_of : (from : ℕ) → Op → Value → Value → CType → CType → Checked Value
+abbrev pub comparison_of : (from : ℕ) → Op → Value → Value → CType → CType → Checked Value
 comparison_of from op a b (PointerTo t) (PointerTo u) = keep from 5 (are_comparable t u) >> Fine (PointerComparison op a b)
 comparison_of from op a b (PointerTo t) u = keep from 5 (is_null b) >> Fine (PointerComparison op a (Convert (PointerTo t) b))
 comparison_of from op a b t (PointerTo u) = keep from 5 (is_null a) >> Fine (PointerComparison op (Convert (PointerTo u) a) b)
@@ -121,7 +121,7 @@ promoted_operand from make v = do
   k ← integer_kind from v
   Fine (make (promoted k) (to_kind (promoted k) v))
 
-abbrev as_it_is : IntKind → Value → Value
+abbrev pub as_it_is : IntKind → Value → Value
 as_it_is k v = v
 
 abbrev pub signed_operand : (from : ℕ) → Sign → Value → Checked Value
@@ -132,7 +132,7 @@ signed_operand from signs.Exclamation v = scalar from v >> Fine (Not v)
 signed_operand from _ v = Broken from 5
 
 -- a value of this type may be assigned to an object of that one (C11 6.5.16.1)
-abbrev fits : CType → CType → Value → Bool
+abbrev pub fits : CType → CType → Value → Bool
 fits (Integer j) (Integer k) v = true
 fits (PointerTo t) (PointerTo u) v = same_type t u || ((is_void t && is_object u) || (is_object t && is_void u))
 fits (PointerTo t) (Integer k) v = is_null v
@@ -163,7 +163,7 @@ operator_in signs.CaretAssign = Some Xor
 operator_in signs.BarAssign = Some Or
 operator_in _ = None
 
-abbrev changed : (from : ℕ) → Op → Object → IntKind → Value → Checked Value
+abbrev pub changed : (from : ℕ) → Op → Object → IntKind → Value → Checked Value
 changed from Shl o j b = do
   k ← integer_kind from b
   Fine (Changed o Shl (promoted j) (to_kind (promoted k) b))
@@ -174,19 +174,19 @@ changed from op o j b = do
   k ← integer_kind from b
   Fine (Changed o op (common_of j k) (to_kind (common_of j k) b))
 
-abbrev moved : (structs : List Extent) → (from : ℕ) → Way → Object → (target : CType) → Value → Checked Value
+abbrev pub moved : (structs : List Extent) → (from : ℕ) → Way → Object → (target : CType) → Value → Checked Value
 moved structs from w o t i = do
   keep from 5 (is_complete structs t)
   keep from 5 (is_integer (value_type i))
   Fine (Moved o w (to_kind I64 i) (size_in structs t))
 
-abbrev compound_of : (structs : List Extent) → (from : ℕ) → Op → Object → CType → Value → Checked Value
+abbrev pub compound_of : (structs : List Extent) → (from : ℕ) → Op → Object → CType → Value → Checked Value
 compound_of structs from op o (Integer j) b = changed from op o j b
 compound_of structs from Add o (PointerTo t) b = moved structs from Up o t b
 compound_of structs from Sub o (PointerTo t) b = moved structs from Down o t b
 compound_of structs from op o t b = Broken from 5
 
-abbrev assignment_of : (structs : List Extent) → (from : ℕ) → Option Op → Object → Value → Checked Value
+abbrev pub assignment_of : (structs : List Extent) → (from : ℕ) → Option Op → Object → Value → Checked Value
 assignment_of structs from None o b = do
   v ← assigned from (object_type o) b
   Fine (Assigned o v)
@@ -198,7 +198,7 @@ assignment structs from s a b = do
   o ← left_object from a
   assignment_of structs from (operator_in s) o b
 
-abbrev step_of : (structs : List Extent) → (from : ℕ) → Way → Given → Object → CType → Checked Value
+abbrev pub step_of : (structs : List Extent) → (from : ℕ) → Way → Given → Object → CType → Checked Value
 step_of structs from w g o (Integer k) = Fine (Stepped o w g 1)
 step_of structs from w g o (PointerTo t) = keep from 8 (is_complete structs t) >> Fine (Stepped o w g (size_in structs t))
 step_of structs from w g o t = Broken from 8
@@ -208,12 +208,12 @@ abbrev pub step : (structs : List Extent) → (from : ℕ) → Way → Given →
 step structs from w g (AnObject o) = step_of structs from w g o (object_type o)
 step structs from w g _ = Broken from 8
 
-abbrev pointers_chosen : (from : ℕ) → Value → Value → Value → CType → CType → Checked Value
+abbrev pub pointers_chosen : (from : ℕ) → Value → Value → Value → CType → CType → Checked Value
 pointers_chosen from c a b Void u = Fine (Choice c a (Convert (PointerTo Void) b))
 pointers_chosen from c a b t Void = Fine (Choice c (Convert (PointerTo Void) a) b)
 pointers_chosen from c a b t u = Broken from 20
 
-abbrev unlike_chosen : (from : ℕ) → Value → Value → Value → CType → CType → Checked Value
+abbrev pub unlike_chosen : (from : ℕ) → Value → Value → Value → CType → CType → Checked Value
 unlike_chosen from c a b (Integer j) (Integer k) = Fine (Choice c (to_kind (common_of j k) a) (to_kind (common_of j k) b))
 unlike_chosen from c a b (PointerTo t) (PointerTo u) = pointers_chosen from c a b t u
 unlike_chosen from c a b (PointerTo t) u = keep from 20 (is_null b) >> Fine (Choice c a (Convert (PointerTo t) b))

@@ -1,0 +1,4 @@
+mod Rules
+mod Values
+mod Elements
+mod Targets

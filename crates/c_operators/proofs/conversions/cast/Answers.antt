@@ -1,0 +1,23 @@
+use Rattle.std.proofs.Common.{◌≡◌, sym, ap, ◌∙◌, Some, Ok, Err}
+use Rattle.c_type_table.specs.Tables.{type_at}
+use Rattle.c_typing.specs.Checked.{Fine}
+use Rattle.c_typing.specs.Operators.{as_it_is, can_cast, fits, to_kind}
+use Rattle.c_typing.specs.TypedTree.{AValue, Complement, Convert, Negate, Not, value_type}
+use Rattle.c_typing.specs.TypeTests.{is_scalar}
+use Rattle.c_typed_table.specs.Tables.{value_at}
+use Rattle.c_typed_table.proofs.Growing.{through}
+use Rattle.c_operators.proofs.Rules.{missing, passed, rule, broken, kept, operand_made, operand_missing}
+use Rattle.c_operators.proofs.Values.{is_value, value_is}
+use Rattle.c_operators.proofs.conversions.cast.Goals as goal
+
+pub returns-then-not-can_cast-clause-agrees : goal.returns-then-not-can_cast-clause-agrees
+returns-then-not-can_cast-clause-agrees c =
+    let t = c.args.table.now in
+    let v = value_at t c.args.value in
+    rule t _ _ _ (broken c.args.from 7 (can_cast (type_at t.types c.args.ty) (value_type v)) (Fine (Convert (type_at t.types c.args.ty) v)) (sym c.can_cast.ensures ∙ c.if-not-can_cast.true))
+
+pub returns-clause-agrees : goal.returns-clause-agrees
+returns-clause-agrees c =
+    let t = c.args.table.now in
+    let v = value_at t c.args.value in
+    passed c.add.new.self _ _ (Ok c.in_ok-add.field-0) (kept c.args.from 7 (can_cast (type_at t.types c.args.ty) (value_type v)) (Fine (Convert (type_at t.types c.args.ty) v)) (sym c.can_cast.ensures ∙ c.if-not-can_cast.false)) c.in_ok-add.ensures.added

@@ -1,0 +1,72 @@
+//! Which types values have.
+
+ghost use Rattle.std.specs.Prelude.{◌≡◌, ◌<◌, length};
+ghost use Rattle.c_typing.specs.TypedTree.{value_type};
+ghost use Rattle.c_typing.specs.TypeTests.{is_integer as is_integer_type, is_scalar as is_scalar_type, kind_in, same_type};
+ghost use Rattle.c_type_table.specs.Tables.{type_at};
+ghost use Rattle.c_typed_table.specs.Tables.{IsValueAt, value_at};
+ghost use Rattle.c_operators.specs.Answers.{IsSizeOf, IsTarget};
+
+use c_type_model::Extent;
+use c_type_table::{Ty, TypeId};
+use c_typed_table::{NodeId, TypedTable};
+use r2_num::IntKind;
+
+/// The kind of an integer; `None` of any other value.
+pub fn kind_of(table: &TypedTable, value: NodeId) -> Option<IntKind>
+    requires { IsValueAt table.now value }
+    ensures { result ≡ kind_in (value_type (value_at table.now value)) }
+{
+    match table.types().get(table.type_of(value)) {
+        Ty::Int(kind) => Some(*kind),
+        _ => None,
+    }
+}
+
+/// What a pointer points to; `None` of any other value.
+pub fn target_of(table: &TypedTable, value: NodeId) -> Option<TypeId>
+    requires { IsValueAt table.now value }
+    ensures { IsTarget table.now.types (value_type (value_at table.now value)) result }
+{
+    match table.types().get(table.type_of(value)) {
+        Ty::Pointer(target) => Some(*target),
+        _ => None,
+    }
+}
+
+/// Whether a value is an integer.
+pub fn is_integer(table: &TypedTable, value: NodeId) -> bool
+    requires { IsValueAt table.now value }
+    ensures { result ≡ is_integer_type (value_type (value_at table.now value)) }
+{
+    matches!(table.types().get(table.type_of(value)), Ty::Int(_))
+}
+
+/// Whether a value is an integer or a pointer (C11 6.2.5, 21).
+pub fn is_scalar(table: &TypedTable, value: NodeId) -> bool
+    requires { IsValueAt table.now value }
+    ensures { result ≡ is_scalar_type (value_type (value_at table.now value)) }
+{
+    matches!(
+        table.types().get(table.type_of(value)),
+        Ty::Int(_) | Ty::Pointer(_)
+    )
+}
+
+/// Whether the two types are equal.
+pub fn are_equal(table: &TypedTable, a: TypeId, b: TypeId) -> bool
+    requires left { a.0 < length table.now.types }
+    requires right { b.0 < length table.now.types }
+    ensures { result ≡ same_type (type_at table.now.types a) (type_at table.now.types b) }
+{
+    table.types().is_same(a, b)
+}
+
+/// The size in bytes of a complete object type; `None` of any other. A size past 2^64 - 1 counts as 2^64 - 1.
+pub fn size_of(table: &TypedTable, structs: &[Extent], ty: TypeId) -> Option<u64>
+    requires { ty.0 < length table.now.types }
+    ensures { IsSizeOf structs.now (type_at table.now.types ty) result }
+{
+    let extent = table.types().extent(structs, ty)?;
+    Some(extent.size)
+}

@@ -1,0 +1,4 @@
+pub mod Kept
+pub mod Growing
+pub mod Weights
+pub mod Ranges

@@ -1,0 +1,19 @@
+//! A table of typed nodes that name each other by number.
+#![tactic(auto)]
+
+mod basics;
+mod constants;
+mod entry;
+mod forms;
+mod ids;
+mod node;
+mod table;
+#[cfg(test)]
+mod tests;
+mod values;
+
+pub use basics::BasicTypes;
+pub use entry::Entry;
+pub use ids::{NodeId, NodeIds};
+pub use node::{Given, Node, Sum, Way};
+pub use table::TypedTable;
