@@ -8,3 +8,7 @@ pub mod Pushes
 pub mod Space
 pub mod Hearing
 mod Empty
+pub mod Facts
+pub mod Making
+pub mod Marked
+pub mod Calling

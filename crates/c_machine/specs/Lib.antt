@@ -6,3 +6,4 @@ pub mod Called
 pub mod Rooms
 pub mod Readers
 pub mod Answers
+pub mod Makes

@@ -6,6 +6,7 @@ mod called;
 mod calls;
 mod effect;
 mod feed;
+mod laws;
 mod look;
 mod position;
 mod readers;
@@ -18,5 +19,6 @@ mod thread;
 mod tops;
 mod wants;
 
+pub use laws::each_list_can_be_made;
 pub use thread::Thread;
 pub use wants::{Answer, Want};

@@ -1,0 +1,18 @@
+//! What holds of the lists of marks that a thread makes, as contracts of functions that do nothing.
+
+ghost use Rattle.std.specs.Prelude.{ℕ};
+ghost use Rattle.c_code.specs.Machine.{Laid, Config};
+ghost use Rattle.c_code.specs.MarkLists.{Reading};
+ghost use Rattle.c_machine.specs.Makes.{EachListCanBeMade, EachCallIsMarks};
+
+/// A law: each list of marks of the code can be made by the calls of a thread, where after no mark more activations are open on
+/// a side than its depth.
+#[tactic(auto, using(crate::proofs::Making::each_list_can_be_made))]
+pub fn each_list_can_be_made()
+    ensures { (r : Reading) (l : Laid) (depth : ℕ) (c : Config) → EachListCanBeMade r l depth c }
+{}
+
+/// A law: each call of a thread makes marks of its code, as far as the reading of what is below the cut has it.
+pub fn each_call_is_marks()
+    ensures { (r : Reading) (l : Laid) (depth : ℕ) (c : Config) → EachCallIsMarks r l depth c }
+{}
