@@ -12,3 +12,4 @@ pub mod Facts
 pub mod Making
 pub mod Marked
 pub mod Calling
+pub mod Callers

@@ -7,3 +7,4 @@ pub mod Rooms
 pub mod Readers
 pub mod Answers
 pub mod Makes
+pub mod Callers
