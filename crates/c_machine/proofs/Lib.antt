@@ -13,3 +13,4 @@ pub mod Making
 pub mod Marked
 pub mod Calling
 pub mod Callers
+mod Program
