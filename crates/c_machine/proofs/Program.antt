@@ -2,6 +2,7 @@
 use Rattle.std.proofs.Common.{◌≡◌, ℕ, zero, suc, ◌+◌, ◌-◌, ◌%◌, ◌<◌, ◌≤◌, Bool, true, false, cond, ltb, List, [], ◌∷◌, length, get_or, Option, Some, None, refl, sym, ap, ◌∙◌, subst, arith}
 use Rattle.std.specs.Prelude.{slice_get}
 use Rattle.r2_num.specs.declared.kinds.IntKind.TheVariants.{I8, I32}
+use Rattle.c_code.specs.declared.shape.Shape.{Shape}
 use Rattle.c_code.specs.declared.shape.Shape.TheVariants.{Int}
 use Rattle.c_code.specs.declared.code.FuncInfo.{FuncInfo}
 use Rattle.c_code.specs.declared.instr.Push.TheVariants.{Number, Local}
@@ -14,8 +15,11 @@ use Rattle.c_code.specs.Valid.{IsValid, IsSteady, Keeps, HasBody}
 abbrev pub body : List Instr
 body = instr.Turn ∷ (instr.Push (Local 0)) ∷ (instr.Load I8 None) ∷ (instr.SkipIfZero 1) ∷ (instr.GoBack 3) ∷ (instr.Push (Local 0)) ∷ (instr.Push (Number 0x1ff)) ∷ (instr.Store I8 None) ∷ instr.Drop ∷ (instr.Push (Number 5)) ∷ instr.Finish ∷ []
 
+abbrev info : List ℕ → List Shape → FuncInfo
+info name params = record { name = name; params = params; result = Int I32; sig = 1; frame = 16; entry = Some 0 }
+
 abbrev pub main : FuncInfo
-main = record { name = []; params = []; result = Int I32; sig = 1; frame = 16; entry = Some 0 }
+main = info [] []
 
 abbrev program : Flat
 program = flat [] (main ∷ []) body
@@ -72,3 +76,6 @@ program_is_valid = record {
 pub valid_if_program : (b s : List FuncInfo) (i : List Instr) → b ≡ [] → s ≡ main ∷ [] → i ≡ body → IsValid (flat b s i)
 valid_if_program b s i eb es ei =
     subst (λ (x : List FuncInfo). IsValid (flat x s i)) (sym eb) (subst (λ (x : List FuncInfo). IsValid (flat [] x i)) (sym es) (subst (λ (x : List Instr). IsValid (flat [] (main ∷ []) x)) (sym ei) program_is_valid))
+
+pub main_is : (name : List ℕ) (params : List Shape) → name ≡ [] → params ≡ [] → info name params ∷ [] ≡ main ∷ []
+main_is name params en ep = ap (λ (n : List ℕ). info n params ∷ []) en ∙ ap (λ (q : List Shape). info [] q ∷ []) ep
