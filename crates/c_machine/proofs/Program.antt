@@ -1,5 +1,5 @@
 -- The code of a small function, which the tests run, is valid.
-use Rattle.std.proofs.Common.{◌≡◌, ℕ, zero, suc, ◌+◌, ◌-◌, ◌%◌, ◌<◌, ◌≤◌, Bool, true, false, cond, ltb, List, [], ◌∷◌, length, get_or, Option, Some, None, refl, sym, ap, ◌∙◌, subst, arith}
+use Rattle.std.proofs.Common.{◌≡◌, ℕ, zero, suc, ◌-◌, ◌≤◌, Bool, true, false, cond, ltb, List, [], ◌∷◌, length, get_or, Some, None, refl, sym, ap, ◌∙◌, subst, arith}
 use Rattle.std.specs.Prelude.{slice_get}
 use Rattle.r2_num.specs.declared.kinds.IntKind.TheVariants.{I8, I32}
 use Rattle.c_code.specs.declared.shape.Shape.{Shape}
@@ -9,7 +9,7 @@ use Rattle.c_code.specs.declared.instr.Push.TheVariants.{Number, Local}
 use Rattle.c_code.specs.declared.instr.Instr.{Instr}
 use Rattle.c_code.specs.declared.instr.Instr.TheVariants as instr
 use Rattle.c_code.specs.Machine.{Flat, flat, func_of}
-use Rattle.c_code.specs.Valid.{IsValid, IsSteady, Keeps, HasBody}
+use Rattle.c_code.specs.Valid.{IsValid, Keeps, HasBody}
 
 -- `while (c) {} c = 0x1ff; return 5;` with a local `char c`
 abbrev pub body : List Instr

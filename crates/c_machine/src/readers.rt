@@ -128,12 +128,11 @@ pub fn is_call_of(code: &Code, func: u16, args: &[u64]) -> bool
 fn are_values(shapes: &[Shape], args: &[u64]) -> bool
     ensures { result ≡ values_are shapes.now args.now }
 {
-    match (shapes, args) {
-        ([], []) => true,
-        ([shape, shapes @ ..], [value, args @ ..]) => {
-            shape.has_value(*value) && are_values(shapes, args)
-        }
-        ([], [_, ..]) => false,
-        ([_, ..], []) => false,
+    match shapes {
+        [] => args.is_empty(),
+        [shape, others @ ..] => match args {
+            [] => false,
+            [value, rest @ ..] => shape.has_value(*value) && are_values(others, rest),
+        },
     }
 }

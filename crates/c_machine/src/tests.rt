@@ -1,4 +1,5 @@
-ghost use Rattle.std.specs.Prelude.{IfSome};
+ghost use Rattle.std.specs.Prelude.{◌≡◌, ◌<◌, IfSome};
+ghost use Rattle.c_code.specs.Machine.{Done};
 ghost use Rattle.c_machine.specs.Positions.{laid};
 ghost use Rattle.c_machine.specs.Answers.{IsNeeded};
 ghost use Rattle.c_machine.specs.Moves.{IsInside};
@@ -27,14 +28,16 @@ fn a_new_thread_is_in_no_function(rt: HostRuntime) -> Result<(), Fail> {
 
 // `int main(void) { char c; while (c) {} c = 0x1ff; return 5; }`
 fn small_program(alloc: Global) -> Result<Code, AllocError> {
-    let sources = vec![in alloc; FuncInfo {
-        name: Bytes8::new(alloc),
-        params: Shapes::new(alloc),
-        result: Shape::Int(IntKind::I32),
-        sig: 1,
-        frame: 16,
-        entry: Some(0),
-    }]?;
+    let sources = vec![in alloc;
+        FuncInfo {
+            name: Bytes8::new(alloc),
+            params: Shapes::new(alloc),
+            result: Shape::Int(IntKind::I32),
+            sig: 1,
+            frame: 16,
+            entry: Some(0),
+        },
+    ]?;
     let instrs = vec![in alloc;
         Instr::Turn,
         Instr::Push(Push::Local(0)),
@@ -104,14 +107,25 @@ fn make(thread: &mut Thread, code: &Code, placed: &Placed, number: u64) -> Want
     want
 }
 
+// Begins function 16, if it takes no arguments.
+fn start(thread: &mut Thread, code: &Code, placed: &Placed)
+    requires inside { IsInside (laid code.now placed.now) thread.old.config }
+    requires done { thread.old.config ≡ Done 0 }
+    requires depth { 0 < thread.old.depth }
+    ensures { IsInside (laid code.now placed.now) thread.new.config }
+{
+    if is_call_of(code, 16, &[]) {
+        thread.begin(code, placed, 16, &[], Side::Replay, false);
+    }
+}
+
 #[test]
 fn a_loop_makes_its_marks(rt: HostRuntime) -> Result<(), Fail> {
     let alloc = rt.alloc();
     let code = small_program(alloc)?;
     let placed = nothing_placed(alloc);
     let mut thread = Thread::new(alloc, 0, 1)?;
-    assert!(rt; is_call_of(&code, 16, &[]));
-    thread.begin(&code, &placed, 16, &[], Side::Replay, false);
+    start(&mut thread, &code, &placed);
     let frame = 0x2000_0000;
     let load = Want::Load {
         addr: frame,

@@ -1,6 +1,6 @@
-use Rattle.std.proofs.Common.{arith, ap, ◌∙◌, ◌∷◌, ◌≡◌}
+use Rattle.std.proofs.Common.{arith}
 use Rattle.c_stacks.specs.Stacks.{held}
-use Rattle.c_machine.proofs.Pushes.{count, one_more}
+use Rattle.c_machine.proofs.Pushes.{count}
 use Rattle.c_machine.proofs.begin.push_all.Goals as goal
 
 pub push-requires : goal.push-requires

@@ -1,4 +1,4 @@
-use Rattle.std.proofs.Common.{◌≡◌, ◌<◌, sym, subst}
+use Rattle.std.proofs.Common.{◌<◌, sym, subst}
 use Rattle.c_machine.specs.Positions.{laid, config}
 use Rattle.c_machine.specs.Moves.{ThreadState, IsInside, MayBegin, open_on}
 use Rattle.c_machine.proofs.Begins.{begun_few, begun_inside}

@@ -1,9 +1,8 @@
-use Rattle.std.proofs.Common.{◌≡◌, ◌≤◌, sym, subst, ap, ◌∙◌, arith}
-use Rattle.marks.specs.declared.side.Side.{Side}
+use Rattle.std.proofs.Common.{sym, subst, ap, ◌∙◌, arith}
 use Rattle.c_stacks.specs.Stacks.{room_of}
 use Rattle.c_machine.specs.Positions.{laid, config}
 use Rattle.c_machine.specs.Wants.{told}
-use Rattle.c_machine.specs.Moves.{ThreadState, IsInside, MayFeed, FitsIn, fed, ready, rested, open_on}
+use Rattle.c_machine.specs.Moves.{ThreadState, IsInside, MayFeed, FitsIn, ready, rested}
 use Rattle.c_machine.proofs.Onward.{After}
 use Rattle.c_machine.proofs.Insides.{fed_on, fed_fits, fed_inside, enters_there}
 use Rattle.c_machine.proofs.Space.{take_room, settle_room, kept_room}
