@@ -14,3 +14,4 @@ pub mod Marked
 pub mod Calling
 pub mod Callers
 mod Program
+pub mod Counts

@@ -8,6 +8,7 @@ mod effect;
 mod feed;
 mod laws;
 mod look;
+mod opens;
 mod position;
 mod readers;
 mod settle;
