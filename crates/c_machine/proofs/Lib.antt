@@ -15,3 +15,4 @@ pub mod Calling
 pub mod Callers
 mod Program
 pub mod Counts
+pub mod Firsts
