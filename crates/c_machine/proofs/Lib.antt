@@ -8,3 +8,11 @@ pub mod Pushes
 pub mod Space
 pub mod Hearing
 mod Empty
+pub mod Facts
+pub mod Making
+pub mod Marked
+pub mod Calling
+pub mod Callers
+mod Program
+pub mod Counts
+pub mod Firsts

@@ -6,3 +6,5 @@ pub mod Called
 pub mod Rooms
 pub mod Readers
 pub mod Answers
+pub mod Makes
+pub mod Callers

@@ -1,11 +1,13 @@
 //! What a thread is asked and told.
 
-ghost use Rattle.std.specs.Prelude.{◌≡◌, ◌<◌, Some, IfOk};
+ghost use Rattle.std.specs.Prelude.{◌≡◌, ℕ, ◌<◌, Some, IfOk};
 ghost use Rattle.c_code.specs.Machine.{Laid, Done, action};
 ghost use Rattle.c_machine.specs.Positions.{laid};
 ghost use Rattle.c_machine.specs.declared.wants.Answer.{Answer as Answers};
 ghost use Rattle.c_machine.specs.Wants.{shown, told};
 ghost use Rattle.c_machine.specs.Answers.{IsNeeded};
+ghost use Rattle.c_machine.specs.declared.wants.Want.TheVariants.{Call as WantedCall};
+ghost use Rattle.c_machine.specs.Callers.{IsAtCall};
 ghost use Rattle.c_machine.specs.Moves.{MayBegin, MayFeed, IsInside, open_on, fed, begun, rested};
 
 use crate::position::Position;
@@ -41,6 +43,7 @@ impl Thread {
     pub fn next(&self, code: &Code, placed: &Placed) -> Want
         requires inside { IsInside (laid code.now placed.now) self.now.config }
         ensures want { shown (laid code.now placed.now) (action (laid code.now placed.now) self.now.config) ≡ Some result }
+        ensures call { (f : ℕ) → result ≡ WantedCall f → IsAtCall (laid code.now placed.now) self.now.config f }
         ensures answers { (answer : Answers) → IsNeeded result answer → MayFeed (laid code.now placed.now) self.now.config (told answer) }
     {
         check(code);

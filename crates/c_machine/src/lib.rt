@@ -6,7 +6,9 @@ mod called;
 mod calls;
 mod effect;
 mod feed;
+mod laws;
 mod look;
+mod opens;
 mod position;
 mod readers;
 mod settle;
@@ -18,5 +20,9 @@ mod thread;
 mod tops;
 mod wants;
 
+pub use laws::{
+    each_call_is_marks, each_list_can_be_made, each_start_is_marks, each_thread_can_be_made,
+};
+pub use readers::is_call_of;
 pub use thread::Thread;
 pub use wants::{Answer, Want};

@@ -1,13 +1,18 @@
 //! What a thread tells of itself.
 
-ghost use Rattle.std.specs.Prelude.{◌≡◌};
-ghost use Rattle.c_machine.specs.Positions.{config};
+ghost use Rattle.std.specs.Prelude.{◌≡◌, IsTrue, IsFalse};
+ghost use Rattle.places.specs.declared.placed.Placed.{Placed as Places};
+ghost use Rattle.c_code.specs.Frames.{are_values as values_are};
+ghost use Rattle.c_machine.specs.Callers.{crosses_at};
+ghost use Rattle.c_machine.specs.Moves.{IsCallOf};
+ghost use Rattle.c_machine.specs.Positions.{laid, config};
 ghost use Rattle.c_machine.specs.Readers.{args_of, side_of, is_indirect};
 
+use crate::begin::crosses;
 use crate::position::Position;
 use crate::state::State;
 use crate::thread::Thread;
-use c_code::Side;
+use c_code::{Code, Placed, Shape, Side};
 
 impl Position {
     fn args(&self) -> &[u64]
@@ -50,6 +55,21 @@ impl Position {
     }
 }
 
+impl Position {
+    fn crosses(&self, code: &Code, placed: &Placed) -> bool
+        ensures { result ≡ crosses_at (laid code.now placed.now) (config self.now) }
+    {
+        match self.state {
+            State::Calling(call) => crosses(call, code, placed),
+            State::Entering(_) => false,
+            State::Going(_) => false,
+            State::Closing(_, _) => false,
+            State::Done(_) => false,
+            State::Lost => false,
+        }
+    }
+}
+
 impl Thread {
     /// The thread's number.
     pub fn number(&self) -> u8
@@ -84,5 +104,35 @@ impl Thread {
         ensures { result ≡ is_indirect self.now.config }
     {
         self.position.indirect()
+    }
+
+    /// Whether the call that is next crosses the cut: replay code calls a function of the interface.
+    pub fn crosses(&self, code: &Code, placed: &Placed) -> bool
+        ensures { result ≡ crosses_at (laid code.now placed.now) self.now.config }
+    {
+        self.position.crosses(code, placed)
+    }
+}
+
+/// Whether the function has a body, and the arguments are values of its parameters' types, one for each.
+pub fn is_call_of(code: &Code, func: u16, args: &[u64]) -> bool
+    ensures yes { (placed : Places) → IsTrue result → IsCallOf (laid code.now placed) func args.now }
+    ensures no { (placed : Places) → IsFalse result → IsCallOf (laid code.now placed) func args.now → ⊥ }
+{
+    match code.func(func) {
+        Some(info) => info.entry.is_some() && are_values(info.params.as_slice(), args),
+        None => false,
+    }
+}
+
+fn are_values(shapes: &[Shape], args: &[u64]) -> bool
+    ensures { result ≡ values_are shapes.now args.now }
+{
+    match shapes {
+        [] => args.is_empty(),
+        [shape, others @ ..] => match args {
+            [] => false,
+            [value, rest @ ..] => shape.has_value(*value) && are_values(others, rest),
+        },
     }
 }
