@@ -17,12 +17,13 @@ pub struct Activation {
 pub enum Waiting {
     /// A call that keeps the mode, or of the interface by system code.
     ForValue(Activation),
-    /// A call by replay code of this function of the interface, which has a body: a return is wanted after it.
-    ForRet(Activation, u16),
+    /// A call by replay code of a function of the interface, which has a body: a return with the arguments of the call is wanted
+    /// after it. They wait on top of its values, and below them its address where it was called through one.
+    ForRet(Call),
     /// A call by system code that calls this function back.
     ForUpRet(Activation, u16),
     /// The system code below a call by replay code of a function of the interface, which called another one back. The
-    /// arguments of the call wait on top of its values, and below them its address where it was called through one.
+    /// arguments of the call wait as before its return.
     ForBelow(Call, u16),
     /// The end of this function, which was called back with no call open in the thread.
     ForOutside(u16),

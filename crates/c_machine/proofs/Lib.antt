@@ -16,3 +16,4 @@ pub mod Callers
 mod Program
 pub mod Counts
 pub mod Firsts
+pub mod Returning

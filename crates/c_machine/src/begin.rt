@@ -9,7 +9,7 @@ ghost use Rattle.c_code.specs.Machine.{Entering, uncover as uncovered};
 ghost use Rattle.c_stacks.specs.Stacks.{held, room_of};
 ghost use Rattle.c_machine.specs.declared.state.State.TheVariants.{Calling as AtCalling};
 ghost use Rattle.c_machine.specs.Positions.{laid, config};
-ghost use Rattle.c_machine.specs.Moves.{MayBegin, begun, crosses as crosses_in, waiting as waiting_of};
+ghost use Rattle.c_machine.specs.Moves.{MayBegin, begun, crosses as crosses_in, kept, waiting as waiting_of};
 
 use crate::position::Position;
 use crate::state::{Entry, State};
@@ -91,13 +91,29 @@ impl Position {
         requires few { length args.now ≤ most_values }
         requires values { length (held self.old.values) + length args.now < room_of self.old.values }
         requires waits { length (held self.old.waits) < room_of self.old.waits }
-        ensures begun { config self.new ≡ Entering side (call.indirect && not crosses) func args.now (uncovered call.indirect (drop call.args (held self.old.values))) (waiting_of crosses call ∷ held self.old.waits) }
+        ensures begun { config self.new ≡ Entering side (call.indirect && not crosses) func args.now (kept crosses (held self.old.values) (uncovered call.indirect (drop call.args (held self.old.values)))) (waiting_of crosses call ∷ held self.old.waits) }
         ensures values { room_of self.new.values ≡ room_of self.old.values }
         ensures waits { room_of self.new.waits ≡ room_of self.old.waits }
     {
-        self.uncover(call);
-        self.waits.push(waiting(crosses, call));
+        self.wait(call, crosses);
         self.enter(side, call.indirect && !crosses, func, args);
+    }
+
+    // The call waits for the end of its function. One that crosses the cut keeps its arguments for its return.
+    fn wait(&mut self, call: Call, crosses: bool)
+        requires { length (held self.old.waits) < room_of self.old.waits }
+        ensures kept { held self.new.values ≡ kept crosses (held self.old.values) (uncovered call.indirect (drop call.args (held self.old.values))) }
+        ensures few { length (held self.new.values) ≤ length (held self.old.values) }
+        ensures waiting { held self.new.waits ≡ waiting_of crosses call ∷ held self.old.waits }
+        ensures values { room_of self.new.values ≡ room_of self.old.values }
+        ensures waits { room_of self.new.waits ≡ room_of self.old.waits }
+    {
+        if crosses {
+            self.waits.push(Waiting::ForRet(call));
+        } else {
+            self.uncover(call);
+            self.waits.push(Waiting::ForValue(call.then));
+        }
     }
 
     // System code below a call by replay code calls a function back: the call stays, with its arguments.
@@ -191,16 +207,5 @@ pub(crate) fn crosses(call: Call, code: &Code, placed: &Placed) -> bool
     match call.then.side {
         Side::Replay => is_face(placed, call.func),
         Side::System => false,
-    }
-}
-
-// What waits for the result of a function that begins at the call.
-fn waiting(crosses: bool, call: Call) -> Waiting
-    ensures { result ≡ waiting_of crosses call }
-{
-    if crosses {
-        Waiting::ForRet(call.then, call.func)
-    } else {
-        Waiting::ForValue(call.then)
     }
 }

@@ -6,8 +6,8 @@ ghost use Rattle.c_machine.specs.Positions.{laid};
 ghost use Rattle.c_machine.specs.declared.wants.Answer.{Answer as Answers};
 ghost use Rattle.c_machine.specs.Wants.{shown, told};
 ghost use Rattle.c_machine.specs.Answers.{IsNeeded};
-ghost use Rattle.c_machine.specs.declared.wants.Want.TheVariants.{Call as WantedCall};
-ghost use Rattle.c_machine.specs.Callers.{IsAtCall};
+ghost use Rattle.c_machine.specs.declared.wants.Want.TheVariants.{Call as WantedCall, Ret as WantedRet};
+ghost use Rattle.c_machine.specs.Callers.{IsAtCall, IsAtReturn};
 ghost use Rattle.c_machine.specs.Moves.{MayBegin, MayFeed, IsInside, open_on, fed, begun, rested};
 
 use crate::position::Position;
@@ -44,6 +44,7 @@ impl Thread {
         requires inside { IsInside (laid code.now placed.now) self.now.config }
         ensures want { shown (laid code.now placed.now) (action (laid code.now placed.now) self.now.config) ≡ Some result }
         ensures call { (f : ℕ) → result ≡ WantedCall f → IsAtCall (laid code.now placed.now) self.now.config f }
+        ensures ret { (f v : ℕ) → result ≡ WantedRet f v → IsAtReturn (laid code.now placed.now) self.now.config f v }
         ensures answers { (answer : Answers) → IsNeeded result answer → MayFeed (laid code.now placed.now) self.now.config (told answer) }
     {
         check(code);

@@ -1,9 +1,9 @@
 // What an answer does to a thread.
 
-ghost use Rattle.std.specs.Prelude.{◌≡◌, ℕ, ◌+◌, ◌<◌, ◌^◌, List, [], length, drop, Some, Option};
+ghost use Rattle.std.specs.Prelude.{◌≡◌, ℕ, ◌+◌, ◌<◌, ◌^◌, List, [], ◌∷◌, length, drop, Some, Option};
 ghost use Rattle.places.specs.declared.placed.Placed.{Placed as Places};
 ghost use Rattle.c_code.specs.declared.instr.Instr.TheVariants as instrs;
-ghost use Rattle.c_code.specs.Machine.{Flat, act, close, framed, give as given, Laid, take_args, with_args, awaiting, pool_act, uncover as uncovered};
+ghost use Rattle.c_code.specs.Machine.{Flat, Going, act, close, framed, give as given, Laid, take_args, with_args, awaiting, returning, pool_act, uncover as uncovered};
 ghost use Rattle.c_code.specs.Fits.{values_of};
 ghost use Rattle.c_code.specs.Valid.{IsValid};
 ghost use Rattle.c_stacks.specs.Stacks.{held, room_of};
@@ -214,6 +214,16 @@ impl Position {
             self.state = State::Lost;
             return;
         }
+        self.replace(call, value);
+    }
+
+    // A result takes the place of the arguments of its call, and of its address.
+    fn replace(&mut self, call: Call, value: u64)
+        requires room { length (held self.old.values) < room_of self.old.values }
+        ensures going { config self.new ≡ Going call.then (value ∷ uncovered call.indirect (drop call.args (held self.old.values))) (held self.old.waits) }
+        ensures values { room_of self.new.values ≡ room_of self.old.values }
+        ensures waits { room_of self.new.waits ≡ room_of self.old.waits }
+    {
         self.uncover(call);
         self.values.push(value);
         self.state = State::Going(call.then);
@@ -263,12 +273,27 @@ impl Position {
     {
         match waiting {
             Waiting::ForValue(_) => self.state = State::Lost,
-            Waiting::ForRet(a, _) | Waiting::ForUpRet(a, _) => {
+            Waiting::ForRet(call) => self.take_return(call, value),
+            Waiting::ForUpRet(a, _) => {
                 self.values.push(value);
                 self.state = State::Going(a);
             }
             Waiting::ForBelow(call, _) => self.state = State::Calling(call),
             Waiting::ForOutside(_) => self.state = State::Done(value),
+        }
+    }
+
+    // The return of a call that crossed the cut.
+    fn take_return(&mut self, call: Call, value: u64)
+        requires room { length (held self.old.values) < room_of self.old.values }
+        ensures fed { (l : Laid) (x : Answers) → config self.new ≡ heard l (with_args (take_args call.args [] (held self.old.values)) (returning value call (held self.old.waits))) x }
+        ensures values { room_of self.new.values ≡ room_of self.old.values }
+        ensures waits { room_of self.new.waits ≡ room_of self.old.waits }
+    {
+        if has_args(&self.values, call.args) {
+            self.replace(call, value);
+        } else {
+            self.state = State::Lost;
         }
     }
 

@@ -1,6 +1,6 @@
 // What a thread wants next.
 
-ghost use Rattle.std.specs.Prelude.{◌≡◌, ◌%◌, ◌^◌, Bool, ℕ, List, length, Some, Option};
+ghost use Rattle.std.specs.Prelude.{◌≡◌, ◌%◌, ◌^◌, Bool, ℕ, List, [], length, Some, Option};
 ghost use Rattle.marks.specs.Ranges.{number_of_bytes, bytes_of_number};
 ghost use Rattle.places.specs.declared.placed.Placed.{Placed as Places};
 ghost use Rattle.c_code.specs.declared.instr.Instr.TheVariants as instrs;
@@ -8,7 +8,7 @@ ghost use Rattle.c_code.specs.Values.{bytes_of};
 ghost use Rattle.c_code.specs.Valid.{IsValid};
 ghost use Rattle.c_code.specs.declared.activation.Activation.{Activation as Activations};
 ghost use Rattle.c_code.specs.declared.activation.Waiting.{Waiting as Waits};
-ghost use Rattle.c_code.specs.Machine.{Laid, act, action, close, first};
+ghost use Rattle.c_code.specs.Machine.{Laid, act, action, close, first, take_args, with_args, returning};
 ghost use Rattle.c_machine.specs.declared.wants.Want.TheVariants.{Store as ShownStore};
 ghost use Rattle.c_stacks.specs.Stacks.{held};
 ghost use Rattle.c_machine.specs.Positions.{laid, config};
@@ -18,7 +18,7 @@ use crate::position::Position;
 use crate::state::State;
 use crate::tops::{below_args, callee, frame_size, has_args, is_pool};
 use crate::wants::Want;
-use c_code::{Activation, Code, Combine, Instr, Placed, Waiting, convert};
+use c_code::{Activation, Call, Code, Combine, Instr, Placed, Waiting, convert};
 use marks::FaultKind;
 use r2_num::IntKind;
 
@@ -48,7 +48,7 @@ impl Position {
                 func: entry.func,
                 size: frame_size(code, entry.func),
             }),
-            State::Closing(value, waiting) => look_closing(value, waiting),
+            State::Closing(value, waiting) => self.look_closing(value, waiting),
             State::Done(result) => Some(Want::Ended { result }),
             State::Lost => None,
         }
@@ -160,20 +160,32 @@ impl Position {
             None => None,
         }
     }
-}
 
-fn look_closing(value: u64, waiting: Waiting) -> Option<Want>
-    ensures { (l : Laid) (vs : List ℕ) (ws : List Waits) → result ≡ shown l (close value waiting vs ws) }
-{
-    match waiting {
-        Waiting::ForValue(_) => None,
-        Waiting::ForRet(_, func) => Some(Want::Ret {
-            func,
-            result: value,
-        }),
-        Waiting::ForUpRet(_, _) => Some(Want::UpRet { result: value }),
-        Waiting::ForBelow(_, _) => Some(Want::UpRet { result: value }),
-        Waiting::ForOutside(_) => Some(Want::UpRet { result: value }),
+    // The event that ends a crossing of the cut.
+    fn look_closing(&self, value: u64, waiting: Waiting) -> Option<Want>
+        ensures { (l : Laid) (ws : List Waits) → result ≡ shown l (close value waiting (held self.now.values) ws) }
+    {
+        match waiting {
+            Waiting::ForValue(_) => None,
+            Waiting::ForRet(call) => self.look_return(call, value),
+            Waiting::ForUpRet(_, _) => Some(Want::UpRet { result: value }),
+            Waiting::ForBelow(_, _) => Some(Want::UpRet { result: value }),
+            Waiting::ForOutside(_) => Some(Want::UpRet { result: value }),
+        }
+    }
+
+    // The return of a call that crossed the cut.
+    fn look_return(&self, call: Call, value: u64) -> Option<Want>
+        ensures { (l : Laid) (ws : List Waits) → result ≡ shown l (with_args (take_args call.args [] (held self.now.values)) (returning value call ws)) }
+    {
+        if has_args(&self.values, call.args) {
+            Some(Want::Ret {
+                func: call.func,
+                result: value,
+            })
+        } else {
+            None
+        }
     }
 }
 

@@ -63,7 +63,7 @@ fn caller(side: Side, waiting: Waiting) -> usize
 {
     match waiting {
         Waiting::ForValue(a) => one(side, a.side),
-        Waiting::ForRet(a, _) => one(side, a.side),
+        Waiting::ForRet(call) => one(side, call.then.side),
         Waiting::ForUpRet(a, _) => one(side, a.side),
         Waiting::ForBelow(call, _) => one(side, call.then.side),
         Waiting::ForOutside(_) => 0,

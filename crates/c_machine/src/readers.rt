@@ -6,13 +6,14 @@ ghost use Rattle.c_code.specs.Frames.{are_values as values_are};
 ghost use Rattle.c_machine.specs.Callers.{crosses_at};
 ghost use Rattle.c_machine.specs.Moves.{IsCallOf};
 ghost use Rattle.c_machine.specs.Positions.{laid, config};
-ghost use Rattle.c_machine.specs.Readers.{args_of, side_of, is_indirect};
+ghost use Rattle.c_stacks.specs.Stacks.{held};
+ghost use Rattle.c_machine.specs.Readers.{args_of, returned_args, side_of, is_indirect};
 
 use crate::begin::crosses;
 use crate::position::Position;
 use crate::state::State;
 use crate::thread::Thread;
-use c_code::{Code, Placed, Shape, Side};
+use c_code::{Code, Placed, Shape, Side, Waiting};
 
 impl Position {
     fn args(&self) -> &[u64]
@@ -22,9 +23,22 @@ impl Position {
             State::Calling(call) => self.values.top_slice(call.args as usize),
             State::Entering(entry) => self.values.top_slice(entry.args as usize),
             State::Going(_) => &[],
-            State::Closing(_, _) => &[],
+            State::Closing(_, waiting) => self.returned(waiting),
             State::Done(_) => &[],
             State::Lost => &[],
+        }
+    }
+
+    // The arguments of the call that returns.
+    fn returned(&self, waiting: Waiting) -> &[u64]
+        ensures { result.now ≡ returned_args waiting (held self.now.values) }
+    {
+        match waiting {
+            Waiting::ForRet(call) => self.values.top_slice(call.args as usize),
+            Waiting::ForValue(_) => &[],
+            Waiting::ForUpRet(_, _) => &[],
+            Waiting::ForBelow(_, _) => &[],
+            Waiting::ForOutside(_) => &[],
         }
     }
 
@@ -85,7 +99,8 @@ impl Thread {
         self.depth
     }
 
-    /// The arguments of the call that is next, or of the function that is to be entered, in order; else none.
+    /// The arguments of the call that is next, of the function that is to be entered, or of the call whose return is next, in
+    /// order; else none.
     pub fn args(&self) -> &[u64]
         ensures { result.now ≡ args_of self.now.config }
     {

@@ -1,11 +1,11 @@
 -- Two relations between what follows marks: that of a list and its fronts, and that of two lists with the same front.
-use Rattle.std.proofs.Common.{◌≡◌, ◌≢◌, ℕ, zero, suc, ◌+◌, ◌<◌, ◌≤◌, List, [], ◌∷◌, ◌++◌, length, length-append, Option, Some, None, refl, arith}
+use Rattle.std.proofs.Common.{◌≢◌, ℕ, suc, ◌<◌, ◌≤◌, List, [], ◌∷◌, ◌++◌, length, Option, Some, None, refl, arith}
 use Rattle.marks.specs.declared.side.Side.{Side}
 use Rattle.marks.specs.Marks.{Mark}
 use Rattle.marks.specs.Wants.{Want, Answer, Go, Value, Frame, CalledBack, Stopped}
-use Rattle.c_code.specs.MarkLists.{Verdict, Ended, Open, Wrong, closed, reply}
-use Rattle.c_meaning.specs.Reading.{Marks, wrong, ended, heard, ask}
-use Rattle.c_meaning.proofs.Relations.{Bounds, Less, AtMost, Relation, itself}
+use Rattle.c_code.specs.MarkLists.{Ended, Open, Wrong, closed, reply}
+use Rattle.c_meaning.specs.Reading.{Marks, ended, heard, ask}
+use Rattle.c_meaning.proofs.Relations.{Bounds, Less, AtMost, Relation, FollowsAll}
 
 bounds : ℕ → ℕ → Bounds
 bounds i j = record { left = i; right = j }
@@ -37,10 +37,10 @@ unfolding Front
 front_ends k v [] more few less right = ended_is_right v
 front_ends k v (m ∷ ms) more few less right = absurd (right refl)
 
-front_asks : (k : Bounds) (side : Side) (want : Want) (go on : Answer → Marks) → ((a : Answer) (j : Bounds) → Less j k → Front j (go a) (on a)) → Front k (ask side want go) (ask side want on)
+front_asks : (k : Bounds) (side : Side) (want : Want) → Unit {0} → (go on : Answer → Marks) → ((a : Answer) (j : Bounds) → Less j k → Front j (go a) (on a)) → Front k (ask side want go) (ask side want on)
 unfolding Front bounds
-front_asks k side want go on h [] more few less right = open_is_right
-front_asks k side want go on h (m ∷ ms) more few less right =
+front_asks k side want ok go on h [] more few less right = open_is_right
+front_asks k side want ok go on h (m ∷ ms) more few less right =
     let x : length (ms ++ more) < k.left = omega arith in
     let y : length ms < k.right = omega arith in
     heard_front (reply side want m) go on ms more (λ a. h a (bounds (length (ms ++ more)) (length ms)) (x, y) ms more (omega arith) (omega arith)) right
@@ -54,12 +54,17 @@ pub front : Relation
 unfolding Front
 front = record {
   rel = Front;
+  follows = λ side want. Unit {0};
   weaker = λ j k p q le c ms more few less right. c ms more (let x = le.0 in omega arith) (let x = le.1 in omega arith) right;
   wrongs = λ k ms more few less right. absurd (right refl);
   ends = front_ends;
   asks = front_asks;
   counted = front_counted;
 }
+
+pub all_fronts : FollowsAll front
+unfolding front
+all_fronts side want = tt
 
 pub fronts : (p : Marks) → ((k : Bounds) → front.rel k p p) → (ms more : List Mark) → p (ms ++ more) ≢ Wrong → p ms ≢ Wrong
 unfolding front Front bounds

@@ -1,12 +1,12 @@
 -- Two lists with the same front: what comes next answers one want.
-use Rattle.std.proofs.Common.{◌≡◌, ◌≢◌, ℕ, zero, suc, ◌+◌, ◌<◌, ◌≤◌, List, [], ◌∷◌, ◌++◌, length, Option, Some, None, refl, arith}
+use Rattle.std.proofs.Common.{◌≡◌, ◌≢◌, ℕ, suc, ◌<◌, ◌≤◌, List, [], ◌∷◌, ◌++◌, length, Option, Some, None, refl, arith}
 use Rattle.marks.specs.declared.side.Side.{Side}
 use Rattle.marks.specs.Marks.{Mark}
 use Rattle.marks.specs.Wants.{Want, Answer, Go, Value, Frame, CalledBack, Stopped}
-use Rattle.c_code.specs.MarkLists.{Ended, Open, Wrong, closed, reply}
+use Rattle.c_code.specs.MarkLists.{Wrong, closed, reply}
 use Rattle.c_meaning.specs.Laws.{IsOneWant}
-use Rattle.c_meaning.specs.Reading.{Marks, wrong, ended, heard, ask}
-use Rattle.c_meaning.proofs.Relations.{Bounds, Less, AtMost, Relation}
+use Rattle.c_meaning.specs.Reading.{Marks, ended, heard, ask}
+use Rattle.c_meaning.proofs.Relations.{Bounds, Less, AtMost, Relation, FollowsAll}
 
 bounds : ℕ → ℕ → Bounds
 bounds i j = record { left = i; right = j }
@@ -36,10 +36,10 @@ heard_next (Some (Value v)) go on past m n ms ns h left right = h (Value v) left
 heard_next (Some (Frame at)) go on past m n ms ns h left right = h (Frame at) left right
 heard_next (Some (CalledBack g args)) go on past m n ms ns h left right = h (CalledBack g args) left right
 
-next_asks : (k : Bounds) (side : Side) (want : Want) (go on : Answer → Marks) → ((a : Answer) (j : Bounds) → Less j k → Next j (go a) (on a)) → Next k (ask side want go) (ask side want on)
+next_asks : (k : Bounds) (side : Side) (want : Want) → Unit {0} → (go on : Answer → Marks) → ((a : Answer) (j : Bounds) → Less j k → Next j (go a) (on a)) → Next k (ask side want go) (ask side want on)
 unfolding Next bounds
-next_asks k side want go on h [] m n ms ns few less left right = one_want side want m n (answered (reply side want m) go ms left) (answered (reply side want n) on ns right)
-next_asks k side want go on h (x ∷ past) m n ms ns few less left right =
+next_asks k side want ok go on h [] m n ms ns few less left right = one_want side want m n (answered (reply side want m) go ms left) (answered (reply side want n) on ns right)
+next_asks k side want ok go on h (x ∷ past) m n ms ns few less left right =
     let a : length (past ++ m ∷ ms) < k.left = omega arith in
     let b : length (past ++ n ∷ ns) < k.right = omega arith in
     heard_next (reply side want x) go on past m n ms ns (λ w. h w (bounds (length (past ++ m ∷ ms)) (length (past ++ n ∷ ns))) (a, b) past m n ms ns (omega arith) (omega arith)) left right
@@ -58,12 +58,17 @@ pub next : Relation
 unfolding Next
 next = record {
   rel = Next;
+  follows = λ side want. Unit {0};
   weaker = λ j k p q le c past m n ms ns few less left right. c past m n ms ns (let x = le.0 in omega arith) (let x = le.1 in omega arith) left right;
   wrongs = λ k past m n ms ns few less left right. absurd (left refl);
   ends = next_ends;
   asks = next_asks;
   counted = next_counted;
 }
+
+pub all_nexts : FollowsAll next
+unfolding next
+all_nexts side want = tt
 
 pub nexts : (p : Marks) → ((k : Bounds) → next.rel k p p) → (past : List Mark) (m n : Mark) (ms ns : List Mark) → p (past ++ m ∷ ms) ≢ Wrong → p (past ++ n ∷ ns) ≢ Wrong → IsOneWant m n
 unfolding next Next bounds

@@ -1,11 +1,11 @@
 -- A list that ends and a longer one: nothing follows the end.
-use Rattle.std.proofs.Common.{◌≡◌, ◌≢◌, ℕ, zero, suc, ◌+◌, ◌<◌, ◌≤◌, List, [], ◌∷◌, ◌++◌, length, Option, Some, None, refl, arith}
+use Rattle.std.proofs.Common.{◌≡◌, ℕ, suc, ◌<◌, ◌≤◌, List, [], ◌∷◌, ◌++◌, length, Option, Some, None, refl, arith}
 use Rattle.marks.specs.declared.side.Side.{Side}
 use Rattle.marks.specs.Marks.{Mark}
 use Rattle.marks.specs.Wants.{Want, Answer, Go, Value, Frame, CalledBack, Stopped}
-use Rattle.c_code.specs.MarkLists.{Ended, Open, Wrong, closed, reply}
-use Rattle.c_meaning.specs.Reading.{Marks, wrong, ended, heard, ask}
-use Rattle.c_meaning.proofs.Relations.{Bounds, Less, AtMost, Relation}
+use Rattle.c_code.specs.MarkLists.{Ended, Wrong, closed, reply}
+use Rattle.c_meaning.specs.Reading.{Marks, ended, heard, ask}
+use Rattle.c_meaning.proofs.Relations.{Bounds, Less, AtMost, Relation, FollowsAll}
 
 bounds : ℕ → ℕ → Bounds
 bounds i j = record { left = i; right = j }
@@ -26,10 +26,10 @@ heard_over (Some (Value w)) go on ms m more v h e = h (Value w) e
 heard_over (Some (Frame at)) go on ms m more v h e = h (Frame at) e
 heard_over (Some (CalledBack g args)) go on ms m more v h e = h (CalledBack g args) e
 
-over_asks : (k : Bounds) (side : Side) (want : Want) (go on : Answer → Marks) → ((a : Answer) (j : Bounds) → Less j k → Over j (go a) (on a)) → Over k (ask side want go) (ask side want on)
+over_asks : (k : Bounds) (side : Side) (want : Want) → Unit {0} → (go on : Answer → Marks) → ((a : Answer) (j : Bounds) → Less j k → Over j (go a) (on a)) → Over k (ask side want go) (ask side want on)
 unfolding Over bounds
-over_asks k side want go on h [] m more v few less e = absurd cc
-over_asks k side want go on h (x ∷ ms) m more v few less e =
+over_asks k side want ok go on h [] m more v few less e = absurd cc
+over_asks k side want ok go on h (x ∷ ms) m more v few less e =
     let a : length (ms ++ m ∷ more) < k.left = omega arith in
     let b : length ms < k.right = omega arith in
     heard_over (reply side want x) go on ms m more v (λ w. h w (bounds (length (ms ++ m ∷ more)) (length ms)) (a, b) ms m more v (omega arith) (omega arith)) e
@@ -48,12 +48,17 @@ pub over : Relation
 unfolding Over
 over = record {
   rel = Over;
+  follows = λ side want. Unit {0};
   weaker = λ j k p q le c ms m more v few less e. c ms m more v (let x = le.0 in omega arith) (let x = le.1 in omega arith) e;
   wrongs = λ k ms m more v few less e. refl;
   ends = over_ends;
   asks = over_asks;
   counted = over_counted;
 }
+
+pub all_overs : FollowsAll over
+unfolding over
+all_overs side want = tt
 
 pub overs : (p : Marks) → ((k : Bounds) → over.rel k p p) → (ms : List Mark) (m : Mark) (more : List Mark) (v : ℕ) → p ms ≡ Ended v → p (ms ++ m ∷ more) ≡ Wrong
 unfolding over Over bounds

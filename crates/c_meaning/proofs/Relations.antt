@@ -1,9 +1,8 @@
 -- Relations between what follows marks on two sides, which pass through every construct.
-use Rattle.std.proofs.Common.{◌≡◌, ◌≢◌, ℕ, zero, suc, ◌+◌, ◌<◌, ◌≤◌, Bool, true, false, cond, List, [], ◌∷◌, ◌++◌, length, Option, Some, None, Result, Ok, Err, refl, arith}
+use Rattle.std.proofs.Common.{ℕ, zero, suc, ◌<◌, ◌≤◌, Bool, true, false, cond, length, Result, Ok, Err, arith}
 use Rattle.marks.specs.declared.side.Side.{Side}
 use Rattle.marks.specs.declared.fault.FaultKind.{FaultKind}
-use Rattle.marks.specs.Marks.{Mark}
-use Rattle.marks.specs.Wants.{Want, Fails, Answer, Go, Value, Frame, CalledBack, Stopped}
+use Rattle.marks.specs.Wants.{Want, Turns, Loads, Stores, Enters, Leaves, Steps, Fails, Answer, Go, Value, Frame, CalledBack, Stopped}
 use Rattle.c_code.specs.declared.shape.Shape.{Shape}
 use Rattle.c_code.specs.declared.shape.Shape.TheVariants.{Pointer}
 use Rattle.c_code.specs.Values.{at_zero, is_value}
@@ -29,25 +28,45 @@ lower j k lt = (let l = lt.0 in omega arith, let r = lt.1 in omega arith)
 pub through : (i j k : Bounds) → AtMost i j → AtMost j k → AtMost i k
 through i j k a b = (let x = a.0 in let y = b.0 in omega arith, let x = a.1 in let y = b.1 in omega arith)
 
--- a relation that each mark brings down to fewer marks, and that what is counted by marks keeps
+-- the want is one that no event answers
+abbrev pub IsPlain : Want → Type 0
+IsPlain Turns = Unit {0}
+IsPlain (Loads o at n) = Unit {0}
+IsPlain (Stores o at bytes) = Unit {0}
+IsPlain (Enters i f args bytes) = Unit {0}
+IsPlain (Leaves at n) = Unit {0}
+IsPlain (Steps i f args) = Unit {0}
+IsPlain (Fails kind) = Unit {0}
+IsPlain w = ⊥
+
+-- a relation that each mark of those that it follows brings down to fewer marks, and that what is counted by marks keeps
 pub record Relation : Type 1 where
   pub rel : Bounds → Marks → Marks → Type 0
+  pub follows : Side → Want → Type 0
   pub weaker : (j k : Bounds) (p q : Marks) → AtMost j k → rel k p q → rel j p q
   pub wrongs : (k : Bounds) → rel k wrong wrong
   pub ends : (k : Bounds) (v : ℕ) → rel k (ended v) (ended v)
-  pub asks : (k : Bounds) (side : Side) (want : Want) (go on : Answer → Marks) → ((a : Answer) (j : Bounds) → Less j k → rel j (go a) (on a)) → rel k (ask side want go) (ask side want on)
+  pub asks : (k : Bounds) (side : Side) (want : Want) → follows side want → (go on : Answer → Marks) → ((a : Answer) (j : Bounds) → Less j k → rel j (go a) (on a)) → rel k (ask side want go) (ask side want on)
   pub counted : (k : Bounds) (f g : ℕ → Marks) → ((j : Bounds) (n m : ℕ) → AtMost j k → j.left < n → j.right < m → rel j (f n) (g m)) → rel k (λ ms. f (suc (length ms)) ms) (λ ms. g (suc (length ms)) ms)
+
+-- it follows all marks
+abbrev pub FollowsAll : Relation → Type 0
+FollowsAll R = (side : Side) (want : Want) → R.follows side want
+
+-- it follows the marks of the side that are no events
+abbrev pub FollowsPlain : Relation → Side → Type 0
+FollowsPlain R side = (want : Want) → IsPlain want → R.follows side want
 
 -- for each value that comes before
 abbrev pub Cuts : Relation → Bounds → (ℕ → Marks) → (ℕ → Marks) → Type 0
 Cuts R k go on = (v : ℕ) → R.rel k (go v) (on v)
 
-pub cut_fails : (R : Relation) (k : Bounds) (side : Side) (kind : FaultKind) → R.rel k (fails side kind) (fails side kind)
-cut_fails R k side kind = R.asks k side (Fails kind) (λ a. wrong) (λ a. wrong) (λ a j lt. R.wrongs j)
+pub cut_fails : (R : Relation) (k : Bounds) (side : Side) (kind : FaultKind) → FollowsPlain R side → R.rel k (fails side kind) (fails side kind)
+cut_fails R k side kind p = R.asks k side (Fails kind) (p (Fails kind) tt) (λ a. wrong) (λ a. wrong) (λ a j lt. R.wrongs j)
 
-pub cut_or_fault : (R : Relation) (k : Bounds) (side : Side) (r : Result ℕ FaultKind) (go on : ℕ → Marks) → Cuts R k go on → R.rel k (or_fault side r go) (or_fault side r on)
-cut_or_fault R k side (Ok v) go on h = h v
-cut_or_fault R k side (Err kind) go on h = cut_fails R k side kind
+pub cut_or_fault : (R : Relation) (k : Bounds) (side : Side) (r : Result ℕ FaultKind) (go on : ℕ → Marks) → FollowsPlain R side → Cuts R k go on → R.rel k (or_fault side r go) (or_fault side r on)
+cut_or_fault R k side (Ok v) go on p h = h v
+cut_or_fault R k side (Err kind) go on p h = cut_fails R k side kind p
 
 pub cut_cond : (R : Relation) (k : Bounds) (b : Bool) (p q s t : Marks) → R.rel k p q → R.rel k s t → R.rel k (cond b p s) (cond b q t)
 cut_cond R k true p q s t c d = c

@@ -1,15 +1,13 @@
 -- The marks of calls, by the mode of the caller and the interface of the cut.
-use Rattle.std.specs.Prelude.{ℕ, zero, suc, ◌-◌, ◌/◌, Bool, true, false, ◌&&◌, cond, eqb, leb, ltb, List, [], ◌∷◌, length, map, Option, Some, None, is_some}
+use Rattle.std.specs.Prelude.{ℕ, zero, suc, ◌-◌, ◌/◌, Bool, true, false, ◌&&◌, cond, eqb, leb, ltb, List, [], ◌∷◌, length, Option, Some, None, is_some}
 use Rattle.marks.specs.declared.side.Side.{Side}
 use Rattle.marks.specs.declared.side.Side.TheVariants.{Replay, System}
 use Rattle.marks.specs.declared.fault.FaultKind.TheVariants.{BadCall}
-use Rattle.marks.specs.Marks.{Mark}
 use Rattle.marks.specs.Places.{builtin_count, function_address}
-use Rattle.marks.specs.Wants.{Allocs, Below, Calls, CallsBack, Enters, Frees, Gives, Leaves, Outside, Returns, Steps, UpReturns, Answer, Go, Value, Frame, CalledBack, Stopped}
-use Rattle.c_code.specs.declared.shape.Shape.{Shape}
+use Rattle.marks.specs.Wants.{Allocs, Below, Calls, CallsBack, Enters, Frees, Gives, Leaves, Outside, Returns, Steps, UpReturns, Answer, CalledBack}
 use Rattle.c_code.specs.declared.shape.Shape.TheVariants.{Pointer}
 use Rattle.c_code.specs.Frames.{are_values}
-use Rattle.c_code.specs.MarkLists.{Reading, Split, Above, Verdict, Ended, Open, Wrong}
+use Rattle.c_code.specs.MarkLists.{Reading, Split, Above, Open}
 use Rattle.c_type_model.specs.Types.{CType}
 use Rattle.c_typing.specs.TypedTree as typed
 use Rattle.c_typing.specs.Limits.{frame_size}
@@ -50,7 +48,7 @@ any_below (suc n) s bodies f args go = ask Replay (Below f args) (any_step s bod
 
 -- the function's own body on the system side, or the return of a builtin or external alone
 abbrev pub own_below : Source → Bodies → (has_body : Bool) → (func : ℕ) → (args : List ℕ) → (ℕ → Marks) → Marks
-own_below s bodies true f args go = entering s bodies System System false f args (λ v. ask Replay (Returns f v) (λ x. go v))
+own_below s bodies true f args go = entering s bodies System System false f args (λ v. ask Replay (Returns f args v) (λ x. go v))
 own_below s bodies false f args go = ask Replay (Gives f args) (with_value (result_shape s f) go)
 
 -- each call back has a mark, so there are no more of them than marks

@@ -1,13 +1,12 @@
 -- What the meaning of code hangs on: the source's declarations, and where its objects lie.
-use Rattle.std.specs.Prelude.{ℕ, zero, suc, ◌+◌, ◌-◌, ◌*◌, ◌<◌, ltb, eqb, max, Bool, true, false, cond, List, [], ◌∷◌, ◌++◌, length, map, replicate, Option, Some, None, slice_get}
-use Rattle.std.specs.Int.{next_multiple_of}
+use Rattle.std.specs.Prelude.{ℕ, suc, ◌-◌, ltb, eqb, Bool, false, cond, List, [], ◌∷◌, ◌++◌, length, map, replicate, Option, Some, None, slice_get}
 use Rattle.r2_num.specs.declared.kinds.IntKind.{IntKind}
 use Rattle.r2_num.specs.declared.kinds.IntKind.TheVariants.{U64}
 use Rattle.marks.specs.Places.{builtin_count}
 use Rattle.places.specs.declared.placed.Place.{Place}
 use Rattle.places.specs.declared.placed.Placed.{Placed}
-use Rattle.c_type_model.specs.Types.{CType, CTypes, Void, Integer, PointerTo, ArrayOf, StructOf, UndefinedStruct, FunctionOf, NoTypes, MoreTypes}
-use Rattle.c_type_model.specs.Layouts.{end_from, extent_of, offsets_from}
+use Rattle.c_type_model.specs.Types.{CType, CTypes, Void, Integer, PointerTo, StructOf, NoTypes, MoreTypes}
+use Rattle.c_type_model.specs.Layouts.{offsets_from}
 use Rattle.c_type_model.specs.declared.extent.Extent.{Extent}
 use Rattle.c_builtins.specs.declared.builtin.Builtin.{Builtin}
 use Rattle.c_builtins.specs.declared.builtin.Builtin.TheVariants.{Malloc, Free, Spawn, Join, Lock, Unlock, Print}
@@ -19,7 +18,7 @@ use Rattle.c_typing.specs.TypeTests.{same_type}
 use Rattle.c_typing.specs.Operators.{size_in}
 use Rattle.c_typing.specs.TypedTree as typed
 use Rattle.c_typing.specs.Environment.{Struct}
-use Rattle.c_typing.specs.Sources.{Function, Global, Program, extents_in, params_of, result_of}
+use Rattle.c_typing.specs.Sources.{Function, Program, extents_in, params_of, result_of}
 use Rattle.c_typing.specs.Limits.{frame_size}
 
 -- a typed source, the offsets of its strings in order, and where globals and strings lie
@@ -100,7 +99,8 @@ abbrev prototype_or : Option Builtin → CType
 prototype_or (Some b) = prototype_of b
 prototype_or None = Void
 
-abbrev type_or : Option Function → Option Builtin → CType
+-- that of a function of the source, or of a builtin
+abbrev pub type_or : Option Function → Option Builtin → CType
 type_or (Some f) b = f.type
 type_or None b = prototype_or b
 
@@ -122,7 +122,8 @@ result_shape s f = shape_of (result_of (type_of s f))
 abbrev pub param_shapes : Source → ℕ → List Shape
 param_shapes s f = shapes_of (params_of (type_of s f))
 
-abbrev body_or : Option Function → Option typed.Body
+-- what a function does
+abbrev pub body_or : Option Function → Option typed.Body
 body_or (Some f) = f.body
 body_or None = None
 

@@ -4,3 +4,5 @@ pub mod Values
 pub mod Statements
 pub mod Calls
 pub mod Laws
+pub mod Returned
+pub mod Parts

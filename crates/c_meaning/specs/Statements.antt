@@ -1,5 +1,5 @@
 -- The marks of statements (C11 6.8).
-use Rattle.std.specs.Prelude.{ℕ, zero, suc, List, [], ◌∷◌, length, None}
+use Rattle.std.specs.Prelude.{ℕ, zero, suc, length, None}
 use Rattle.marks.specs.declared.side.Side.{Side}
 use Rattle.marks.specs.Wants.{Turns}
 use Rattle.c_code.specs.MarkLists.{Open}

@@ -1,6 +1,5 @@
 -- The marks of expressions, in the order of evaluation, and their values (C11 6.5). `go` is what follows a value.
 use Rattle.std.specs.Prelude.{ℕ, ◌+◌, ◌-◌, ◌*◌, ◌%◌, ◌^◌, pos, negsuc, ◌-ℤ◌, Bool, true, false, cond, List, [], ◌∷◌, Option, Some, None, slice_get}
-use Rattle.r2_num.specs.declared.kinds.IntKind.{IntKind}
 use Rattle.r2_num.specs.declared.kinds.IntKind.TheVariants.{I64, U64}
 use Rattle.r2_num.specs.declared.operations.Op.TheVariants.{Div}
 use Rattle.r2_num.specs.Conversions.{wrapped}
@@ -9,7 +8,7 @@ use Rattle.marks.specs.Places.{function_address}
 use Rattle.marks.specs.Ranges.{bytes_of_number}
 use Rattle.marks.specs.Wants.{Loads, Stores}
 use Rattle.c_code.specs.Values.{arith_of, at_zero, bytes_of, converted, read, written}
-use Rattle.c_type_model.specs.Types.{CType, Void, Integer, PointerTo, ArrayOf, StructOf, UndefinedStruct, FunctionOf}
+use Rattle.c_type_model.specs.Types.{CType, Void, Integer, PointerTo, ArrayOf}
 use Rattle.c_builtins.specs.Table.{number_of}
 use Rattle.c_typing.specs.TypeTests.{same_type}
 use Rattle.c_typing.specs.TypedTree.{Object, Value, Values, Callee, Sum, PointerPlus, PlusPointer, PointerMinus, Way, Up, Down, Given, New, Old, GlobalObject, LocalObject, TextObject, Pointed, Element, MemberOf, Constant, FunctionAddress, ReadOf, AddressOf, Convert, Negate, Complement, Arithmetic, PointerSum, PointerDifference, PointerComparison, Not, Both, Either, Choice, Sequence, Assigned, Changed, Moved, Stepped, CallOf, NoValues, MoreValues, SourceFunction, BuiltinFunction, Through, object_type, value_type}

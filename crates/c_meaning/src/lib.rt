@@ -3,4 +3,7 @@
 
 mod laws;
 
-pub use laws::{end_is_last, fronts_are_right, next_is_one};
+pub use laws::{
+    end_is_last, fronts_are_right, next_is_one, replay_part_is_right_above, results_are_converted,
+    want_above_is_one,
+};

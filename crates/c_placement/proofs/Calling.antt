@@ -17,7 +17,7 @@ use Rattle.c_code.specs.declared.activation.Waiting.{Waiting}
 use Rattle.c_code.specs.declared.activation.Waiting.TheVariants.{ForValue, ForRet, ForUpRet, ForBelow, ForOutside}
 use Rattle.c_code.specs.Frames.{are_values, params_bytes}
 use Rattle.c_code.specs.Values.{is_value}
-use Rattle.c_code.specs.Machine.{Flat, Laid, Config, Going, Under, Entering, Closing, Starting, Done, Lost, Action, Pending, Asks, Pends, Awaits, Starts, action, awaiting, begin, bytes_for, call_act, entry, entry_of, first, framed, func_of, give, is_pool, pending, pool_act, start, take_args, to_callee, uncover, valued, with_args}
+use Rattle.c_code.specs.Machine.{Flat, Laid, Config, Going, Under, Entering, Closing, Starting, Done, Lost, Action, Pending, Asks, Pends, Awaits, Starts, action, awaiting, begin, bytes_for, call_act, entry, entry_of, first, framed, func_of, give, is_pool, pending, pool_act, returning, start, take_args, to_callee, uncover, valued, with_args}
 use Rattle.c_code.specs.Machine as machine
 use Rattle.c_code.specs.MarkLists.{Reading, Split, Above, Next, Wants, step, next_of, lists, has_entry, result_of, takes_values}
 use Rattle.c_code.specs.MarkLists as code_lists
@@ -146,14 +146,18 @@ module _ (s : Source) (code : Flat) (low : IsLowered s code) where
       let ks = less Above j n go (λ v. Going c.then (v ∷ rest) ws) (omega arith) k in
       any_step_agrees Above j b c args stack rest ws go (any_below m s b c.func args go) hs ks (any_agrees m j b c args stack rest ws go (omega arith) hs w ks) a)
 
+  -- the return of the call, with its arguments
+  returns : (c : Call) (args stack rest : List ℕ) (ws : List Waiting) (v : ℕ) → Waits c args stack rest ws → step Split lay (Closing v (ForRet c) stack ws) ≡ Wants Replay (Returns c.func args v) (λ x. Going c.then (v ∷ rest) ws)
+  returns c args stack rest ws v h = ap (λ o. next_of Split lay (with_args o (returning v c ws))) h.1 ∙ ap (λ z. Wants Replay (Returns c.func args v) (λ x. Going c.then (v ∷ z) ws)) h.2
+
   own_agrees : (n : ℕ) (b : Bodies) (c : Call) (args stack rest : List ℕ) (ws : List Waiting) (go : ℕ → Marks) (o : Option Body) → body_of s c.func ≡ o → Behind Split n b → Waits c args stack rest ws → ((v : ℕ) → Agree Split lay n (go v) (Going c.then (v ∷ rest) ws))
       → Agree Split lay n (own_below s b (is_some o) c.func args go) (Under c stack ws)
   own_agrees n b c args stack rest ws go (Some d) e h w k =
       let p : Pending = record { call = c; args = args; values = stack; rest = rest; waits = ws } in
       let at = entered c.func d e in
-      entering_agrees Split n b System System false c.func args d (λ v. ask Replay (Returns c.func v) (λ x. go v)) (Under c stack ws) rest (ForRet c.then c.func ∷ ws) e h
+      entering_agrees Split n b System System false c.func args d (λ v. ask Replay (Returns c.func args v) (λ x. go v)) (Under c stack ws) stack (ForRet c ∷ ws) e h
       (ap (next_of Split lay) (awaits Split c args stack rest ws w) ∙ ap (λ z. code_lists.below Split lay p z) at.1)
-      (λ v. by_ask Split lay n Replay (Returns c.func v) (λ x. go v) (λ x. Going c.then (v ∷ rest) ws) (Closing v (ForRet c.then c.func) rest ws) refl (λ a j lt. fewer Split lay j n (go v) (Going c.then (v ∷ rest) ws) (omega arith) (k v)))
+      (λ v. by_ask Split lay n Replay (Returns c.func args v) (λ x. go v) (λ x. Going c.then (v ∷ rest) ws) (Closing v (ForRet c) stack ws) (returns c args stack rest ws v w) (λ a j lt. fewer Split lay j n (go v) (Going c.then (v ∷ rest) ws) (omega arith) (k v)))
   own_agrees n b c args stack rest ws go None e h w k =
       let p : Pending = record { call = c; args = args; values = stack; rest = rest; waits = ws } in
       let none = low.others c.func e in

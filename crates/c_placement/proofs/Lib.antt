@@ -6,3 +6,4 @@ mod Lying
 mod Keeping
 mod Steady
 mod Whole
+mod Aboves

@@ -1,18 +1,21 @@
 -- Code makes exactly the marks of its source.
-use Rattle.std.specs.Prelude.{◌≡◌, ℕ, ◌+◌, ◌<◌, ◌≤◌, List, length, Some, None, slice_get}
+use Rattle.std.specs.Prelude.{◌≡◌, ◌≢◌, ℕ, ◌+◌, ◌<◌, ◌≤◌, true, List, ◌∷◌, ◌++◌, length, reverse, Some, None, is_some, slice_get}
 use Rattle.marks.specs.declared.side.Side.{Side}
+use Rattle.marks.specs.declared.side.Side.TheVariants.{Replay}
 use Rattle.marks.specs.Marks.{Mark}
+use Rattle.marks.specs.Wants.{answer_to}
 use Rattle.c_code.specs.declared.code.FuncInfo.{FuncInfo}
 use Rattle.c_code.specs.declared.instr.Instr.{Instr}
 use Rattle.c_code.specs.Frames.{params_end}
 use Rattle.c_code.specs.Machine.{Flat, Laid, Done, entry, func_of}
-use Rattle.c_code.specs.MarkLists.{Split, Above, lists, mark_lists, result_of, thread_lists}
+use Rattle.c_code.specs.MarkLists.{Split, Above, Wrong, lists, mark_lists, result_of, thread_lists, want_above}
 use Rattle.c_code.specs.Valid.{most_values}
 use Rattle.c_type_model.specs.Types.{CType}
 use Rattle.c_typing.specs.TypedTree.{Body}
 use Rattle.c_typing.specs.Limits.{frame_size}
 use Rattle.c_meaning.specs.Context.{Source, body_of, param_shapes, result_shape}
 use Rattle.c_meaning.specs.Calls.{behaviour, thread_above, thread_behaviour}
+use Rattle.c_meaning.specs.Parts.{replay_part}
 use Rattle.c_placement.specs.Placement.{HasCode, IsSigOf}
 use Rattle.c_placement.specs.Code.{Lies, body_code, making}
 use Rattle.c_placement.specs.Heights.{Stand, StatementCalls, body_heights, statement_waits}
@@ -50,6 +53,13 @@ pub record MakesTheMarks (s : Source) (code : Flat) : Type 0 where
   pub calls : (side : Side) (f : ℕ) (b : Body) (args : List ℕ) (ms : List Mark) → body_of s f ≡ Some b → behaviour Split s side f args ms ≡ mark_lists Split (laid s code) side f args ms
   pub threads : (t : CType) (sig address : ℕ) (args : List ℕ) (ms : List Mark) → IsSigOf s code t sig → thread_behaviour s t address args ms ≡ thread_lists (laid s code) sig address args ms
   pub above : (ms : List Mark) → thread_above s ms ≡ lists Above ms (laid s code) (Done 0)
+
+-- what a thread of the code wants above the cut is a function of its marks there so far, which the next of them answers: it
+-- hangs neither on its marks below the cut nor on the function that it began with
+abbrev pub NextAnswersAbove : Source → Flat → Type 0
+NextAnswersAbove s code =
+    (t : CType) (sig address : ℕ) (args : List ℕ) (ms more : List Mark) (m : Mark) → IsSigOf s code t sig → m.side ≡ Replay → thread_lists (laid s code) sig address args (ms ++ m ∷ more) ≢ Wrong →
+    is_some (answer_to (want_above (laid s code) (reverse (replay_part ms))) m.act) ≡ true
 
 -- a place within the code of a function
 pub record IsWithin (s : Source) (code : Flat) (sig : CType → ℕ) (e : IsEmitted s code sig) (place : ℕ) : Type 0 where

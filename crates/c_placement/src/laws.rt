@@ -5,7 +5,8 @@ ghost use Rattle.c_code.specs.Machine.{Flat};
 ghost use Rattle.c_code.specs.Valid.{IsSteady};
 ghost use Rattle.c_type_model.specs.Types.{CType};
 ghost use Rattle.c_meaning.specs.Context.{Source};
-ghost use Rattle.c_placement.specs.Laws.{IsEmitted, IsLowered, IsMadeOf, MakesTheMarks};
+ghost use Rattle.c_meaning.specs.Returned.{ResultsAreConverted};
+ghost use Rattle.c_placement.specs.Laws.{IsEmitted, IsLowered, IsMadeOf, MakesTheMarks, NextAnswersAbove};
 
 /// A law: where the code of each function of a source lies in flat code, the lists of marks that the code can make are
 /// exactly those of the source: of each call, each thread, and each thread above the cut.
@@ -17,6 +18,12 @@ pub fn lowered_code_makes_the_marks()
 /// stands.
 pub fn emitted_code_makes_the_marks()
     ensures { (s : Source) (code : Flat) (sig : CType → ℕ) → IsEmitted s code sig → MakesTheMarks s code }
+{}
+
+/// A law: each mark that a thread of the code makes above the cut answers what the code wants there as a function of the thread's
+/// marks above the cut so far, newest first, whatever came below.
+pub fn next_mark_answers_above()
+    ensures { (s : Source) (code : Flat) → ResultsAreConverted s → MakesTheMarks s code → NextAnswersAbove s code }
 {}
 
 /// A law: in code that holds nothing but the functions of a source, each construct by construct, it is known at each place

@@ -19,7 +19,7 @@ pub data Want : Type 0 where
   Calls : (indirect : Bool) (func : ℕ) (args : List ℕ) → Want  -- of the interface, above the cut
   Below : (func : ℕ) (args : List ℕ) → Want  -- anything below the cut: calls back, or the return of the call
   Gives : (func : ℕ) (args : List ℕ) → Want  -- the return of a builtin or external
-  Returns : (func result : ℕ) → Want  -- the return of a function with a body, which gave the result
+  Returns : (func : ℕ) (args : List ℕ) (result : ℕ) → Want  -- the return of a call of a function with a body, which gave the result
   CallsBack : (func : ℕ) (args bytes : List ℕ) → Want  -- an indirect call below the cut: an Up, or the function's frame
   UpReturns : (func result : ℕ) → Want
   Steps : (indirect : Bool) (func : ℕ) (args : List ℕ) → Want  -- a builtin or external, which is no event
@@ -81,7 +81,7 @@ event_answer (Calls i f args) (Call g bs ins outs prepared) = answer_if (eqb g f
 event_answer (Below f args) (Ret g bs v same outs commit) = answer_if (eqb g f && same_numbers bs args) (Value v)
 event_answer (Below f args) (Up g bs) = Some (CalledBack g bs)
 event_answer (Gives f args) (Ret g bs v same outs commit) = answer_if (eqb g f && same_numbers bs args) (Value v)
-event_answer (Returns f v) (Ret g bs w same outs commit) = answer_if (eqb g f && eqb w v) Go
+event_answer (Returns f args v) (Ret g bs w same outs commit) = answer_if (eqb g f && (same_numbers bs args && eqb w v)) Go
 event_answer (CallsBack f args bytes) (Up g bs) = answer_if (eqb g f && same_numbers bs args) (CalledBack f args)
 event_answer (UpReturns f v) (UpRet g w) = answer_if (eqb g f && eqb w v) Go
 event_answer _ _ = None

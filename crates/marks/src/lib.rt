@@ -10,6 +10,6 @@ mod side;
 
 pub use breach::BreachKind;
 pub use fault::FaultKind;
-pub use laws::{only_touched_bytes_count, unwritten_bytes_stay};
+pub use laws::{only_touched_bytes_count, returns_are_below, unwritten_bytes_stay};
 pub use places::{function_address, stack, thread_count};
 pub use side::Side;

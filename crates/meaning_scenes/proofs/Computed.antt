@@ -4,7 +4,8 @@ use Rattle.marks.specs.declared.side.Side.TheVariants.{Replay}
 use Rattle.marks.specs.Wants.{answer_to}
 use Rattle.c_code.specs.MarkLists.{Above, Ended, Open, Split, Wrong, reply}
 use Rattle.c_meaning.specs.Calls.{behaviour}
-use Rattle.meaning_scenes.specs.Programs.{asking, call, compound, enter, leave, load, loop, ret, store, sum, turn}
+use Rattle.c_meaning.specs.Parts.{replay_part}
+use Rattle.meaning_scenes.specs.Programs.{asking, call, compound, crossed, crossing, enter, leave, load, loop, ret, store, sum, turn}
 
 pub two_and_three : behaviour Split sum Replay 16 [] (enter 16 ∷ load 0 0x10000000 2 ∷ load 1 0x10000004 3 ∷ leave ∷ []) ≡ Ended 5
 unfolding reply answer_to
@@ -41,3 +42,15 @@ above = refl
 pub too_large : behaviour Split asking Replay 17 [] (enter 17 ∷ call 16 ∷ ret 16 2147483648 ∷ []) ≡ Wrong
 unfolding reply answer_to
 too_large = refl
+
+pub crosses : behaviour Split crossing Replay 17 [] (crossed (4 ∷ []) 5) ≡ Ended 5
+unfolding reply answer_to
+crosses = refl
+
+pub other_arguments : behaviour Split crossing Replay 17 [] (crossed (3 ∷ []) 5) ≡ Wrong
+unfolding reply answer_to
+other_arguments = refl
+
+pub seen_above : behaviour Above crossing Replay 17 [] (replay_part (crossed (4 ∷ []) 5)) ≡ Ended 5
+unfolding reply answer_to
+seen_above = refl

@@ -1,14 +1,12 @@
 -- Small programs, and lists of marks.
-use Rattle.std.specs.Prelude.{ℕ, zero, suc, Bool, true, false, List, [], ◌∷◌, ◌++◌, codes, replicate, Option, Some, None}
-use Rattle.logical_clock.specs.declared.key.KeyMark.{KeyMark}
-use Rattle.marks.specs.declared.side.Side.{Side}
+use Rattle.std.specs.Prelude.{ℕ, Bool, true, false, List, [], ◌∷◌, ◌++◌, codes, replicate, Some, None}
 use Rattle.marks.specs.declared.side.Side.TheVariants.{Replay, System}
 use Rattle.marks.specs.Marks.{Mark, Act, EventKind, Load, Store, Enter, Leave, Turn, Made, NoRegion}
 use Rattle.marks.specs.Marks as marks
 use Rattle.marks.specs.Ranges.{bytes_of_number}
 use Rattle.places.specs.declared.placed.Place.{Place}
 use Rattle.c_lexer.specs.declared.token.Sign.TheVariants as signs
-use Rattle.c_syntax.specs.Syntax.{Assign, Block, Body, Call, Decl, Decls, Entries, Entry, Expr, Expression, First, For, ExprFirst, If, LocalEntry, MoreDecls, MoreEntries, Name, NoDecls, NoEntries, NoExprs, NoParts, NoRest, OneExpr, Params, Continue, Postfix, Return, Stmt, StmtEntry, Initial, Plain}
+use Rattle.c_syntax.specs.Syntax.{Assign, Block, Body, Call, Decl, Entries, Expr, Expression, For, ExprFirst, MoreDecls, MoreEntries, MoreExprs, NoDecls, NoEntries, NoExprs, NoParts, NoRest, OneExpr, Params, Continue, Postfix, Return, Stmt, StmtEntry, Initial, Plain}
 use Rattle.c_typing.specs.Limits.{Outcome, outcome}
 use Rattle.c_typing.specs.Limits as limits
 use Rattle.c_typing.specs.Sources.{Program}
@@ -74,6 +72,10 @@ loop = laid (int_named (codes "i") ∷ main_of (For 20 (ExprFirst (assign (codes
 abbrev pub asking : Source
 asking = laid (declaring int_base (Params 8 NoDecls NoParts) (codes "now") NoRest ∷ main_giving (Call 30 (name (codes "now")) NoExprs) ∷ []) [] (replicate 16 false ++ true ∷ false ∷ [])
 
+-- int more(int n) { return n + 1; } int main(void) { return more(4); }, with `more` in the interface
+abbrev pub crossing : Source
+crossing = laid (declaring int_base (Params 8 (MoreDecls (int_named (codes "n")) NoDecls) NoParts) (codes "more") (Body (Block 20 (entries (give (two signs.Plus (name (codes "n")) (num 1)) ∷ [])))) ∷ main_giving (Call 30 (name (codes "more")) (MoreExprs (num 4) NoExprs)) ∷ []) [] (replicate 16 false ++ true ∷ false ∷ [])
+
 -- ---- marks
 
 abbrev pub mark : Act → Mark
@@ -105,3 +107,17 @@ call f = event (marks.Call f [] [] [] [])
 
 abbrev pub ret : (func result : ℕ) → Mark
 ret f v = event (marks.Ret f [] v false [] NoRegion)
+
+-- below the cut
+abbrev below : Act → Mark
+below act = record { thread = 0; side = System; index = 0; act = act }
+
+abbrev frame_below : ℕ
+frame_below = 0x60000000
+
+-- `main` calls `more`, whose body runs below the cut; its return has these arguments
+abbrev pub crossed : (args : List ℕ) → (result : ℕ) → List Mark
+crossed args v =
+    enter 17 ∷ event (marks.Call 16 (4 ∷ []) [] [] [])
+    ∷ below (Enter 16 (4 ∷ []) frame_below (bytes_of_number 16 4)) ∷ below (Load None frame_below (bytes_of_number 4 4)) ∷ below (Leave frame_below 16)
+    ∷ event (marks.Ret 16 args v false [] NoRegion) ∷ leave ∷ []

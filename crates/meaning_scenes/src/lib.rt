@@ -3,4 +3,7 @@
 
 mod rows;
 
-pub use rows::{a_call_of_the_interface, a_compound_assignment, a_loop_goes_on, loads_are_free};
+pub use rows::{
+    a_call_of_the_interface, a_compound_assignment, a_loop_goes_on, a_return_has_its_arguments,
+    loads_are_free,
+};

@@ -4,7 +4,8 @@ ghost use Rattle.std.specs.Prelude.{◌≡◌, [], ◌∷◌};
 ghost use Rattle.marks.specs.declared.side.Side.TheVariants.{Replay};
 ghost use Rattle.c_code.specs.MarkLists.{Above, Ended, Open, Split, Wrong};
 ghost use Rattle.c_meaning.specs.Calls.{behaviour};
-ghost use Rattle.meaning_scenes.specs.Programs.{asking, call, compound, enter, leave, load, loop, ret, store, sum, turn};
+ghost use Rattle.c_meaning.specs.Parts.{replay_part};
+ghost use Rattle.meaning_scenes.specs.Programs.{asking, call, compound, crossed, crossing, enter, leave, load, loop, ret, store, sum, turn};
 
 /// A sum of two globals has two loads, of whatever memory has there.
 pub fn loads_are_free()
@@ -29,4 +30,12 @@ pub fn a_call_of_the_interface()
     ensures split { behaviour Split asking Replay 17 [] (enter 17 ∷ call 16 ∷ ret 16 9 ∷ leave ∷ []) ≡ Ended 9 }
     ensures above { behaviour Above asking Replay 17 [] (enter 17 ∷ call 16 ∷ ret 16 9 ∷ leave ∷ []) ≡ Ended 9 }
     ensures too_large { behaviour Split asking Replay 17 [] (enter 17 ∷ call 16 ∷ ret 16 2147483648 ∷ []) ≡ Wrong }
+{}
+
+/// The return of a function of the interface has the arguments of its call. What stands above the cut is right where the code below
+/// it may be any.
+pub fn a_return_has_its_arguments()
+    ensures split { behaviour Split crossing Replay 17 [] (crossed (4 ∷ []) 5) ≡ Ended 5 }
+    ensures others { behaviour Split crossing Replay 17 [] (crossed (3 ∷ []) 5) ≡ Wrong }
+    ensures above { behaviour Above crossing Replay 17 [] (replay_part (crossed (4 ∷ []) 5)) ≡ Ended 5 }
 {}

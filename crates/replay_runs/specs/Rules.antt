@@ -22,7 +22,7 @@ abbrev pub is_above : Want → Bool
 is_above Outside = false
 is_above (Below func args) = false
 is_above (Gives func args) = false
-is_above (Returns func result) = false
+is_above (Returns func args result) = false
 is_above (CallsBack func args bytes) = false
 is_above (Steps indirect func args) = false
 is_above _ = true

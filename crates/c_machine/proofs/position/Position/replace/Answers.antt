@@ -1,7 +1,7 @@
 use Rattle.std.proofs.Common.{arith}
 use Rattle.c_stacks.specs.Stacks.{held}
 use Rattle.c_machine.proofs.Arguments.{uncovered_few}
-use Rattle.c_machine.proofs.position.Position.take_result.Goals as goal
+use Rattle.c_machine.proofs.position.Position.replace.Goals as goal
 
 pub push-requires : goal.push-requires
 push-requires c = omega (arith, uncovered_few c.args.call.indirect c.args.call.args (held c.args.self.now.values) (held c.uncover.new.self.values) c.uncover.ensures.values, c.uncover.ensures.room, c.requires.room)

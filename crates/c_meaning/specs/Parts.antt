@@ -1,0 +1,23 @@
+-- What of a thread's marks stands above the cut.
+use Rattle.std.specs.Prelude.{◌≡◌, ◌≢◌, cond, List, [], ◌∷◌, ◌++◌}
+use Rattle.marks.specs.declared.side.Side.TheVariants.{Replay}
+use Rattle.marks.specs.Marks.{Mark}
+use Rattle.c_code.specs.MarkLists.{Wrong, same_side}
+use Rattle.c_meaning.specs.Reading.{Marks}
+use Rattle.c_meaning.specs.Laws.{IsOneWant}
+
+-- the marks above the cut, which replay code makes, and the events
+abbrev pub replay_part : List Mark → List Mark
+replay_part [] = []
+replay_part (m ∷ ms) = cond (same_side m.side Replay) (m ∷ replay_part ms) (replay_part ms)
+
+-- the part above the cut of a list that is right by p is right by q
+abbrev pub ReplayPartIsRight : Marks → Marks → Type 0
+ReplayPartIsRight p q = (ms : List Mark) → p ms ≢ Wrong → q (replay_part ms) ≢ Wrong
+
+-- what is wanted above the cut is a function of the marks above it so far, whatever was made below: marks that may follow lists
+-- with one part above the cut answer one want
+abbrev pub WantAboveIsOne : Marks → Marks → Type 0
+WantAboveIsOne p q =
+    (ms ns : List Mark) (m n : Mark) (more less : List Mark) → replay_part ms ≡ replay_part ns → m.side ≡ Replay → n.side ≡ Replay →
+    p (ms ++ m ∷ more) ≢ Wrong → q (ns ++ n ∷ less) ≢ Wrong → IsOneWant m n
