@@ -1,5 +1,5 @@
 -- What the definition of subscripts says where its tests are known.
-use Rattle.std.proofs.Common.{◌≡◌, ℕ, Bool, true, false, List, Option, Some, None, Result, Ok, Err, refl, sym, ap, ◌∙◌, subst}
+use Rattle.std.proofs.Common.{◌≡◌, ℕ, true, false, List, Some, Result, Err, refl, sym, ap, ◌∙◌, subst}
 use Rattle.r2_num.specs.declared.kinds.IntKind.TheVariants.{I64}
 use Rattle.c_type_model.specs.Types.{CType, PointerTo}
 use Rattle.c_type_model.specs.declared.extent.Extent.{Extent}
@@ -11,14 +11,12 @@ use Rattle.c_typing.specs.Operators.{to_kind}
 use Rattle.c_typing.specs.Expressions.{element, subscript, subscript_of}
 use Rattle.c_typing.specs.TypedTree.{Value, Typed, Sum, AnObject, AValue, Element, PointerPlus, PlusPointer, value_type}
 use Rattle.c_typed_table.specs.declared.ids.NodeId.{NodeId}
-use Rattle.c_typed_table.specs.declared.node.Node.TheVariants as nodes
-use Rattle.c_typed_table.specs.Parts.{sum_in}
-use Rattle.c_typed_table.specs.Tables.{Table, typed_at, value_at, IsValueAt, Keeps, CanHold}
+use Rattle.c_typed_table.specs.Tables.{Table, typed_at, value_at, IsValueAt, Keeps}
 use Rattle.c_operators.specs.declared.error.TypeError.{TypeError}
 use Rattle.c_operators.specs.declared.error.TypeError.TheVariants.{Rule}
 use Rattle.c_operators.specs.Answers.{Agrees, StandsAt, is_pointer}
 use Rattle.c_operators.proofs.Rules.{broken, second_broken, both_kept}
-use Rattle.c_operators.proofs.Values.{is_value, stays_value, value_is, value_stays}
+use Rattle.c_operators.proofs.Values.{value_is, value_stays}
 
 pub object_passed : (t : Table) (c d : Checked Typed) (r : Result NodeId TypeError) → c ≡ d → Agrees (StandsAt t) d r → Agrees (StandsAt t) c r
 object_passed t c d r e h = let same : Checked Typed → Type 0 = λ x. Agrees (StandsAt t) x r in subst same (sym e) h

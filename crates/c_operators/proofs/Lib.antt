@@ -1,4 +1,8 @@
-mod Rules
-mod Values
+mod Arms
+mod Assigning
 mod Elements
+mod Lengths
+mod Parameters
+mod Rules
 mod Targets
+mod Values

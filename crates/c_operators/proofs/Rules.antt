@@ -172,6 +172,14 @@ both_kept from rule p q c h k = kept from rule p (keep from rule q >> c) h ∙ k
 pub second_broken : {A : Type 0} (from rule : ℕ) (p q : Bool) (c : Checked A) → p ≡ true → q ≡ false → (keep from rule p >> (keep from rule q >> c)) ≡ Broken from rule
 second_broken from rule p q c h k = kept from rule p (keep from rule q >> c) h ∙ broken from rule q c k
 
+pub first_true : (p q : Bool) → (p && q) ≡ true → p ≡ true
+first_true true q h = refl
+first_true false q h = h
+
+pub second_true : (p q : Bool) → (p && q) ≡ true → q ≡ true
+second_true true q h = h
+second_true false q h = absurd cc
+
 -- ---- comparisons
 
 neither_compared : (from : ℕ) (op : Op) (a b : Value) (t u : CType) → is_pointer t ≡ false → is_pointer u ≡ false → comparison_of from op a b t u ≡ arithmetic from op a b

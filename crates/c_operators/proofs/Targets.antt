@@ -1,13 +1,13 @@
 -- What the definition of `*` says where its tests are known.
-use Rattle.std.proofs.Common.{◌≡◌, ℕ, Bool, true, false, List, Option, Some, None, refl, ap, ◌∙◌}
+use Rattle.std.proofs.Common.{◌≡◌, ℕ, true, false, List, Option, Some, None, refl, ap, ◌∙◌}
 use Rattle.c_type_model.specs.Types.{CType, PointerTo, FunctionOf}
 use Rattle.c_type_model.specs.declared.extent.Extent.{Extent}
 use Rattle.c_type_table.specs.declared.ids.TypeId.{TypeId}
 use Rattle.c_type_table.specs.declared.ty.Ty.{Ty}
-use Rattle.c_typing.specs.Checked.{Checked, Fine, Broken, keep, ◌>>◌}
+use Rattle.c_typing.specs.Checked.{Fine, Broken, keep, ◌>>◌}
 use Rattle.c_typing.specs.TypeTests.{is_complete, is_function}
 use Rattle.c_typing.specs.Expressions.{pointed, pointed_of}
-use Rattle.c_typing.specs.TypedTree.{Value, Typed, AnObject, AFunction, Pointed, Through, value_type}
+use Rattle.c_typing.specs.TypedTree.{Value, AnObject, AFunction, Pointed, Through, value_type}
 use Rattle.c_operators.specs.Answers.{IsTarget, is_pointer}
 use Rattle.c_operators.proofs.Rules.{broken, kept}
 

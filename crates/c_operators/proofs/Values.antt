@@ -14,7 +14,7 @@ use Rattle.c_typed_table.specs.Parts.{IsRightType, sum_in, value_in, typed_in}
 use Rattle.c_typed_table.specs.Tables.{Table, typed_of, typed_at, value_at, node_at, IsValueAt, IsNode, Keeps, Names, CanHold}
 use Rattle.c_typed_table.proofs.Kept.{Extends, value_kept, is_value_kept}
 
-extends : (t u : Table) → Keeps t u → Extends (typed_of t) (typed_of u)
+pub extends : (t u : Table) → Keeps t u → Extends (typed_of t) (typed_of u)
 extends t u k = record { has = k.nodes }
 
 pub value_is : (t : Table) (id : NodeId) (v : Value) → typed_at t id ≡ Some (AValue v) → value_at t id ≡ v

@@ -21,6 +21,10 @@ Agrees is (Fine x) (Ok y) = is x y
 Agrees is (Broken from rule) (Err (Rule f r)) = (f ≡ from) × (r ≡ rule)
 Agrees is _ _ = ⊥
 
+-- there is nothing but the answer
+abbrev pub IsNothing : Unit {0} → Unit {0} → Type 0
+IsNothing x y = Unit {0}
+
 -- the value stands at the number
 abbrev pub IsAt : Table → Value → NodeId → Type 0
 IsAt t v id = typed_at t id ≡ Some (AValue v)

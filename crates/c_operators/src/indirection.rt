@@ -1,25 +1,13 @@
 //! `*` before an operand (C11 6.5.3.2, 4).
 
-ghost use Rattle.std.specs.Prelude.{◌≡◌, ◌<◌, length};
 ghost use Rattle.c_typing.specs.Expressions.{pointed as pointed_of};
-ghost use Rattle.c_typing.specs.TypeTests.{is_function as is_function_type};
-ghost use Rattle.c_type_table.specs.Tables.{type_at};
 ghost use Rattle.c_typed_table.specs.Tables.{IsValueAt, Keeps, value_at};
 ghost use Rattle.c_operators.specs.Answers.{Agrees, StandsAt};
 
 use crate::error::TypeError;
-use crate::queries::{size_of, target_of};
+use crate::queries::{is_function, size_of, target_of};
 use c_type_model::Extent;
-use c_type_table::{Ty, TypeId};
 use c_typed_table::{Node, NodeId, TypedTable};
-
-// Whether the type is that of a function.
-fn is_function(table: &TypedTable, ty: TypeId) -> bool
-    requires { ty.0 < length table.now.types }
-    ensures { result ≡ is_function_type (type_at table.now.types ty) }
-{
-    matches!(table.types().get(ty), Ty::Function { .. })
-}
 
 /// The function or the complete object that a pointer points to. `Rule` names the rule that the node at `from` breaks.
 pub fn pointed(

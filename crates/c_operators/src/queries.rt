@@ -2,15 +2,36 @@
 
 ghost use Rattle.std.specs.Prelude.{◌≡◌, ◌<◌, length};
 ghost use Rattle.c_typing.specs.TypedTree.{value_type};
-ghost use Rattle.c_typing.specs.TypeTests.{is_integer as is_integer_type, is_scalar as is_scalar_type, kind_in, same_type};
+ghost use Rattle.c_typing.specs.TypeTests.{is_function as is_function_type, is_integer as is_integer_type, is_scalar as is_scalar_type, kind_in, same_type};
 ghost use Rattle.c_type_table.specs.Tables.{type_at};
 ghost use Rattle.c_typed_table.specs.Tables.{IsValueAt, value_at};
 ghost use Rattle.c_operators.specs.Answers.{IsSizeOf, IsTarget};
+ghost use Rattle.c_operators.specs.Scalars.{IsScalar};
 
 use c_type_model::Extent;
 use c_type_table::{Ty, TypeId};
 use c_typed_table::{NodeId, TypedTable};
 use r2_num::IntKind;
+
+/// A scalar type (C11 6.2.5, 21).
+#[derive(Clone, Copy, Debug)]
+pub enum Scalar {
+    Integer(IntKind),
+    /// A pointer, with its target.
+    Pointer(TypeId),
+}
+
+/// Which scalar type this is; `None` of any other type.
+pub fn scalar_in(table: &TypedTable, ty: TypeId) -> Option<Scalar>
+    requires { ty.0 < length table.now.types }
+    ensures { IsScalar table.now.types (type_at table.now.types ty) result }
+{
+    match table.types().get(ty) {
+        Ty::Int(kind) => Some(Scalar::Integer(*kind)),
+        Ty::Pointer(target) => Some(Scalar::Pointer(*target)),
+        _ => None,
+    }
+}
 
 /// The kind of an integer; `None` of any other value.
 pub fn kind_of(table: &TypedTable, value: NodeId) -> Option<IntKind>
@@ -51,6 +72,14 @@ pub fn is_scalar(table: &TypedTable, value: NodeId) -> bool
         table.types().get(table.type_of(value)),
         Ty::Int(_) | Ty::Pointer(_)
     )
+}
+
+/// Whether the type is that of a function.
+pub fn is_function(table: &TypedTable, ty: TypeId) -> bool
+    requires { ty.0 < length table.now.types }
+    ensures { result ≡ is_function_type (type_at table.now.types ty) }
+{
+    matches!(table.types().get(ty), Ty::Function { .. })
 }
 
 /// Whether the two types are equal.

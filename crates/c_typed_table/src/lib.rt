@@ -7,6 +7,7 @@ mod entry;
 mod forms;
 mod ids;
 mod node;
+mod sorts;
 mod table;
 #[cfg(test)]
 mod tests;
@@ -16,4 +17,5 @@ pub use basics::BasicTypes;
 pub use entry::Entry;
 pub use ids::{NodeId, NodeIds};
 pub use node::{Given, Node, Sum, Way};
+pub use sorts::Sort;
 pub use table::TypedTable;

@@ -1,13 +1,10 @@
-use Rattle.std.proofs.Common.{◌≡◌, sym, ap, ◌∙◌, Some, Ok, Err}
+use Rattle.std.proofs.Common.{sym, ◌∙◌, Ok}
 use Rattle.c_type_table.specs.Tables.{type_at}
 use Rattle.c_typing.specs.Checked.{Fine}
-use Rattle.c_typing.specs.Operators.{as_it_is, can_cast, fits, to_kind}
-use Rattle.c_typing.specs.TypedTree.{AValue, Complement, Convert, Negate, Not, value_type}
-use Rattle.c_typing.specs.TypeTests.{is_scalar}
+use Rattle.c_typing.specs.Operators.{fits}
+use Rattle.c_typing.specs.TypedTree.{Convert, value_type}
 use Rattle.c_typed_table.specs.Tables.{value_at}
-use Rattle.c_typed_table.proofs.Growing.{through}
-use Rattle.c_operators.proofs.Rules.{missing, passed, rule, broken, kept, operand_made, operand_missing}
-use Rattle.c_operators.proofs.Values.{is_value, value_is}
+use Rattle.c_operators.proofs.Rules.{passed, rule, broken, kept}
 use Rattle.c_operators.proofs.conversions.assigned.Goals as goal
 
 pub returns-then-not-fits-clause-agrees : goal.returns-then-not-fits-clause-agrees

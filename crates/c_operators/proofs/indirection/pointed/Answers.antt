@@ -1,4 +1,4 @@
-use Rattle.std.proofs.Common.{◌≡◌, sym, ◌∙◌, Ok, Err}
+use Rattle.std.proofs.Common.{sym, ◌∙◌, Ok}
 use Rattle.c_type_table.specs.Tables.{type_at}
 use Rattle.c_typing.specs.TypedTree.{value_type}
 use Rattle.c_typed_table.specs.Tables.{value_at}

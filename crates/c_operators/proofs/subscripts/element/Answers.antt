@@ -1,4 +1,4 @@
-use Rattle.std.proofs.Common.{◌≡◌, ◌<◌, length, sym, ap, ◌∙◌, Some, Ok, Err, refl}
+use Rattle.std.proofs.Common.{sym, ap, ◌∙◌, Some, Ok, refl}
 use Rattle.r2_num.specs.declared.kinds.IntKind.TheVariants.{I64}
 use Rattle.c_type_table.specs.Tables.{type_at}
 use Rattle.c_typing.specs.Operators.{to_kind}
