@@ -22,11 +22,11 @@ use Rattle.c_typing.specs.Environment.{Environment, Meaning, Struct, FunctionNam
 
 -- ---- names and constants (C11 6.5.1, 6.4.4.1)
 
-abbrev unknown_name : (from : ℕ) → Option Builtin → Checked Typed
+abbrev pub unknown_name : (from : ℕ) → Option Builtin → Checked Typed
 unknown_name from (Some b) = Broken from 19
 unknown_name from None = Broken from 1
 
-abbrev meant : (from : ℕ) → (name : List ℕ) → Option Meaning → Checked Typed
+abbrev pub meant : (from : ℕ) → (name : List ℕ) → Option Meaning → Checked Typed
 meant from name (Some (FunctionNamed number t)) = Fine (AFunction (SourceFunction number) t)
 meant from name (Some (GlobalNamed place t)) = Fine (AnObject (GlobalObject place t))
 meant from name (Some (LocalNamed place t)) = Fine (AnObject (LocalObject place t))

@@ -94,11 +94,11 @@ abbrev start_of_value : Written → ℕ
 start_of_value (Plain x) = start_of x
 start_of_value (Braces from vs) = from
 
-abbrev member_types : List (List ℕ × CType) → List CType
+abbrev pub member_types : List (List ℕ × CType) → List CType
 member_types [] = []
 member_types ((name, t) ∷ members) = t ∷ member_types members
 
-abbrev types_in : List Struct → ℕ → List CType
+abbrev pub types_in : List Struct → ℕ → List CType
 types_in [] number = []
 types_in (s ∷ structs) zero = member_types s.members
 types_in (s ∷ structs) (suc number) = types_in structs number

@@ -72,11 +72,11 @@ members_from env before (MoreDecls d ds) = do
   m ← member_of env before d
   members_from env (before ++ m ∷ []) ds
 
-abbrev extent_or : Option Extent → Extent
+abbrev pub extent_or : Option Extent → Extent
 extent_or (Some e) = e
 extent_or None = scalar 1
 
-abbrev extents_of : List Extent → List (List ℕ × CType) → List Extent
+abbrev pub extents_of : List Extent → List (List ℕ × CType) → List Extent
 extents_of structs [] = []
 extents_of structs ((name, t) ∷ members) = extent_or (extent_of structs t) ∷ extents_of structs members
 
