@@ -1,0 +1,6 @@
+pub mod Composing
+mod Values
+mod Sayings
+mod Endings
+mod Heights
+mod Walking

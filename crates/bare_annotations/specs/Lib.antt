@@ -1,0 +1,4 @@
+pub mod Held
+pub mod Answers
+pub mod Sayings
+pub mod Places

@@ -1,0 +1,4 @@
+pub mod Pigeons
+pub mod Falls
+pub mod Ends
+pub mod Lower
