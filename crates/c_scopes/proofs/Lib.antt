@@ -1,4 +1,4 @@
-mod Numbers
+pub mod Numbers
 mod Places
 mod Meanings
 mod Starts

@@ -1,3 +1,3 @@
 mod Capped
 mod Multiples
-mod Steps
+pub mod Steps

@@ -1,4 +1,4 @@
 mod TypeLists
-mod Extents
+pub mod Extents
 mod Weights
 mod Empties
