@@ -1,5 +1,7 @@
 -- How checks that follow each other compose, and what answers agree with them.
 use Rattle.std.proofs.Common.{◌≡◌, Result, Ok, Err, refl, sym, subst}
+use Rattle.std.specs.Result.{IsErrAnd}
+use Rattle.std.proofs.lemmas.Result.{err_from_is_err_and}
 use Rattle.c_typing.specs.Checked.{Checked, Fine, Large, Broken, large, ◌>>=◌, ◌>>◌}
 use Rattle.bare_annotations.specs.declared.error.AnnotationError.{AnnotationError}
 use Rattle.bare_annotations.specs.declared.error.AnnotationError.TheVariants.{Rule, Memory}
@@ -70,3 +72,22 @@ pub goes_on : {A B C D : Type 0} (is : A → B → Type 0) (js : C → D → Typ
 goes_on is js (Fine x) d y r h k = k
 goes_on is js (Large x) d y r h k = large_tells js d r k
 goes_on is js (Broken a b) d y r h k = absurd h
+
+-- what a `?` returns
+pub raised : {A B : Type 0} (js : A → B → Type 0) (c : Checked A) (r : Result B AnnotationError) (e : AnnotationError) → IsErrAnd r (λ v. v ≡ e) → Tells js c (Err e) → Tells js c r
+raised js c r e h t = let p = err_from_is_err_and r h in rw (p.1, p.2) t
+
+-- a rule that is broken is broken whatever is sought
+pub same_error : {A B D : Type 0} (is : A → B → Type 0) (js : A → D → Type 0) (c : Checked A) (e : AnnotationError) → Tells is c (Err e) → Tells js c (Err e)
+same_error is js (Fine x) (Rule a b) h = absurd h
+same_error is js (Fine x) Memory h = tt
+same_error is js (Large x) (Rule a b) h = absurd h
+same_error is js (Large x) Memory h = tt
+same_error is js (Broken a b) (Rule f r) h = h
+same_error is js (Broken a b) Memory h = tt
+
+-- what is found tells something else
+pub tells_too : {A B D : Type 0} (is : A → B → Type 0) (js : A → D → Type 0) (c : Checked A) (y : B) (z : D) → ((x : A) → is x y → js x z) → Tells is c (Ok y) → Tells js c (Ok z)
+tells_too is js (Fine x) y z f h = f x h
+tells_too is js (Large x) y z f h = f x h
+tells_too is js (Broken a b) y z f h = absurd h

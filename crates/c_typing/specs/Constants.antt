@@ -29,15 +29,15 @@ abbrev pub converted : CType → ℤ → Option ℤ
 converted (Integer k) n = Some (wrapped k n)
 converted _ n = None
 
-abbrev result : Result ℤ Arith → Option ℤ
+abbrev pub result : Result ℤ Arith → Option ℤ
 result (Ok n) = Some n
 result (Err why) = None
 
-abbrev is_true : ℤ → ℤ
+abbrev pub is_true : ℤ → ℤ
 is_true n = truth (if is_zero n then false else true)
 
 infixl 10 ◌>>=◌
-abbrev ◌>>=◌ : Option ℤ → (ℤ → Option ℤ) → Option ℤ
+abbrev pub ◌>>=◌ : Option ℤ → (ℤ → Option ℤ) → Option ℤ
 Some n >>= f = f n
 None >>= f = None
 

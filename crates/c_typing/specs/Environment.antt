@@ -43,7 +43,7 @@ place_from at name (other ∷ names) = if same_name name other then Some at else
 abbrev pub place_in : List ℕ → List (List ℕ) → Option ℕ
 place_in name names = place_from 0 name names
 
-abbrev struct_type : List ℕ → Option ℕ → CType
+abbrev pub struct_type : List ℕ → Option ℕ → CType
 struct_type tag (Some number) = StructOf number
 struct_type tag None = UndefinedStruct tag
 

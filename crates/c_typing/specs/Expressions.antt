@@ -45,7 +45,7 @@ number_kind n suffixes.L true = I64
 number_kind n suffixes.L false = if nat_lt n (2 ^ 63) then I64 else U64
 number_kind n suffixes.UL decimal = U64
 
-abbrev constant : IntKind → ℤ → Checked Typed
+abbrev pub constant : IntKind → ℤ → Checked Typed
 constant k n = Fine (AValue (Constant k n))
 
 -- ---- members (C11 6.5.2.3)
@@ -146,13 +146,13 @@ called from (AFunction f t) = do
   Fine (f, g.0, g.1)
 called from x = called_value from (value_of x) (value_type (value_of x))
 
-abbrev builtin_called : (from : ℕ) → Builtin → Checked (Callee × CType × CTypes)
+abbrev pub builtin_called : (from : ℕ) → Builtin → Checked (Callee × CType × CTypes)
 builtin_called from b = do
   g ← function_type from (prototype_of b)
   Fine (BuiltinFunction b, g.0, g.1)
 
 -- the builtin that an expression names; None of any other expression
-abbrev builtin_unless : Option Meaning → List ℕ → Option Builtin
+abbrev pub builtin_unless : Option Meaning → List ℕ → Option Builtin
 builtin_unless (Some m) name = None
 builtin_unless None name = builtin_of name
 
@@ -163,7 +163,7 @@ builtin_in env x = None
 -- ---- declarators (C11 6.7.6)
 
 -- a length of 1 or more
-abbrev length_of : (from : ℕ) → Option ℤ → Checked ℕ
+abbrev pub length_of : (from : ℕ) → Option ℤ → Checked ℕ
 length_of from (Some (pos n)) = keep from 4 (nat_lt 0 n) >> Fine n
 length_of from _ = Broken from 4
 

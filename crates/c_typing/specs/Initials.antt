@@ -34,18 +34,18 @@ mutual
     MoreInitials : Initial → Initials → Initials
 
 -- a string, a function or a global array as the value of a pointer
-abbrev address_known : Typed → Option Known
+abbrev pub address_known : Typed → Option Known
 address_known (AnObject (TextObject from length)) = Some (AddressOfText from)
 address_known (AnObject (GlobalObject place (ArrayOf n t))) = Some (AddressOfGlobal place)
 address_known (AFunction (SourceFunction number) t) = Some (AddressOfFunction number)
 address_known _ = None
 
-abbrev global_known : Typed → Option Known
+abbrev pub global_known : Typed → Option Known
 global_known (AnObject (GlobalObject place t)) = Some (AddressOfGlobal place)
 global_known _ = None
 
 -- a name or string that is a pointer's value before a run
-abbrev known_by : Expr → Typed → Option Known
+abbrev pub known_by : Expr → Typed → Option Known
 known_by (Name from name) a = address_known a
 known_by (Text from bytes) a = address_known a
 known_by _ a = None
@@ -56,13 +56,13 @@ named_under_address (Prefix from signs.Ampersand (Name at name)) = Some (Name at
 named_under_address _ = None
 
 -- a pointer's value: the constant 0, or the address of what is named
-abbrev pointer_known : Environment → Expr → Typed → Option Expr → Checked Known
+abbrev pub pointer_known : Environment → Expr → Typed → Option Expr → Checked Known
 pointer_known env x a (Some y) = do
   b ← expression y env
   need (start_of x) 16 (global_known b)
 pointer_known env x a None = if is_null (value_of a) then Fine (Number (pos 0)) else need (start_of x) 16 (known_by x a)
 
-abbrev known_as : Environment → Expr → Typed → CType → Checked Known
+abbrev pub known_as : Environment → Expr → Typed → CType → Checked Known
 known_as env x a (Integer k) = do
   n ← need (start_of x) 16 (integer_constant (value_of a))
   m ← need (start_of x) 16 (converted (Integer k) n)
@@ -82,7 +82,7 @@ abbrev pub text_fits : ℕ → CType → List ℕ → Bool
 text_fits n (Integer I8) bytes = nat_le (length bytes + 1) n
 text_fits n t bytes = false
 
-abbrev plain_initial : Environment → CType → Expr → Checked Initial
+abbrev pub plain_initial : Environment → CType → Expr → Checked Initial
 plain_initial env (ArrayOf n t) (Text from bytes) = keep from 16 (text_fits n t bytes) >> Fine (Bytes bytes)
 plain_initial env (ArrayOf n t) x = Broken (start_of x) 16
 plain_initial env (StructOf number) x = Broken (start_of x) 16
@@ -90,7 +90,7 @@ plain_initial env t x = do
   k ← known env t x
   Fine (Scalar k)
 
-abbrev start_of_value : Written → ℕ
+abbrev pub start_of_value : Written → ℕ
 start_of_value (Plain x) = start_of x
 start_of_value (Braces from vs) = from
 

@@ -26,45 +26,45 @@ pub data Outcome : Type 0 where
   Rule : (from rule : ℕ) → Outcome
   Limit : Which → Outcome
 
-abbrev most_functions : ℕ
+abbrev pub most_functions : ℕ
 most_functions = 1000
 
-abbrev most_params : ℕ
+abbrev pub most_params : ℕ
 most_params = 8
 
-abbrev greatest_frame : ℕ
+abbrev pub greatest_frame : ℕ
 greatest_frame = 32768
 
-abbrev all_keep : {A : Type 0} → (A → Bool) → List A → Bool
+abbrev pub all_keep : {A : Type 0} → (A → Bool) → List A → Bool
 all_keep p [] = true
 all_keep p (x ∷ xs) = p x && all_keep p xs
 
-abbrev count : CTypes → ℕ
+abbrev pub count : CTypes → ℕ
 count NoTypes = 0
 count (MoreTypes t ts) = suc (count ts)
 
-abbrev few_params : Function → Bool
+abbrev pub few_params : Function → Bool
 few_params f = nat_le (count (params_of f.type)) most_params
 
-abbrev few_members : Struct → Bool
+abbrev pub few_members : Struct → Bool
 few_members s = nat_le (length s.members) most_members
 
-abbrev type_of : Global → CType
+abbrev pub type_of : Global → CType
 type_of g = g.type
 
 -- globals in one row, with the gaps between them
-abbrev globals_end : Program → ℕ
+abbrev pub globals_end : Program → ℕ
 globals_end p = end_from 0 (extents_in p (map type_of p.globals))
 
 -- a frame holds parameters and locals in order; its size is a multiple of 16, and 16 at least
 abbrev pub frame_size : Program → List CType → ℕ
 frame_size p ts = max 16 (next_multiple_of (end_from 0 (extents_in p ts)) 16)
 
-abbrev small_body : Program → Option typed.Body → Bool
+abbrev pub small_body : Program → Option typed.Body → Bool
 small_body p (Some b) = nat_le (frame_size p b.locals) greatest_frame
 small_body p None = true
 
-abbrev small_frame : Program → Function → Bool
+abbrev pub small_frame : Program → Function → Bool
 small_frame p f = small_body p f.body
 
 -- the first number that is gone past
@@ -78,11 +78,11 @@ first_limit small p =
     if all_keep (small_frame p) p.functions then None
     else Some Frame else Some Globals else Some Object else Some Members else Some Params else Some Functions
 
-abbrev unless : Program → Option Which → Outcome
+abbrev pub unless : Program → Option Which → Outcome
 unless p (Some w) = Limit w
 unless p None = Typed p
 
-abbrev decided : Checked Program → Outcome
+abbrev pub decided : Checked Program → Outcome
 decided (Fine p) = unless p (first_limit true p)
 decided (Large p) = unless p (first_limit false p)
 decided (Broken from rule) = Rule from rule

@@ -37,7 +37,7 @@ pub record Program : Type 0 where
   -- the names at file scope
   pub names : Scope Meaning
 
-abbrev nothing : Program
+abbrev pub nothing : Program
 nothing = record { structs = []; functions = []; globals = []; names = [] }
 
 -- what is declared at file scope, where these are the tags of the structs that the source defines
@@ -46,7 +46,7 @@ at_file tags p = record { tags = tags; structs = p.structs; scopes = p.names ∷
 
 -- ---- structs (C11 6.7.2.1)
 
-abbrev tag_of : Decl → List (List ℕ)
+abbrev pub tag_of : Decl → List (List ℕ)
 tag_of (Declare from an (bases.Struct tag) ps n (Members ds)) = tag ∷ []
 tag_of _ = []
 
@@ -55,7 +55,7 @@ abbrev pub tags_of : Decls → List (List ℕ)
 tags_of NoDecls = []
 tags_of (MoreDecls d ds) = tag_of d ++ tags_of ds
 
-abbrev among : List ℕ → List (List ℕ × CType) → Bool
+abbrev pub among : List ℕ → List (List ℕ × CType) → Bool
 among name members = is_some (meaning_in name members)
 
 abbrev pub member_of : Environment → List (List ℕ × CType) → Decl → Checked (List ℕ × CType)
@@ -85,7 +85,7 @@ abbrev pub extents_in : Program → List CType → List Extent
 extents_in p [] = []
 extents_in p (t ∷ ts) = extent_or (extent_of (map (λ s. s.extent) p.structs) t) ∷ extents_in p ts
 
-abbrev is_next : ℕ → Option ℕ → Bool
+abbrev pub is_next : ℕ → Option ℕ → Bool
 is_next n (Some number) = number == n
 is_next n None = false
 
@@ -123,22 +123,22 @@ nearest (Array from x ps) = nearest ps
 nearest (Params from ds NoParts) = ds
 nearest (Params from ds ps) = nearest ps
 
-abbrev listed : CTypes → List CType
+abbrev pub listed : CTypes → List CType
 listed NoTypes = []
 listed (MoreTypes t ts) = t ∷ listed ts
 
-abbrev main : List ℕ
+abbrev pub main : List ℕ
 main = codes "main"
 
 -- the function where a program begins is int main(void) (C11 5.1.2.2.1)
 abbrev pub main_type : CType
 main_type = FunctionOf (Integer I32) NoTypes
 
-abbrev is_main : List ℕ → CType → Bool
+abbrev pub is_main : List ℕ → CType → Bool
 is_main name t = not (same_name name main) || same_type t main_type
 
 -- a function that was declared before is declared again with an equal type (C11 6.7, 4)
-abbrev declared_again : Program → (from : ℕ) → CType → Option Meaning → (name : List ℕ) → Checked (ℕ × Program)
+abbrev pub declared_again : Program → (from : ℕ) → CType → Option Meaning → (name : List ℕ) → Checked (ℕ × Program)
 declared_again p from t (Some (FunctionNamed number u)) name = keep from 1 (same_type t u) >> Fine (number, p)
 declared_again p from t (Some m) name = Broken from 1
 declared_again p from t None name =
@@ -151,12 +151,12 @@ function_declared p from t name = do
   keep from 19 (not (is_reserved name))
   declared_again p from t (meaning_in name p.names) name
 
-abbrev body_at : List Function → ℕ → Option typed.Body
+abbrev pub body_at : List Function → ℕ → Option typed.Body
 body_at [] place = None
 body_at (f ∷ fs) zero = f.body
 body_at (f ∷ fs) (suc place) = body_at fs place
 
-abbrev with_body : List Function → ℕ → typed.Body → List Function
+abbrev pub with_body : List Function → ℕ → typed.Body → List Function
 with_body [] place b = []
 with_body (f ∷ fs) zero b = record f { body = Some b } ∷ fs
 with_body (f ∷ fs) (suc place) b = f ∷ with_body fs place b
@@ -191,7 +191,7 @@ function_defined tags p from place name t ps s = do
   b ← body_of (at_file tags p) t ps s
   Fine (record p { functions = with_body p.functions place b })
 
-abbrev function_rest : List (List ℕ) → Program → (from place : ℕ) → (name : List ℕ) → CType → Parts → Rest → Checked Program
+abbrev pub function_rest : List (List ℕ) → Program → (from place : ℕ) → (name : List ℕ) → CType → Parts → Rest → Checked Program
 function_rest tags p from place name t ps NoRest = Fine p
 function_rest tags p from place name t ps (Initial v) = Broken from 16
 function_rest tags p from place name t ps (Body s) = function_defined tags p from place name t ps s
@@ -204,7 +204,7 @@ function tags p from name t ps r = do
 
 -- ---- globals
 
-abbrev global_value : List (List ℕ) → Program → (from : ℕ) → CType → Rest → Checked (Option initials.Initial)
+abbrev pub global_value : List (List ℕ) → Program → (from : ℕ) → CType → Rest → Checked (Option initials.Initial)
 global_value tags p from t NoRest = Fine None
 global_value tags p from t (Initial v) = do
   x ← initials.initial v (at_file tags p) t
@@ -223,7 +223,7 @@ global tags p from name t r = do
 
 -- ---- sources
 
-abbrev function_or_global : List (List ℕ) → Program → (from : ℕ) → (name : List ℕ) → CType → Parts → Rest → Checked Program
+abbrev pub function_or_global : List (List ℕ) → Program → (from : ℕ) → (name : List ℕ) → CType → Parts → Rest → Checked Program
 function_or_global tags p from name (FunctionOf r ts) ps rest = function tags p from name (FunctionOf r ts) ps rest
 function_or_global tags p from name t ps rest = global tags p from name t rest
 
@@ -240,7 +240,7 @@ declarations tags p (MoreDecls d ds) = do
   q ← declaration tags p d
   declarations tags q ds
 
-abbrev has_main : List Function → Bool
+abbrev pub has_main : List Function → Bool
 has_main [] = false
 has_main (f ∷ fs) = (same_name f.name main && is_some f.body) || has_main fs
 

@@ -112,7 +112,7 @@ returned env from t (OneExpr x) = do
   w ← assigned (start_of x) t v
   Fine (typed.Return (OneValue w))
 
-abbrev evaluated : MaybeValue → Statement
+abbrev pub evaluated : MaybeValue → Statement
 evaluated NoValue = typed.Block NoStatements
 evaluated (OneValue v) = typed.Evaluate v
 
@@ -120,7 +120,7 @@ evaluated (OneValue v) = typed.Evaluate v
 abbrev pub outside : Environment → List CType → Declared
 outside env locals = record { env = env; locals = locals }
 
-abbrev inside : Declared → Declared
+abbrev pub inside : Declared → Declared
 inside d = record d { env = inner d.env }
 
 abbrev mutual

@@ -1,5 +1,5 @@
 -- In a tree that stands for a source each way from node to node ends.
-use Rattle.std.proofs.Common.{◌≡◌, ◌<◌, ◌⊎◌, inl, inr, ℕ, List, [], ◌∷◌, ◌++◌, map, length, Option, Some, None, refl, sym, ap, ◌∙◌, arith, subst}
+use Rattle.std.proofs.Common.{◌≡◌, ℕ, List, ◌∷◌, ◌++◌, map, Some, sym, ap, ◌∙◌, subst}
 use Rattle.c_syntax.specs.declared.id.DeclId.{DeclId}
 use Rattle.c_syntax.specs.declared.id.StmtId.{StmtId}
 use Rattle.c_syntax.specs.declared.id.ExprId.{ExprId}
@@ -12,10 +12,10 @@ use Rattle.c_syntax.specs.declared.declaration.Part.{Part}
 use Rattle.c_syntax.specs.declared.statement.StmtKind.{StmtKind}
 use Rattle.c_syntax.specs.declared.statement.Entry.{Entry}
 use Rattle.c_syntax.specs.Nodes.{Nodes, decl_at, stmt_at, expr_at}
-use Rattle.c_syntax.specs.Syntax.{Expr, Exprs, Decl, Decls, Annots, Annot as Annotated, Items, Item as Factors, Atom, Parts, Stmt, Entries, Entry as Stood, Name, Number, Char, Text, Binary, Assign, Cond, Prefix, Postfix, SizeofExpr, SizeofType, Cast, Index, Call, Member, Arrow, NoExprs, MoreExprs, Declare, NoDecls, MoreDecls, NoAnnots, MoreAnnots, Annotate, NoItems, MoreItems, OneFactor, TwoFactors, NameAtom, NumberAtom, ReturnAtom, SizeofAtom, NoParts, Pointer, Array, Params, Block, Expression, If, IfElse, While, Do, For, Break, Continue, Return, NoEntries, MoreEntries, LocalEntry, StmtEntry}
-use Rattle.c_syntax.specs.Stands.{IsExprAt, IsStmtAt, Stands, StandExprs, StandsDecl, StandDecls, StandAnnots, StandsAnnot, StandsItem, StandsEntry, StandItems, StandsAtom, StandParts, StandsStmt, StandEntries}
+use Rattle.c_syntax.specs.Syntax.{Expr, Exprs, Decl, Decls, Annots, Annot as Annotated, Items, Item as Factors, Atom, Parts, Stmt, Entries, Name, Number, Char, Text, Binary, Assign, Cond, Prefix, Postfix, SizeofExpr, SizeofType, Cast, Index, Call, Member, Arrow, NoExprs, MoreExprs, Declare, NoDecls, MoreDecls, NoAnnots, MoreAnnots, Annotate, NoItems, MoreItems, OneFactor, TwoFactors, NameAtom, NumberAtom, ReturnAtom, SizeofAtom, NoParts, Pointer, Array, Params, Block, Expression, If, IfElse, While, Do, For, Break, Continue, Return, NoEntries, MoreEntries, LocalEntry, StmtEntry}
+use Rattle.c_syntax.specs.Stands.{IsExprAt, IsStmtAt, Stands, StandExprs, StandsDecl, StandDecls, StandAnnots, StandsAnnot, StandsItem, StandItems, StandsAtom, StandParts, StandsStmt, StandEntries}
 use Rattle.c_walks.specs.Heights.{Ends, AllEnd, ends, none_end, more_end}
-use Rattle.c_walks.specs.Named.{Node, AnExpr, ADecl, AStmt, by_expr, by_expr_node, by_kind, by_parts, by_atom, by_second, by_item, by_items, by_annots, by_decl, by_decl_node, by_stmt, by_stmt_node, by_entries, named_by}
+use Rattle.c_walks.specs.Named.{Node, AnExpr, ADecl, AStmt, by_expr, by_expr_node, by_kind, by_parts, by_atom, by_second, by_item, by_items, by_annots, by_decl_node, by_stmt, by_stmt_node, by_entries, named_by}
 
 abbrev Each : Nodes → List Node → Type 0
 Each N vs = AllEnd (named_by N) vs

@@ -2,3 +2,5 @@ pub mod Pigeons
 pub mod Falls
 pub mod Ends
 pub mod Lower
+pub mod Tokens
+pub mod Spelled

@@ -1,3 +1,4 @@
 pub mod Heights
 pub mod Named
+pub mod Numbers
 pub mod Walks

@@ -1,6 +1,6 @@
-//! What a walk over the tree of a source rests on: each node is higher than those that it names.
+//! What a walk over the tree of a source rests on: nodes are higher than those that they name, and types can represent all numbers.
 #![tactic(auto)]
 
 mod laws;
 
-pub use laws::heights_fall;
+pub use laws::{heights_fall, numbers_fit};

@@ -12,26 +12,26 @@ use Rattle.cut_meaning.specs.Misplaced.{bare_decls}
 use Rattle.cut_meaning.specs.Notes.{Notes, Annotated}
 use Rattle.cut_meaning.specs.Functions.{Kind, declared_later, function_notes, global_notes}
 
-abbrev function_at : List Function → ℕ → Option Function
+abbrev pub function_at : List Function → ℕ → Option Function
 function_at [] place = None
 function_at (f ∷ fs) zero = Some f
 function_at (f ∷ fs) (suc place) = function_at fs place
 
-abbrev kind_of : Function → Kind
+abbrev pub kind_of : Function → Kind
 kind_of f = record { is_main = same_name f.name (codes "main"); has_body = is_some f.body }
 
-abbrev noted_as : Environment → Decl → Function → CType → Annotated → Checked Annotated
+abbrev pub noted_as : Environment → Decl → Function → CType → Annotated → Checked Annotated
 noted_as env d f (FunctionOf r ts) a = do
   n ← function_notes env (kind_of f) d r ts
   Fine (record a { functions = a.functions ++ n ∷ [] })
 noted_as env d f t a = Fine a
 
 -- functions have their numbers by their first declarations: the next one is declared for the first time here
-abbrev noted_function : Environment → Decl → (place : ℕ) → Option Function → Annotated → Checked Annotated
+abbrev pub noted_function : Environment → Decl → (place : ℕ) → Option Function → Annotated → Checked Annotated
 noted_function env d place None a = Fine a
 noted_function env d place (Some f) a = if nat_lt place (length a.functions) then (declared_later d >> Fine a) else noted_as env d f f.type a
 
-abbrev noted_name : Environment → Program → Decl → Option Meaning → Annotated → Checked Annotated
+abbrev pub noted_name : Environment → Program → Decl → Option Meaning → Annotated → Checked Annotated
 noted_name env p d (Some (FunctionNamed number t)) a = noted_function env d (number - 16) (function_at p.functions (number - 16)) a
 noted_name env p d m a = do
   g ← global_notes d
@@ -54,7 +54,7 @@ annotations ds p = all_noted (at_file (tags_of ds) p) p ds (record { functions =
 
 -- ---- cuts
 
-abbrev named : List ℕ → List (List ℕ) → Bool
+abbrev pub named : List ℕ → List (List ℕ) → Bool
 named cut [] = false
 named cut (c ∷ cs) = same_name cut c || named cut cs
 
@@ -62,7 +62,7 @@ named cut (c ∷ cs) = same_name cut c || named cut cs
 abbrev pub in_cut : List ℕ → Notes → Bool
 in_cut cut n = named cut n.cuts
 
-abbrev any_in : List ℕ → List Notes → Bool
+abbrev pub any_in : List ℕ → List Notes → Bool
 any_in cut [] = false
 any_in cut (n ∷ ns) = in_cut cut n || any_in cut ns
 

@@ -19,18 +19,18 @@ pub record Kind : Type 0 where
 -- ---- words
 
 -- the names in brackets, of which there is one at least
-abbrev names_in : (from : ℕ) → Items → Checked (List (List ℕ))
+abbrev pub names_in : (from : ℕ) → Items → Checked (List (List ℕ))
 names_in from NoItems = Fine []
 names_in from (MoreItems (OneFactor at (NameAtom name)) xs) = do
   names ← names_in from xs
   Fine (name ∷ names)
 names_in from (MoreItems x xs) = Broken from 1
 
-abbrev is_filled : Items → Bool
+abbrev pub is_filled : Items → Bool
 is_filled NoItems = false
 is_filled (MoreItems x xs) = true
 
-abbrev among : ℕ → List ℕ → Bool
+abbrev pub among : ℕ → List ℕ → Bool
 among n [] = false
 among n (m ∷ ms) = (n == m) || among n ms
 
@@ -40,14 +40,14 @@ mutex (OneFactor from (NumberAtom n)) = keep from 8 (nat_lt n (2 ^ 31)) >> Fine 
 mutex (OneFactor from a) = Broken from 8
 mutex (TwoFactors from a b) = Broken from 8
 
-abbrev two_items : Items → Option (Item × Item)
+abbrev pub two_items : Items → Option (Item × Item)
 two_items (MoreItems x (MoreItems y NoItems)) = Some (x, y)
 two_items _ = None
 
-abbrev nothing : Notes
+abbrev pub nothing : Notes
 nothing = record { cuts = []; params = []; sync = []; commit = None; cache = false; holds = [] }
 
-abbrev cut_word : (from : ℕ) → Items → Kind → Notes → Checked Notes
+abbrev pub cut_word : (from : ℕ) → Items → Kind → Notes → Checked Notes
 cut_word from is k n = do
   keep from 1 (is_filled is)
   keep from 2 (no_cut n.cuts)
@@ -59,14 +59,14 @@ cut_word from is k n = do
     no_cut [] = true
     no_cut (c ∷ cs) = false
 
-abbrev sync_word : (from : ℕ) → Items → Signature → Notes → Checked Notes
+abbrev pub sync_word : (from : ℕ) → Items → Signature → Notes → Checked Notes
 sync_word from is s n = do
   x ← need from 1 (one_item is)
   p ← key_parameter s x
   keep from 2 (not (among p n.sync))
   Fine (record n { sync = n.sync ++ p ∷ [] })
 
-abbrev commit_word : (from : ℕ) → Items → Signature → Notes → Checked Notes
+abbrev pub commit_word : (from : ℕ) → Items → Signature → Notes → Checked Notes
 commit_word from is s n = do
   xs ← need from 1 (two_items is)
   keep from 2 (is_none n.commit)
@@ -74,7 +74,7 @@ commit_word from is s n = do
   used ← size s true xs.1
   Fine (record n { commit = Some (key, used) })
 
-abbrev holds_word : (from : ℕ) → Items → Kind → Notes → Checked Notes
+abbrev pub holds_word : (from : ℕ) → Items → Kind → Notes → Checked Notes
 holds_word from is k n = do
   x ← need from 1 (one_item is)
   m ← mutex x
@@ -84,7 +84,7 @@ holds_word from is k n = do
   Fine (record n { holds = n.holds ++ m ∷ [] })
 
 -- one annotation of a function more
-abbrev noted : Annot → Signature → Kind → Notes → Checked Notes
+abbrev pub noted : Annot → Signature → Kind → Notes → Checked Notes
 noted (Annotate from word is) s k n =
     if same_name word (codes "cut") then cut_word from is k n
     else if same_name word (codes "sync") then sync_word from is s n
@@ -93,7 +93,7 @@ noted (Annotate from word is) s k n =
     else if same_name word (codes "holds") then holds_word from is k n
     else Broken from 1
 
-abbrev all_noted : Annots → Signature → Kind → Notes → Checked Notes
+abbrev pub all_noted : Annots → Signature → Kind → Notes → Checked Notes
 all_noted NoAnnots s k n = Fine n
 all_noted (MoreAnnots x xs) s k n = do
   m ← noted x s k n
@@ -109,7 +109,7 @@ own_parameters (Array from x ps) = own_parameters ps
 own_parameters (Params from ds NoParts) = ds
 own_parameters (Params from ds ps) = own_parameters ps
 
-abbrev result_parts : Parts → Parts
+abbrev pub result_parts : Parts → Parts
 result_parts NoParts = NoParts
 result_parts (Pointer from ps) = Pointer from (result_parts ps)
 result_parts (Array from x ps) = Array from x (result_parts ps)
@@ -122,10 +122,10 @@ named_parameters (MoreDecls d ds) NoTypes = []
 named_parameters (MoreDecls (Declare from an b ps n r) ds) (MoreTypes t ts) = (n, t) ∷ named_parameters ds ts
 
 -- annotations in a parameter's own declarator are out of place
-abbrev bare_within : Decl → Checked (Unit {0})
+abbrev pub bare_within : Decl → Checked (Unit {0})
 bare_within (Declare from an b ps n r) = bare_annots an >> bare_parts ps >> bare_rest r
 
-abbrev all_parameters : Decls → Signature → (place : ℕ) → CTypes → Checked (List Parameter)
+abbrev pub all_parameters : Decls → Signature → (place : ℕ) → CTypes → Checked (List Parameter)
 all_parameters NoDecls s place ts = Fine []
 all_parameters (MoreDecls d ds) s place NoTypes = Fine []
 all_parameters (MoreDecls d ds) s place (MoreTypes t ts) = do
@@ -135,15 +135,15 @@ all_parameters (MoreDecls d ds) s place (MoreTypes t ts) = do
   ps ← all_parameters ds (record s { env = further }) (place + 1) ts
   Fine (p ∷ ps)
 
-abbrev is_empty : List (List ℕ) → Bool
+abbrev pub is_empty : List (List ℕ) → Bool
 is_empty [] = true
 is_empty (c ∷ cs) = false
 
-abbrev no_holds : List ℕ → Bool
+abbrev pub no_holds : List ℕ → Bool
 no_holds [] = true
 no_holds (m ∷ ms) = false
 
-abbrev within : Signature → Environment → Signature
+abbrev pub within : Signature → Environment → Signature
 within s env = record s { env = env }
 
 -- what the first declaration of a function says of it
@@ -160,11 +160,11 @@ function_notes env k (Declare from an b ps n r) t ts = do
 
 -- ---- later declarations, and globals
 
-abbrev nothing_again : Annots → Checked (Unit {0})
+abbrev pub nothing_again : Annots → Checked (Unit {0})
 nothing_again NoAnnots = Fine tt
 nothing_again (MoreAnnots (Annotate from word is) xs) = Broken from 2
 
-abbrev none_again : Decls → Checked (Unit {0})
+abbrev pub none_again : Decls → Checked (Unit {0})
 none_again NoDecls = Fine tt
 none_again (MoreDecls (Declare from an b ps n r) ds) = nothing_again an >> bare_parts ps >> bare_rest r >> none_again ds
 
@@ -172,7 +172,7 @@ none_again (MoreDecls (Declare from an b ps n r) ds) = nothing_again an >> bare_
 abbrev pub declared_later : Decl → Checked (Unit {0})
 declared_later (Declare from an b ps n r) = nothing_again an >> none_again (own_parameters ps) >> bare_parts (result_parts ps) >> bare_rest r
 
-abbrev guard_word : (from : ℕ) → (word : List ℕ) → Items → Option ℕ → Checked (Option ℕ)
+abbrev pub guard_word : (from : ℕ) → (word : List ℕ) → Items → Option ℕ → Checked (Option ℕ)
 guard_word from word is before = do
   keep from 1 (same_name word (codes "guarded_by"))
   x ← need from 1 (one_item is)
@@ -180,7 +180,7 @@ guard_word from word is before = do
   m ← mutex x
   Fine (Some m)
 
-abbrev guards : Annots → Option ℕ → Checked (Option ℕ)
+abbrev pub guards : Annots → Option ℕ → Checked (Option ℕ)
 guards NoAnnots before = Fine before
 guards (MoreAnnots (Annotate from word is) xs) before = do
   g ← guard_word from word is before

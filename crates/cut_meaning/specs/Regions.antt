@@ -21,11 +21,11 @@ pub record Signature : Type 0 where
 
 -- ---- parameters by name
 
-abbrev is_called : List ℕ → Option (List ℕ) → Bool
+abbrev pub is_called : List ℕ → Option (List ℕ) → Bool
 is_called name (Some other) = same_name name other
 is_called name None = false
 
-abbrev place_from : ℕ → List ℕ → List (Option (List ℕ) × CType) → Option (ℕ × CType)
+abbrev pub place_from : ℕ → List ℕ → List (Option (List ℕ) × CType) → Option (ℕ × CType)
 place_from at name [] = None
 place_from at name ((other, t) ∷ ps) = if is_called name other then Some (at, t) else place_from (suc at) name ps
 
@@ -45,7 +45,7 @@ key_parameter s (TwoFactors from a b) = Broken from 7
 -- ---- sizes, in bytes
 
 -- a factor of a size: an integer parameter, a number, the size of a type, or the integer result where that is known
-abbrev term : Signature → (from : ℕ) → (known : Bool) → Atom → Checked Term
+abbrev pub term : Signature → (from : ℕ) → (known : Bool) → Atom → Checked Term
 term s from known (NameAtom name) = do
   p ← need from 4 (parameter_named s name)
   keep from 4 (is_integer p.1)
@@ -66,12 +66,12 @@ size s known (TwoFactors from a b) = do
   y ← term s from known b
   Fine (record { a = x; b = Some y })
 
-abbrev is_return : Atom → Bool
+abbrev pub is_return : Atom → Bool
 is_return ReturnAtom = true
 is_return a = false
 
 -- the result is a factor
-abbrev needs_result : Option Item → Bool
+abbrev pub needs_result : Option Item → Bool
 needs_result None = false
 needs_result (Some (OneFactor from a)) = is_return a
 needs_result (Some (TwoFactors from a b)) = is_return a || is_return b
@@ -87,10 +87,10 @@ pub record Marked : Type 0 where
   pub cap : Option Item
   pub prepare : Option Item
 
-abbrev unmarked : Marked
+abbrev pub unmarked : Marked
 unmarked = record { has_in = false; has_out = false; callback = false; bsize = None; cap = None; prepare = None }
 
-abbrev no_items : Items → Bool
+abbrev pub no_items : Items → Bool
 no_items NoItems = true
 no_items (MoreItems x xs) = false
 
@@ -105,14 +105,14 @@ alone from is before = do
   keep from 2 (not before)
 
 -- a word with one item, once per list
-abbrev with_one : (from : ℕ) → Items → (before : Option Item) → Checked Item
+abbrev pub with_one : (from : ℕ) → Items → (before : Option Item) → Checked Item
 with_one from is before = do
   x ← need from 1 (one_item is)
   keep from 2 (is_none before)
   Fine x
 
 -- one annotation more
-abbrev marked : Annot → Marked → Checked Marked
+abbrev pub marked : Annot → Marked → Checked Marked
 marked (Annotate from word is) m =
     if same_name word (codes "in") then alone from is m.has_in >> Fine (record m { has_in = true })
     else if same_name word (codes "out") then alone from is m.has_out >> Fine (record m { has_out = true })
@@ -122,29 +122,29 @@ marked (Annotate from word is) m =
     else if same_name word (codes "prepare") then (with_one from is m.prepare >>= λ x. Fine (record m { prepare = Some x }))
     else Broken from 1
 
-abbrev all_marked : Annots → Marked → Checked Marked
+abbrev pub all_marked : Annots → Marked → Checked Marked
 all_marked NoAnnots m = Fine m
 all_marked (MoreAnnots x xs) m = do
   n ← marked x m
   all_marked xs n
 
-abbrev has_region : Marked → Bool
+abbrev pub has_region : Marked → Bool
 has_region m = m.has_in || (m.has_out || is_some m.prepare)
 
-abbrev is_object_pointer : CType → Bool
+abbrev pub is_object_pointer : CType → Bool
 is_object_pointer (PointerTo t) = not (is_function t)
 is_object_pointer t = false
 
-abbrev is_function_pointer : CType → Bool
+abbrev pub is_function_pointer : CType → Bool
 is_function_pointer (PointerTo t) = is_function t
 is_function_pointer t = false
 
-abbrev target : CType → CType
+abbrev pub target : CType → CType
 target (PointerTo t) = t
 target t = Void
 
 -- `prepare` stands without `in` and `out`, `bsize` with one of them, `cap` with `out` or `prepare`, and a `bsize` with the result has a `cap`
-abbrev go_together : Marked → Bool
+abbrev pub go_together : Marked → Bool
 go_together m =
     (is_none m.prepare || not (m.has_in || m.has_out)) &&
     ((is_none m.bsize || (m.has_in || m.has_out)) &&
@@ -152,40 +152,40 @@ go_together m =
     (not (needs_result m.bsize) || is_some m.cap)))
 
 -- the size of what the pointer points to, which the source has to know
-abbrev own_size : Signature → (from : ℕ) → CType → Checked Size
+abbrev pub own_size : Signature → (from : ℕ) → CType → Checked Size
 own_size s from t = do
   keep from 6 (is_complete (extents s.env) t)
   Fine (record { a = Const (size_in (extents s.env) t); b = None })
 
-abbrev first_of : Option Item → Option Item → Option Item
+abbrev pub first_of : Option Item → Option Item → Option Item
 first_of (Some x) y = Some x
 first_of None y = y
 
-abbrev size_or_own : Signature → (from : ℕ) → (known : Bool) → CType → Option Item → Checked Size
+abbrev pub size_or_own : Signature → (from : ℕ) → (known : Bool) → CType → Option Item → Checked Size
 size_or_own s from known t (Some x) = size s known x
 size_or_own s from known t None = own_size s from t
 
 -- `in` reads so many bytes: with `out` the capacity
-abbrev reads_of : Signature → (from : ℕ) → CType → Marked → Checked (Option Size)
+abbrev pub reads_of : Signature → (from : ℕ) → CType → Marked → Checked (Option Size)
 reads_of s from t m =
     if not m.has_in then Fine None
     else (size_or_own s from false t (if m.has_out then first_of m.cap m.bsize else m.bsize) >>= λ z. Fine (Some z))
 
 -- `out` with one of the two sizes has it for both
-abbrev writes_of : Signature → (from : ℕ) → CType → Marked → Checked (Option (Size × Size))
+abbrev pub writes_of : Signature → (from : ℕ) → CType → Marked → Checked (Option (Size × Size))
 writes_of s from t m =
     if not m.has_out then Fine None
     else (size_or_own s from false t (first_of m.cap m.bsize) >>= λ capacity.
     size_or_own s from true t (first_of m.bsize m.cap) >>= λ used. Fine (Some (capacity, used)))
 
-abbrev prepares_of : Signature → (from : ℕ) → CType → Marked → Option Item → Checked (Option (ℕ × Size))
+abbrev pub prepares_of : Signature → (from : ℕ) → CType → Marked → Option Item → Checked (Option (ℕ × Size))
 prepares_of s from t m None = Fine None
 prepares_of s from t m (Some x) = do
   key ← key_parameter s x
   capacity ← size_or_own s from false t m.cap
   Fine (Some (key, capacity))
 
-abbrev of_marked : Signature → (from : ℕ) → CType → Marked → Checked Parameter
+abbrev pub of_marked : Signature → (from : ℕ) → CType → Marked → Checked Parameter
 of_marked s from t m = do
   keep from 3 (not (has_region m) || is_object_pointer t)
   keep from 3 (not m.callback || is_function_pointer t)
