@@ -1,13 +1,13 @@
 -- The marks of small programs, computed.
-use Rattle.std.proofs.Common.{◌≡◌, true, List, [], ◌∷◌, Some, refl}
+use Rattle.std.proofs.Common.{◌≡◌, true, List, [], ◌∷◌, Some, None, refl}
 use Rattle.marks.specs.declared.side.Side.TheVariants.{Replay}
 use Rattle.marks.specs.Marks.{Mark, Act, Load, Store, Enter, Leave}
 use Rattle.marks.specs.Wants.{answer_to}
-use Rattle.r2_num.specs.declared.kinds.IntKind.TheVariants.{I32}
+use Rattle.r2_num.specs.declared.kinds.IntKind.TheVariants.{I16, I32}
 use Rattle.r2_num.specs.declared.operations.Op.TheVariants.{Add}
 use Rattle.c_code.specs.declared.shape.Shape.TheVariants.{Int}
 use Rattle.c_code.specs.declared.code.FuncInfo.{FuncInfo}
-use Rattle.c_code.specs.declared.instr.Push.TheVariants.{Global}
+use Rattle.c_code.specs.declared.instr.Push.TheVariants.{Number, Local, Global}
 use Rattle.c_code.specs.declared.instr.Combine.TheVariants.{Arith}
 use Rattle.c_code.specs.declared.instr.Instr.{Instr}
 use Rattle.c_code.specs.declared.instr.Instr.TheVariants as instr
@@ -47,3 +47,25 @@ marks =
 computes : mark_lists Split program Replay 16 [] marks ≡ Ended 0
 unfolding reply answer_to main body program mark marks
 computes = refl
+
+first : FuncInfo
+first = record { name = []; params = []; result = Int I32; sig = 1; frame = 16; entry = Some 0 }
+
+-- `short x = 70000; return x;`, where x lies behind 4 bytes: no address waits below the first value, of which two bytes are stored
+local : List Instr
+local = instr.Push (Number 70000) ∷ instr.StoreLocal I16 4 ∷ instr.Push (Local 4) ∷ instr.Load I16 None ∷ instr.Finish ∷ []
+
+locals : Laid
+locals = record {
+  code = record { builtins = []; sources = first ∷ []; instrs = local };
+  placed = record { globals = []; strings = []; replay = []; system = []; faces = [] };
+}
+
+local_marks : List Mark
+local_marks =
+    mark (Enter 16 [] 0x20000000 (0 ∷ 0 ∷ 0 ∷ 0 ∷ 0 ∷ 0 ∷ 0 ∷ 0 ∷ 0 ∷ 0 ∷ 0 ∷ 0 ∷ 0 ∷ 0 ∷ 0 ∷ 0 ∷ []))
+    ∷ mark (Store None 0x20000004 (112 ∷ 17 ∷ [])) ∷ mark (Load None 0x20000004 (112 ∷ 17 ∷ [])) ∷ mark (Leave 0x20000000 16) ∷ []
+
+stores_a_local : mark_lists Split locals Replay 16 [] local_marks ≡ Ended 4464
+unfolding reply answer_to first local locals mark local_marks
+stores_a_local = refl

@@ -56,6 +56,8 @@ pub enum Instr {
     LoadKeep(IntKind, Option<u32>),
     /// Stores the topmost value at the address below it, and keeps the value alone.
     Store(IntKind, Option<u32>),
+    /// Stores the topmost value in the frame, so many bytes behind its first byte, and drops it. The access has no origin.
+    StoreLocal(IntKind, u64),
     /// Adds this number to the topmost value, at the kind, and stores the sum at the address below it. The old value
     /// is kept where the flag is set, else the sum.
     StoreStep(IntKind, u64, bool, Option<u32>),

@@ -22,6 +22,7 @@ pub(crate) fn called_by(instr: Instr) -> Called
         Instr::Load(_, _) => Called::Nothing,
         Instr::LoadKeep(_, _) => Called::Nothing,
         Instr::Store(_, _) => Called::Nothing,
+        Instr::StoreLocal(_, _) => Called::Nothing,
         Instr::StoreStep(_, _, _, _) => Called::Nothing,
         Instr::Change(_) => Called::Nothing,
         Instr::Combine(_) => Called::Nothing,

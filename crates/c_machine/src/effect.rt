@@ -1,16 +1,16 @@
 // Instructions that make no mark.
 
-ghost use Rattle.std.specs.Prelude.{◌≡◌, ℕ, ◌+◌, ◌<◌, ◌^◌, List, length, Some, IfSome, IfNone, slice_get};
-ghost use Rattle.c_code.specs.declared.activation.Waiting.{Waiting};
-ghost use Rattle.c_code.specs.Machine.{act, next, at_place, address_of, push as pushed, Silent, Going, Flat};
+ghost use Rattle.std.specs.Prelude.{◌≡◌, ℕ, ◌+◌, ◌<◌, ◌^◌, length, slice_get};
+ghost use Rattle.c_code.specs.declared.instr.Instr.TheVariants as instrs;
+ghost use Rattle.c_code.specs.Machine.{Flat, Laid, next, at_place, address_of, in_frame as frame_address, push as pushed};
 ghost use Rattle.c_stacks.specs.Stacks.{held, room_of};
 ghost use Rattle.c_machine.specs.Positions.{laid};
-ghost use Rattle.c_machine.specs.Silent.{IsLoud, Combines, passes};
+ghost use Rattle.c_machine.specs.Silent.{Leads, Combines, passes};
 
-use c_code::{Activation, Combine, Instr, Place, Placed, Push};
+use c_code::{Activation, Change, Combine, Instr, Place, Placed, Push};
 use c_stacks::Stack;
 
-// What an instruction does that makes no mark: where it leads; `None` where it is another one.
+// What an instruction does that makes no mark: where it leads; `None` where it is another one, and nothing changes.
 pub(crate) fn effect(
     instr: Instr,
     a: Activation,
@@ -19,9 +19,7 @@ pub(crate) fn effect(
 ) -> Option<Activation>
     requires room { length (held values.old) < room_of values.old }
     requires place { a.at + 1 + passes instr < 2 ^ 32 }
-    ensures some { IfSome result (λ b. (code : Flat) (ws : List Waiting) → act (laid code placed.now) (Some instr) a (held values.old) ws ≡ Silent (Going b (held values.new) ws)) }
-    ensures side { IfSome result (λ b. b.side ≡ a.side) }
-    ensures none { IfNone result ((held values.new ≡ held values.old) × ((code : Flat) (ws : List Waiting) → IsLoud (act (laid code placed.now) (Some instr) a (held values.old) ws))) }
+    ensures leads { (code : Flat) → Leads (laid code placed.now) instr a (held values.old) (held values.new) result }
     ensures room { room_of values.new ≡ room_of values.old }
 {
     match instr {
@@ -29,11 +27,7 @@ pub(crate) fn effect(
             values.push(push_value(what, a, placed));
             Some(next(a))
         }
-        Instr::Change(how) => {
-            let v = values.pop()?;
-            values.push(how.apply(v));
-            Some(next(a))
-        }
+        Instr::Change(how) => change(how, a, values),
         Instr::Combine(how) => {
             if combine(how, values) {
                 Some(next(a))
@@ -41,32 +35,9 @@ pub(crate) fn effect(
                 None
             }
         }
-        Instr::EndIfZero(n) => {
-            let v = values.pop()?;
-            if v == 0 {
-                values.push(0);
-                Some(on_by(a, n))
-            } else {
-                Some(next(a))
-            }
-        }
-        Instr::EndUnlessZero(n) => {
-            let v = values.pop()?;
-            if v == 0 {
-                Some(next(a))
-            } else {
-                values.push(1);
-                Some(on_by(a, n))
-            }
-        }
-        Instr::SkipIfZero(n) => {
-            let v = values.pop()?;
-            if v == 0 {
-                Some(on_by(a, n))
-            } else {
-                Some(next(a))
-            }
-        }
+        Instr::EndIfZero(n) => end_if_zero(n, a, values),
+        Instr::EndUnlessZero(n) => end_unless_zero(n, a, values),
+        Instr::SkipIfZero(n) => skip_if_zero(n, a, values),
         Instr::GoOn(n) => Some(on_by(a, n)),
         Instr::Drop => {
             values.pop()?;
@@ -75,6 +46,7 @@ pub(crate) fn effect(
         Instr::Load(_, _) => None,
         Instr::LoadKeep(_, _) => None,
         Instr::Store(_, _) => None,
+        Instr::StoreLocal(_, _) => None,
         Instr::StoreStep(_, _, _, _) => None,
         Instr::Turn => None,
         Instr::GoBack(_) => None,
@@ -90,10 +62,17 @@ fn push_value(what: Push, a: Activation, placed: &Placed) -> u64
 {
     match what {
         Push::Number(n) => n,
-        Push::Local(offset) => a.base.wrapping_add(offset),
+        Push::Local(offset) => in_frame(a, offset),
         Push::Global(g) => address(placed.globals.as_slice(), g),
         Push::Text(s) => address(placed.strings.as_slice(), s),
     }
+}
+
+// The address of the byte so far behind the first byte of the frame.
+pub(crate) fn in_frame(a: Activation, offset: u64) -> u64
+    ensures { result ≡ frame_address a offset }
+{
+    a.base.wrapping_add(offset)
 }
 
 // The address of the object with the number; 0 where there is none.
@@ -103,6 +82,60 @@ fn address(objects: &[Place], number: u32) -> u64
     match objects.get(number as usize) {
         Some(object) => object.addr,
         None => 0,
+    }
+}
+
+// What becomes of the topmost value.
+fn change(how: Change, a: Activation, values: &mut Stack<u64>) -> Option<Activation>
+    requires room { length (held values.old) < room_of values.old }
+    requires place { a.at + 1 < 2 ^ 32 }
+    ensures leads { (l : Laid) → Leads l (instrs.Change how) a (held values.old) (held values.new) result }
+    ensures room { room_of values.new ≡ room_of values.old }
+{
+    let value = values.pop()?;
+    values.push(how.apply(value));
+    Some(next(a))
+}
+
+// The left side of an `&&`: 0 is the result, and what isn't 0 leads on to the right side.
+fn end_if_zero(n: u32, a: Activation, values: &mut Stack<u64>) -> Option<Activation>
+    requires room { length (held values.old) < room_of values.old }
+    requires place { a.at + 1 + n < 2 ^ 32 }
+    ensures leads { (l : Laid) → Leads l (instrs.EndIfZero n) a (held values.old) (held values.new) result }
+    ensures room { room_of values.new ≡ room_of values.old }
+{
+    if values.pop()? == 0 {
+        values.push(0);
+        Some(on_by(a, n))
+    } else {
+        Some(next(a))
+    }
+}
+
+// The left side of an `||`: where it isn't 0, the result is 1, and 0 leads on to the right side.
+fn end_unless_zero(n: u32, a: Activation, values: &mut Stack<u64>) -> Option<Activation>
+    requires room { length (held values.old) < room_of values.old }
+    requires place { a.at + 1 + n < 2 ^ 32 }
+    ensures leads { (l : Laid) → Leads l (instrs.EndUnlessZero n) a (held values.old) (held values.new) result }
+    ensures room { room_of values.new ≡ room_of values.old }
+{
+    if values.pop()? == 0 {
+        Some(next(a))
+    } else {
+        values.push(1);
+        Some(on_by(a, n))
+    }
+}
+
+fn skip_if_zero(n: u32, a: Activation, values: &mut Stack<u64>) -> Option<Activation>
+    requires place { a.at + 1 + n < 2 ^ 32 }
+    ensures leads { (l : Laid) → Leads l (instrs.SkipIfZero n) a (held values.old) (held values.new) result }
+    ensures room { room_of values.new ≡ room_of values.old }
+{
+    if values.pop()? == 0 {
+        Some(on_by(a, n))
+    } else {
+        Some(next(a))
     }
 }
 

@@ -58,6 +58,7 @@ impl Position {
             Instr::Load(kind, _) => self.take_load(kind, a, answer),
             Instr::LoadKeep(kind, _) => self.take_load_keep(kind, a, answer),
             Instr::Store(kind, _) => self.take_store(kind, a, answer),
+            Instr::StoreLocal(kind, offset) => self.take_store_local(kind, offset, a, answer),
             Instr::StoreStep(kind, by, old, _) => self.take_store_step(kind, by, old, a, answer),
             Instr::Call(func, n) => self.take_pool(func, n, a, answer),
             Instr::Turn => self.state = State::Going(next(a)),
@@ -134,6 +135,19 @@ impl Position {
                 self.values.push(value);
                 self.state = State::Going(next(a));
             }
+            None => self.state = State::Lost,
+        }
+    }
+
+    // The value is gone once it is stored.
+    fn take_store_local(&mut self, kind: IntKind, offset: u64, a: Activation, answer: Answer)
+        requires place { a.at + 1 < 2 ^ 32 }
+        ensures fed { (code : Flat) (placed : Places) → config self.new ≡ heard (laid code placed) (act (laid code placed) (Some (instrs.StoreLocal kind offset)) a (held self.old.values) (held self.old.waits)) (told answer) }
+        ensures values { room_of self.new.values ≡ room_of self.old.values }
+        ensures waits { room_of self.new.waits ≡ room_of self.old.waits }
+    {
+        match self.values.pop() {
+            Some(_) => self.state = State::Going(next(a)),
             None => self.state = State::Lost,
         }
     }

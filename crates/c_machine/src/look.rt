@@ -14,6 +14,7 @@ ghost use Rattle.c_stacks.specs.Stacks.{held};
 ghost use Rattle.c_machine.specs.Positions.{laid, config};
 ghost use Rattle.c_machine.specs.Wants.{shown};
 
+use crate::effect::in_frame;
 use crate::position::Position;
 use crate::state::State;
 use crate::tops::{below_args, callee, frame_size, has_args, is_pool};
@@ -63,6 +64,7 @@ impl Position {
             Instr::Load(kind, _) => self.look_load(kind),
             Instr::LoadKeep(kind, _) => self.look_load(kind),
             Instr::Store(kind, _) => self.look_store(kind),
+            Instr::StoreLocal(kind, offset) => self.look_store_local(kind, offset, a),
             Instr::StoreStep(kind, by, _, _) => self.look_store_step(kind, by),
             Instr::Combine(how) => self.look_combine(how),
             Instr::Call(func, n) => self.look_pool(func, n, a),
@@ -103,6 +105,15 @@ impl Position {
     {
         match self.values.top_two() {
             Some((value, addr)) => Some(store_want(kind, addr, value)),
+            None => None,
+        }
+    }
+
+    fn look_store_local(&self, kind: IntKind, offset: u64, a: Activation) -> Option<Want>
+        ensures { (l : Laid) (ws : List Waits) → result ≡ shown l (act l (Some (instrs.StoreLocal kind offset)) a (held self.now.values) ws) }
+    {
+        match self.values.top() {
+            Some(value) => Some(store_want(kind, in_frame(a, offset), value)),
             None => None,
         }
     }

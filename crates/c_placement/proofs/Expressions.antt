@@ -1,5 +1,5 @@
 -- The code of an expression makes the marks of the expression.
-use Rattle.std.proofs.Common.{◌≡◌, ℕ, suc, ◌+◌, ◌%◌, ◌^◌, ◌≤◌, ◌-ℤ◌, pos, negsuc, Bool, true, false, cond, List, [], ◌∷◌, ◌++◌, length, Option, Some, Ok, refl, sym, ap, ◌∙◌, subst, arith}
+use Rattle.std.proofs.Common.{◌≡◌, ℕ, suc, ◌+◌, ◌%◌, ◌^◌, ◌≤◌, ◌-ℤ◌, pos, negsuc, Bool, true, false, cond, List, [], ◌∷◌, ◌++◌, length, Option, Some, None, Ok, refl, sym, ap, ◌∙◌, subst, arith}
 use Rattle.r2_num.specs.declared.kinds.IntKind.{IntKind}
 use Rattle.r2_num.specs.declared.kinds.IntKind.TheVariants.{I64, U64}
 use Rattle.r2_num.specs.declared.operations.Op.TheVariants.{Div}
@@ -19,7 +19,7 @@ use Rattle.c_code.specs.declared.instr.Instr.TheVariants as instr
 use Rattle.c_code.specs.declared.activation.Activation.{Activation}
 use Rattle.c_code.specs.declared.activation.Waiting.{Waiting}
 use Rattle.c_code.specs.Values.{arith_of, at_zero, bytes_of, changed, combined, converted, read, written}
-use Rattle.c_code.specs.Machine.{Flat, Laid, Config, Going, Lost, Silent, Asks, act, action, at_place, call_act, callee, loaded, next, pointer_act, push, take_args, to_callee, with_args}
+use Rattle.c_code.specs.Machine.{Flat, Laid, Config, Going, Lost, Silent, Asks, act, action, at_place, call_act, callee, in_frame, loaded, next, pointer_act, push, take_args, to_callee, with_args}
 use Rattle.c_code.specs.MarkLists.{Reading, next_of}
 use Rattle.c_type_model.specs.Types.{CType}
 use Rattle.c_builtins.specs.Table.{number_of}
@@ -153,6 +153,14 @@ module _ (r : Reading) (s : Source) (code : Flat) where
       by_ask r l n p.side (Stores o a (bytes_of_number (bytes_of k) v)) (λ x. q) (λ x. Going (stand p (at + 1)) (v ∷ values) ws) (Going (stand p at) (v ∷ (a ∷ values)) ws)
       (ap (next_of r l) (acting r l (instr.Store k o) (stand p at) (v ∷ (a ∷ values)) ws h.here))
       (λ x j lt. fewer r l j n q (Going (stand p (at + 1)) (v ∷ values) ws) (omega arith) (subst (λ z. Agree r l n q (Going (stand p z) (v ∷ values) ws)) (sym h.behind) c))
+
+  -- a store in the frame, which leaves nothing
+  pub store_local_agrees : (n : ℕ) (k : IntKind) (offset : ℕ) (q : Marks) (p : Spot) (at to v : ℕ) (values : List ℕ) (ws : List Waiting) → Has code.instrs at (instr.StoreLocal k offset) to → Agree r l n q (Going (stand p to) values ws)
+      → Agree r l n (ask p.side (Stores None (in_frame (stand p at) offset) (bytes_of_number (bytes_of k) v)) (λ x. q)) (Going (stand p at) (v ∷ values) ws)
+  store_local_agrees n k offset q p at to v values ws h c =
+      by_ask r l n p.side (Stores None (in_frame (stand p at) offset) (bytes_of_number (bytes_of k) v)) (λ x. q) (λ x. Going (stand p (at + 1)) values ws) (Going (stand p at) (v ∷ values) ws)
+      (ap (next_of r l) (acting r l (instr.StoreLocal k offset) (stand p at) (v ∷ values) ws h.here))
+      (λ x j lt. fewer r l j n q (Going (stand p (at + 1)) values ws) (omega arith) (subst (λ z. Agree r l n q (Going (stand p z) values ws)) (sym h.behind) c))
 
   convert_agrees : (n : ℕ) (b : Bool) (t : CType) (go : ℕ → Marks) (p : Spot) (at to v : ℕ) (values : List ℕ) (ws : List Waiting) → ConvertAt (against_at p) b t at to → ((x : ℕ) → Agree r l n (go x) (Going (stand p to) (x ∷ values) ws))
       → Agree r l n (go (cond b (converted (kind_of t) v) v)) (Going (stand p at) (v ∷ values) ws)

@@ -77,6 +77,9 @@ module _ (x : Making) (height : ℕ → ℕ) where
   pub k_store : (k : IntKind) (o : Option ℕ) (at h : ℕ) → height at ≡ h + 2 → h + 2 ≤ 64 → Leads code height (at + 1) (h + 1) → Keeps code height at (instr.Store k o)
   k_store k o at h e f l = record { enough = omega (arith, e); few = omega (arith, e); goes_on = leads_at (at + 1) (at + 1) (h + 1) (height at - 1) refl (omega (arith, e)) l; sound = tt }
 
+  pub k_local : (k : IntKind) (offset at h : ℕ) → height at ≡ h + 1 → h + 1 ≤ 64 → Leads code height (at + 1) h → Keeps code height at (instr.StoreLocal k offset)
+  k_local k offset at h e f l = record { enough = omega (arith, e); few = omega (arith, e); goes_on = leads_at (at + 1) (at + 1) h (height at - 1) refl (omega (arith, e)) l; sound = tt }
+
   pub k_step : (k : IntKind) (by : ℕ) (old : Bool) (o : Option ℕ) (at h : ℕ) → height at ≡ h + 2 → h + 2 ≤ 64 → Leads code height (at + 1) (h + 1) → Keeps code height at (instr.StoreStep k by old o)
   k_step k by old o at h e f l = record { enough = omega (arith, e); few = omega (arith, e); goes_on = leads_at (at + 1) (at + 1) (h + 1) (height at - 1) refl (omega (arith, e)) l; sound = tt }
 

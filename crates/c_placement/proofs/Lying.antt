@@ -286,12 +286,11 @@ module _ (x : Making) where
       statement_lies (Block ss) at stop again h = statements_lie ss at stop again h
       statement_lies (Evaluate v) at stop again h = single_lies instr.Drop (value_code v x) (ValueAt v x.against) at (λ m g. value_lies v m g) h
       statement_lies (Initialise place t v) at stop again h =
-          let end = instr.Store (kind_of t) None ∷ one instr.Drop in
-          let c = split (value_code v x) end (at + 1) h.1 in
-          let e = length-append (value_code v x) end in
-          let n = at + 1 + length (value_code v x) in
-          let to = at + length (statement_code (Initialise place t v) x stop again) in
-          (at + 1, n, n + 1, has (instr.Push (Local (offset_of x.against place))) (value_code v x ++ end) at (at + 1) h refl, value_lies v (at + 1) c.0, has (instr.Store (kind_of t) None) (one instr.Drop) n (n + 1) c.1 refl, has instr.Drop [] (n + 1) to c.1.1 (omega arith))
+          let store = instr.StoreLocal (kind_of t) (offset_of x.against place) in
+          let c = split (value_code v x) (one store) at h in
+          let e = length-append (value_code v x) (one store) in
+          let m = at + length (value_code v x) in
+          (m, value_lies v at c.0, has store [] m (at + length (value_code v x ++ one store)) c.1 (omega arith))
       statement_lies (If v s) at stop again h =
           let body = statement_code s x stop again in
           let rest = instr.SkipIfZero (length body) ∷ body in

@@ -2,7 +2,7 @@
 use Rattle.std.proofs.Common.{◌≡◌, ℕ, zero, suc, ◌+◌, ◌<◌, ◌≤◌, List, ◌∷◌, length, Some, None, sym, ap, ◌∙◌, subst, arith}
 use Rattle.std.specs.Prelude.{slice_get}
 use Rattle.marks.specs.Wants.{Turns}
-use Rattle.c_code.specs.declared.instr.Push.TheVariants.{Number, Local}
+use Rattle.c_code.specs.declared.instr.Push.TheVariants.{Number}
 use Rattle.c_code.specs.declared.instr.Instr.TheVariants as instr
 use Rattle.c_code.specs.declared.activation.Waiting.{Waiting}
 use Rattle.c_code.specs.Values.{at_zero}
@@ -16,7 +16,7 @@ use Rattle.c_meaning.specs.Statements.{Exits, looping, maybe, rounds, statement,
 use Rattle.c_placement.specs.Places.{GoesBack}
 use Rattle.c_placement.specs.Placement.{LastAt, ReturnAt, StatementAt, StatementsAt, TestAt, offset_of}
 use Rattle.c_placement.proofs.Agree.{Agree, acting, by_ask, fewer}
-use Rattle.c_placement.proofs.Expressions.{Spot, stand, l, here_at, against_at, CallsAgree, fewer_calls, pushes, drops, skips, goes_on, store_agrees, value_agrees}
+use Rattle.c_placement.proofs.Expressions.{Spot, stand, l, here_at, against_at, CallsAgree, fewer_calls, pushes, drops, skips, goes_on, store_local_agrees, value_agrees}
 
 module _ (r : Reading) (s : Source) (code : Flat) where
   abbrev lay : Laid
@@ -94,11 +94,9 @@ module _ (r : Reading) (s : Source) (code : Flat) where
     statement_agrees (Evaluate v) n p at to stop again x stack ws cs h k =
         value_agrees r s code v n p at h.0 (λ m. x.next) stack ws cs h.1 (λ m. drops r s code n x.next p h.0 to m stack ws h.2 k.next)
     statement_agrees (Initialise place t v) n p at to stop again x stack ws cs h k =
-        let a = local_address (here_at r s code p) place in
-        let stored : ℕ → Marks = λ m. store (here_at r s code p) None t a m x.next in
-        pushes r s code n (value v (here_at r s code p) stored) p (Local (offset_of (against_at r s code p) place)) at h.0 stack ws h.3
-        (value_agrees r s code v n p h.0 h.1 stored (a ∷ stack) ws cs h.4
-        (λ m. store_agrees r s code n None (kind_of t) x.next p h.1 h.2 a m stack ws h.5 (drops r s code n x.next p h.2 to m stack ws h.6 k.next)))
+        let here = here_at r s code p in
+        value_agrees r s code v n p at h.0 (λ m. store here None t (local_address here place) m x.next) stack ws cs h.1
+        (λ m. store_local_agrees r s code n (kind_of t) (offset_of (against_at r s code p) place) x.next p h.0 to m stack ws h.2 k.next)
     statement_agrees (If v z) n p at to stop again x stack ws cs h k =
         value_agrees r s code v n p at h.0 (λ m. at_zero m x.next (statement z (here_at r s code p) x)) stack ws cs h.1
         (λ m. skips r s code n x.next (statement z (here_at r s code p) x) p h.0 to m stack ws h.2 k.next (statement_agrees z n p (h.0 + 1) to stop again x stack ws cs h.3 k))

@@ -1,7 +1,7 @@
 -- The code of a statement keeps what valid code keeps.
-use Rattle.std.proofs.Common.{◌≡◌, ℕ, suc, ◌+◌, ◌-◌, ◌≤◌, [], ◌∷◌, ◌++◌, length, length-append, Some, None, refl, sym, ap, ◌∙◌, arith}
+use Rattle.std.proofs.Common.{◌≡◌, ℕ, suc, ◌+◌, ◌-◌, ◌≤◌, [], ◌∷◌, ◌++◌, length, length-append, Some, refl, sym, ap, ◌∙◌, arith}
 use Rattle.std.specs.Prelude.{slice_get}
-use Rattle.c_code.specs.declared.instr.Push.TheVariants.{Number, Local}
+use Rattle.c_code.specs.declared.instr.Push.TheVariants.{Number}
 use Rattle.c_code.specs.declared.instr.Instr.{Instr}
 use Rattle.c_code.specs.declared.instr.Instr.TheVariants as instr
 use Rattle.c_code.specs.Machine.{Flat}
@@ -12,7 +12,7 @@ use Rattle.c_placement.specs.Placement.{offset_of}
 use Rattle.c_placement.specs.Code.{Lies, Making, body_code, last_code, one, return_code, statement_code, statements_code, test_code, value_code}
 use Rattle.c_placement.specs.Heights.{Kept, MaybeCalls, Stand, StatementCalls, StatementsCall, ValueCalls, body_heights, maybe_waits, return_heights, statement_heights, statement_waits, statements_heights, statements_waits, test_heights, value_heights, value_waits}
 use Rattle.c_placement.proofs.Lying.{split}
-use Rattle.c_placement.proofs.Keeping.{joined, k_drop, k_on, k_push, k_skip, k_store, leads_at, leads_to, len_app, parted, split_stand, value_begins, value_kept, value_len}
+use Rattle.c_placement.proofs.Keeping.{joined, k_drop, k_local, k_on, k_push, k_skip, leads_at, leads_to, len_app, parted, split_stand, value_begins, value_kept, value_len}
 
 module _ (x : Making) (height : ℕ → ℕ) where
   abbrev code : Flat
@@ -93,7 +93,8 @@ module _ (x : Making) (height : ℕ → ℕ) where
     pub statement_len : (z : Statement) (stop again : ℕ) → length (statement_heights z) ≡ length (statement_code z x stop again)
     statement_len (Block zs) stop again = statements_len zs stop again
     statement_len (Evaluate v) stop again = len_app x height (value_heights v 0) (1 ∷ []) (value_code v x) (one instr.Drop) (value_len x height v 0) refl
-    statement_len (Initialise place t v) stop again = ap suc (len_app x height (value_heights v 1) (2 ∷ (1 ∷ [])) (value_code v x) (instr.Store (kind_of t) None ∷ one instr.Drop) (value_len x height v 1) refl)
+    statement_len (Initialise place t v) stop again =
+        len_app x height (value_heights v 0) (1 ∷ []) (value_code v x) (one (instr.StoreLocal (kind_of t) (offset_of x.against place))) (value_len x height v 0) refl
     statement_len (If v z) stop again =
         let body = statement_code z x stop again in
         len_app x height (value_heights v 0) (1 ∷ statement_heights z) (value_code v x) (instr.SkipIfZero (length body) ∷ body) (value_len x height v 0) (ap suc (statement_len z stop again))
@@ -139,7 +140,8 @@ module _ (x : Making) (height : ℕ → ℕ) where
     pub statement_lead : (z : Statement) (stop again at : ℕ) → Lies code.instrs at (statement_code z x stop again) → Stand height at (statement_heights z) → Leads code height (at + length (statement_code z x stop again)) 0 → Leads code height at 0
     statement_lead (Block zs) stop again at l s to = statements_lead zs stop again at l s to
     statement_lead (Evaluate v) stop again at l s to = value_begins x height v 0 at (split x (value_code v x) (one instr.Drop) at l).0 (split_stand x height (value_heights v 0) (1 ∷ []) at s).0
-    statement_lead (Initialise place t v) stop again at l s to = leads_to x height at (instr.Push (Local (offset_of x.against place))) 0 l.0 s.0
+    statement_lead (Initialise place t v) stop again at l s to =
+        value_begins x height v 0 at (split x (value_code v x) (one (instr.StoreLocal (kind_of t) (offset_of x.against place))) at l).0 (split_stand x height (value_heights v 0) (1 ∷ []) at s).0
     statement_lead (If v z) stop again at l s to =
         let body = statement_code z x stop again in
         value_begins x height v 0 at (split x (value_code v x) (instr.SkipIfZero (length body) ∷ body) at l).0 (split_stand x height (value_heights v 0) (1 ∷ statement_heights z) at s).0
@@ -187,19 +189,9 @@ module _ (x : Making) (height : ℕ → ℕ) where
     statement_kept (Evaluate v) stop again at u l s le to st ag =
         taken instr.Drop v at u l s le (λ m e h. k_drop x height m 0 (h ∙ one_more) (omega arith) (there (at + length (statement_code (Evaluate v) x stop again)) (m + 1) (sym e) to))
     statement_kept (Initialise place t v) stop again at u l s le to st ag =
-        let end = instr.Store (kind_of t) None ∷ one instr.Drop in
-        let c = split x (value_code v x) end (at + 1) l.1 in
-        let d = parted x height (value_heights v 1) (2 ∷ (1 ∷ [])) (value_code v x) (at + 1) (value_len x height v 1) s.1 in
-        let e = length-append (value_code v x) end in
-        let m = at + 1 + length (value_code v x) in
-        let two : 2 ≡ 1 + 1 = omega arith in
-        let both : 2 ≡ 0 + 2 = omega arith in (
-          k_push x height (Local (offset_of x.against place)) at 0 s.0 (omega arith) (leads_at x height (at + 1) (at + 1) 1 (0 + 1) refl one_more (value_begins x height v 1 (at + 1) c.0 d.0)),
-          joined x height (value_code v x) end (at + 1) (value_kept x height v 1 u (at + 1) c.0 d.0 (leads_to x height m (instr.Store (kind_of t) None) (1 + 1) c.1.0 (d.1.0 ∙ two)) (omega arith)) (
-            k_store x height (kind_of t) None m 0 (d.1.0 ∙ both) (omega arith) (leads_to x height (m + 1) instr.Drop (0 + 1) c.1.1.0 (d.1.1.0 ∙ one_more)),
-            (k_drop x height (m + 1) 0 (d.1.1.0 ∙ one_more) (omega arith) (there (at + length (statement_code (Initialise place t v) x stop again)) (m + 1 + 1) (omega (arith, e)) to), tt),
-          ),
-        )
+        let offset = offset_of x.against place in
+        taken (instr.StoreLocal (kind_of t) offset) v at u l s le
+        (λ m e h. k_local x height (kind_of t) offset m 0 (h ∙ one_more) (omega arith) (there (at + length (statement_code (Initialise place t v) x stop again)) (m + 1) (sym e) to))
     statement_kept (If v z) stop again at u l s le to st ag =
         let body = statement_code z x stop again in
         let rest = instr.SkipIfZero (length body) ∷ body in

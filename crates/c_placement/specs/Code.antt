@@ -1,5 +1,5 @@
 -- The code of a typed source, construct by construct.
-use Rattle.std.specs.Prelude.{◌≡◌, ℕ, ◌+◌, Bool, true, false, List, [], ◌∷◌, ◌++◌, length, None, Some, slice_get}
+use Rattle.std.specs.Prelude.{◌≡◌, ℕ, ◌+◌, Bool, true, false, List, [], ◌∷◌, ◌++◌, length, Some, slice_get}
 use Rattle.r2_num.specs.declared.kinds.IntKind.TheVariants.{I64, U64}
 use Rattle.marks.specs.Places.{function_address}
 use Rattle.c_code.specs.declared.instr.Push.TheVariants.{Number, Local, Global, Text}
@@ -112,8 +112,7 @@ abbrev mutual
   pub statement_code : Statement → Making → (stop again : ℕ) → List Instr
   statement_code (Block ss) x stop again = statements_code ss x stop again
   statement_code (Evaluate v) x stop again = value_code v x ++ one instr.Drop
-  statement_code (Initialise place t v) x stop again =
-      instr.Push (Local (offset_of x.against place)) ∷ (value_code v x ++ (instr.Store (kind_of t) None ∷ one instr.Drop))
+  statement_code (Initialise place t v) x stop again = value_code v x ++ one (instr.StoreLocal (kind_of t) (offset_of x.against place))
   statement_code (If v s) x stop again =
       let body = statement_code s x stop again in
       value_code v x ++ (instr.SkipIfZero (length body) ∷ body)

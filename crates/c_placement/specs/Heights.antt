@@ -139,7 +139,7 @@ abbrev mutual
   pub statement_waits : Statement → ℕ
   statement_waits (Block ss) = statements_waits ss
   statement_waits (Evaluate v) = value_waits v
-  statement_waits (Initialise place t v) = 1 + value_waits v
+  statement_waits (Initialise place t v) = value_waits v
   statement_waits (If v s) = max (value_waits v) (statement_waits s)
   statement_waits (IfElse v s z) = max (value_waits v) (max (statement_waits s) (statement_waits z))
   statement_waits (While v s) = max (value_waits v) (statement_waits s)
@@ -230,7 +230,7 @@ abbrev mutual
   pub statement_heights : Statement → List ℕ
   statement_heights (Block ss) = statements_heights ss
   statement_heights (Evaluate v) = value_heights v 0 ++ (1 ∷ [])
-  statement_heights (Initialise place t v) = 0 ∷ (value_heights v 1 ++ (2 ∷ (1 ∷ [])))
+  statement_heights (Initialise place t v) = value_heights v 0 ++ (1 ∷ [])
   statement_heights (If v s) = value_heights v 0 ++ (1 ∷ statement_heights s)
   statement_heights (IfElse v s z) = value_heights v 0 ++ (1 ∷ (statement_heights s ++ (0 ∷ statement_heights z)))
   statement_heights (While v s) = 0 ∷ (value_heights v 0 ++ (1 ∷ (statement_heights s ++ (0 ∷ []))))

@@ -151,8 +151,7 @@ abbrev mutual
   pub StatementAt : Statement → Against → ℕ → ℕ → (stop again : ℕ) → Type 0
   StatementAt (Block ss) x at to stop again = StatementsAt ss x at to stop again
   StatementAt (Evaluate v) x at to stop again = (m : ℕ) × ValueAt v x at m × Has (instrs x) m instr.Drop to
-  StatementAt (Initialise place t v) x at to stop again =
-      (m n p : ℕ) × Has (instrs x) at (instr.Push (Local (offset_of x place))) m × ValueAt v x m n × Has (instrs x) n (instr.Store (kind_of t) None) p × Has (instrs x) p instr.Drop to
+  StatementAt (Initialise place t v) x at to stop again = (m : ℕ) × ValueAt v x at m × Has (instrs x) m (instr.StoreLocal (kind_of t) (offset_of x place)) to
   StatementAt (If v s) x at to stop again = (m : ℕ) × ValueAt v x at m × Jumps (instrs x) m instr.SkipIfZero to × StatementAt s x (m + 1) to stop again
   StatementAt (IfElse v s z) x at to stop again =
       (m n : ℕ) × ValueAt v x at m × Jumps (instrs x) m instr.SkipIfZero (n + 1) × StatementAt s x (m + 1) n stop again × Jumps (instrs x) n instr.GoOn to × StatementAt z x (n + 1) to stop again
