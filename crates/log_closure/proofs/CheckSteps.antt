@@ -14,8 +14,7 @@ use Rattle.log_closure.specs.declared.error.OrderError.TheVariants.{Twice}
 use Rattle.log_closure.specs.Events.{In, LogEvent, event_of, events_behind, events_of, of_thread}
 use Rattle.log_closure.specs.FirstWrong.{both, clock_at, clock_wrong, first_twice, greatest, repeats, wrong}
 use Rattle.log_closure.specs.Places.{place_of, places_from}
-use Rattle.log_closure.specs.declared.table.Table.{Table}
-use Rattle.log_closure.specs.Tables.{Owns, clock_in}
+use Rattle.log_closure.specs.Tables.{Owns}
 use Rattle.log_closure.specs.Ties.{earlier, key_tie, keys, keys_of, needs, thread_tie, ties}
 use Rattle.log_closure.proofs.Exact.{own_at}
 use Rattle.log_closure.proofs.Meaning.{keyed, tie_of_thread}
@@ -142,9 +141,9 @@ greatest_split at t ts = go (eqb t.number 0)
 pub needs_keyed : (e : LogEvent) (t : Tie) → In t (needs (keys e)) → 0 < t.class
 needs_keyed e t i = let (s, j, pos, is) = needed (keys e) t i in let z = keyed e s j in let c : t.class ≡ s.class = ap (λ (x : Tie). x.class) is in omega (arith, z, c)
 
-pub greatest_is_of : (m : Table) (all : List LogEvent) (e : LogEvent) (last : ℕ) → Owns m all → greatest (clock_at all) (needs (thread_tie e ∷ [])) ≡ Some last → both (Some last) (greatest (clock_in m) (needs (keys e))) ≡ greatest (clock_at all) (needs (ties e))
-greatest_is_of m all e last owns is =
-    (λ i. both (sym is i) (greatest_among (clock_in m) (clock_at all) (needs (keys e)) (λ t j. owns t (needs_keyed e t j)) i))
+pub greatest_is_of : (at : Tie → Option ℕ) (all : List LogEvent) (e : LogEvent) (last : ℕ) → Owns at all → greatest (clock_at all) (needs (thread_tie e ∷ [])) ≡ Some last → both (Some last) (greatest at (needs (keys e))) ≡ greatest (clock_at all) (needs (ties e))
+greatest_is_of at all e last owns is =
+    (λ i. both (sym is i) (greatest_among at (clock_at all) (needs (keys e)) (λ t j. owns t (needs_keyed e t j)) i))
     ∙ sym (greatest_split (clock_at all) (thread_tie e) (keys e))
 
 -- the last clock of each thread
@@ -186,13 +185,13 @@ last_more rs i th r last lt is eq within h t b =
 pub wrong_twice : (whole : Bool) (all before : List LogEvent) (e : LogEvent) → repeats (keys_of before) (keys e) ≡ true → wrong whole all before e ≡ Some (Twice e.name)
 wrong_twice whole all before e h = ap (λ (b : Bool). cond b (Some (Twice e.name)) (clock_wrong whole e.name e.entry.clock (greatest (clock_at all) (needs (ties e))))) h
 
-pub wrong_here : (rs : List Record) (whole : Bool) (m : Table) (i : ℕ) (r : Record) (p : Place) (ms : List KeyMark) (last : ℕ) → p ≡ place_of i (event_of (take i rs) r) → ms ≡ r.keys → Owns m (events_of rs)
+pub wrong_here : (rs : List Record) (whole : Bool) (at : Tie → Option ℕ) (i : ℕ) (r : Record) (p : Place) (ms : List KeyMark) (last : ℕ) → p ≡ place_of i (event_of (take i rs) r) → ms ≡ r.keys → Owns at (events_of rs)
     → greatest (clock_at (events_of rs)) (needs (thread_tie (event_of (take i rs) r) ∷ [])) ≡ Some last → repeats (keys_of (take i (events_of rs))) (keys (event_of (take i rs) r)) ≡ false
-    → clock_wrong whole (record { thread = p.thread; index = p.index }) p.clock (both (Some last) (greatest (clock_in m) (needs (map key_tie ms)))) ≡ wrong whole (events_of rs) (take i (events_of rs)) (event_of (take i rs) r)
-wrong_here rs whole m i r p ms last is keys_is owns own apart =
+    → clock_wrong whole (record { thread = p.thread; index = p.index }) p.clock (both (Some last) (greatest at (needs (map key_tie ms)))) ≡ wrong whole (events_of rs) (take i (events_of rs)) (event_of (take i rs) r)
+wrong_here rs whole at i r p ms last is keys_is owns own apart =
     let e = event_of (take i rs) r in
     let all = events_of rs in
-    ap (λ (q : Place). clock_wrong whole (record { thread = q.thread; index = q.index }) q.clock (both (Some last) (greatest (clock_in m) (needs (map key_tie ms))))) is
-    ∙ ap (λ (l : List KeyMark). clock_wrong whole e.name e.entry.clock (both (Some last) (greatest (clock_in m) (needs (map key_tie l))))) keys_is
-    ∙ ap (clock_wrong whole e.name e.entry.clock) (greatest_is_of m all e last owns own)
+    ap (λ (q : Place). clock_wrong whole (record { thread = q.thread; index = q.index }) q.clock (both (Some last) (greatest at (needs (map key_tie ms))))) is
+    ∙ ap (λ (l : List KeyMark). clock_wrong whole e.name e.entry.clock (both (Some last) (greatest at (needs (map key_tie l))))) keys_is
+    ∙ ap (clock_wrong whole e.name e.entry.clock) (greatest_is_of at all e last owns own)
     ∙ ap (λ (b : Bool). cond b (Some (Twice e.name)) (clock_wrong whole e.name e.entry.clock (greatest (clock_at all) (needs (ties e))))) (sym apart)

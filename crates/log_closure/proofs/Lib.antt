@@ -20,3 +20,4 @@ mod CheckSteps
 mod GrowSteps
 mod Parts
 mod Index
+mod KeyNumbers

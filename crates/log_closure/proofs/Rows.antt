@@ -1,16 +1,18 @@
 -- Clocks put in the rows of the table, and apart from them.
-use Rattle.std.proofs.Common.{suc, zero, ◌≡◌, ◌≢◌, ◌++◌, ◌∷◌, [], ℕ, ◌<◌, ◌≤◌, List, Option, Some, None, Bool, true, false, refl, ap, ◌∙◌, sym, cond, arith, length, get_or, ⊎_elim, subst}
-use Rattle.std.specs.Prelude.{◌&&◌, eqb, ltb, IfSome, Result, Ok, Err, OnOk}
-use Rattle.std.specs.BTreeMap.{BTreeMap, get, is_at}
+use Rattle.std.proofs.Common.{suc, zero, ◌≡◌, ◌≢◌, ◌∷◌, [], ℕ, ◌<◌, ◌≤◌, List, Option, Some, None, Bool, true, false, refl, ap, ◌∙◌, sym, cond, arith, length, get_or, ⊎_elim, subst}
+use Rattle.std.specs.Prelude.{◌&&◌, eqb, ltb, Result, Ok, Err, OnOk}
+use Rattle.std.specs.List.{slice_get}
+use Rattle.std.specs.BTreeMap.{is_at}
 use Rattle.std.specs.Global.{Vec}
 use Rattle.std.proofs.Math.ListN.{set}
+use Rattle.std.proofs.lemmas.Option.{slice_get_past}
 use Rattle.std.proofs.lemmas.Bool.{cases_eq, eq-eqb}
 use Rattle.std.proofs.lemmas.Bool.Decides.{nat_tests}
 use Rattle.std.proofs.lemmas.List.{length-set, get_or-set_same, get_or-set_other}
 use Rattle.log_closure.specs.declared.tie.Tie.{Tie}
 use Rattle.log_closure.specs.declared.tie.TieKey.{TieKey}
 use Rattle.log_closure.specs.FirstWrong.{or_else}
-use Rattle.log_closure.specs.Tables.{AreBlank, clock_in_row, key_cmp, tie_key}
+use Rattle.log_closure.specs.Tables.{AreApart, Numbers, clock_in_row, key_cmp, row_at, tie_key}
 use Rattle.log_closure.specs.Ties.{same}
 use Rattle.log_closure.proofs.Steps.{and_first, and_second, is_eq_cmp, is_eq_then, ltb_off, ltb_on, same_is}
 
@@ -39,29 +41,6 @@ same_at s t = and_assoc (eqb s.class t.class) (eqb s.value t.value) (eqb s.numbe
     and_assoc : (a b c : Bool) → (a && (b && c)) ≡ ((a && b) && c)
     and_assoc true b c = refl
     and_assoc false b c = refl
-
--- rows without clocks
-
-pub blank_more : (xs : List (Option ℕ)) → ((n : ℕ) → get_or xs n None ≡ None) → (n : ℕ) → get_or (xs ++ None ∷ []) n None ≡ None
-blank_more [] h zero = refl
-blank_more [] h (suc n) = refl
-blank_more (x ∷ xs) h zero = h 0
-blank_more (x ∷ xs) h (suc n) = blank_more xs (λ m. h (suc m)) n
-
-pub blank_rows : (old new : BTreeMap TieKey Row) (j : TieKey) (row : Row) → AreBlank old → ((k : TieKey) → get key_cmp new k ≡ cond (is_at (key_cmp j) k) (Some row) (get key_cmp old k)) → ((n : ℕ) → get_or row.items n None ≡ None) → AreBlank new
-blank_rows old new j row h up none k = go (is_at (key_cmp j) k) (up k)
-  where
-    go : (b : Bool) → get key_cmp new k ≡ cond b (Some row) (get key_cmp old k) → IfSome (get key_cmp new k) (λ r. (n : ℕ) → get_or r.items n None ≡ None)
-    go true e = subst (λ (o : Option Row). IfSome o (λ r. (n : ℕ) → get_or r.items n None ≡ None)) (sym e) none
-    go false e = subst (λ (o : Option Row). IfSome o (λ r. (n : ℕ) → get_or r.items n None ≡ None)) (sym e) (h k)
-
-pub no_clock : (row : Option Row) (n : ℕ) (apart : Option ℕ) → IfSome row (λ r. (n : ℕ) → get_or r.items n None ≡ None) → apart ≡ None → clock_in_row row n apart ≡ None
-no_clock None n apart h e = e
-no_clock (Some r) n apart h e = go (ltb n (length r.items))
-  where
-    go : (b : Bool) → cond b (get_or r.items n None) apart ≡ None
-    go true = h n
-    go false = e
 
 -- a clock put in a row
 
@@ -97,12 +76,44 @@ put_place old after row new i n clock apart true here up lt is =
     ∙ ap (λ (b : Bool). cond b (or_else (clock_in_row old n apart) (Some clock)) (clock_in_row old n apart)) (sym off))
     (cases_eq i n)
 
-pub put_in : (rows after : BTreeMap TieKey Row) (s t : Tie) (row new : Row) (clock : ℕ) (apart : Option ℕ) → Some row ≡ get key_cmp rows (tie_key s) → get key_cmp after (tie_key t) ≡ cond (is_at (key_cmp (tie_key s)) (tie_key t)) (Some new) (get key_cmp rows (tie_key t))
+-- the rows with one of them put anew
+
+found_key : (j k : TieKey) → j ≡ k → is_at (key_cmp j) k ≡ true
+found_key j k e = ap (λ (x : TieKey). is_at (key_cmp j) x) (sym e) ∙ at_key j j ∙ grind (arith, nat_tests)
+
+put_same : (rows : List Row) (i : ℕ) (row new : Row) → slice_get rows i ≡ Some row → slice_get (set rows i new) i ≡ Some new
+put_same [] i row new h = absurd cc
+put_same (r ∷ rows) zero row new h = refl
+put_same (r ∷ rows) (suc i) row new h = put_same rows i row new h
+
+put_other : (rows : List Row) (i n : ℕ) (new : Row) → n ≢ i → slice_get (set rows i new) n ≡ slice_get rows n
+put_other [] i n new ne = refl
+put_other (r ∷ rows) zero zero new ne = absurd (ne refl)
+put_other (r ∷ rows) zero (suc n) new ne = refl
+put_other (r ∷ rows) (suc i) zero new ne = refl
+put_other (r ∷ rows) (suc i) (suc n) new ne = put_other rows i n new (λ e. ne (ap (λ (m : ℕ). suc m) e))
+
+-- the row of each key
+put_row : (number : Numbers) (rows : List Row) (j k : TieKey) (i : ℕ) (row new : Row) → AreApart number → number j ≡ Some i → slice_get rows i ≡ Some row → row_at (set rows i new) (number k) ≡ cond (is_at (key_cmp j) k) (Some new) (row_at rows (number k))
+put_row number rows j k i row new apart numbered found = go (is_at (key_cmp j) k) (number k) refl refl
+  where
+    go : (b : Bool) (o : Option ℕ) → is_at (key_cmp j) k ≡ b → number k ≡ o → row_at (set rows i new) o ≡ cond b (Some new) (row_at rows o)
+    go true o at is = ap (row_at (set rows i new)) (sym is ∙ ap number (sym (key_is j k at)) ∙ numbered) ∙ put_same rows i row new found
+    go false None at is = refl
+    go false (Some n) at is = put_other rows i n new (λ e.
+        let same : j ≡ k = apart j k i numbered (is ∙ ap (λ (m : ℕ). Some m) e) in
+        let hit : is_at (key_cmp j) k ≡ true = found_key j k same in
+        absurd cc)
+
+pub put_in : (number : Numbers) (rows after : List Row) (s t : Tie) (i : ℕ) (row new : Row) (clock : ℕ) (beside : Option ℕ) → AreApart number → number (tie_key s) ≡ Some i → slice_get rows i ≡ Some row → after ≡ set rows i new
     → s.number < length row.items → new.items ≡ set row.items s.number (or_else (get_or row.items s.number None) (Some clock))
-    → clock_in_row (get key_cmp after (tie_key t)) t.number apart ≡ cond (same s t) (or_else (clock_in_row (get key_cmp rows (tie_key t)) t.number apart) (Some clock)) (clock_in_row (get key_cmp rows (tie_key t)) t.number apart)
-put_in rows after s t row new clock apart found up lt is =
-    put_place (get key_cmp rows (tie_key t)) (get key_cmp after (tie_key t)) row new s.number t.number clock apart (is_at (key_cmp (tie_key s)) (tie_key t)) (λ at. ap (get key_cmp rows) (sym (key_is (tie_key s) (tie_key t) at)) ∙ sym found) up lt is
-    ∙ ap (λ (b : Bool). cond b (or_else (clock_in_row (get key_cmp rows (tie_key t)) t.number apart) (Some clock)) (clock_in_row (get key_cmp rows (tie_key t)) t.number apart)) (sym (same_at s t))
+    → clock_in_row (row_at after (number (tie_key t))) t.number beside ≡ cond (same s t) (or_else (clock_in_row (row_at rows (number (tie_key t))) t.number beside) (Some clock)) (clock_in_row (row_at rows (number (tie_key t))) t.number beside)
+put_in number rows after s t i row new clock beside apart numbered found up lt is =
+    let old = clock_in_row (row_at rows (number (tie_key t))) t.number beside in
+    put_place (row_at rows (number (tie_key t))) (row_at after (number (tie_key t))) row new s.number t.number clock beside (is_at (key_cmp (tie_key s)) (tie_key t))
+    (λ at. ap (λ (k : TieKey). row_at rows (number k)) (sym (key_is (tie_key s) (tie_key t) at)) ∙ ap (row_at rows) numbered ∙ found)
+    (ap (λ (l : List Row). row_at l (number (tie_key t))) up ∙ put_row number rows (tie_key s) (tie_key t) i row new apart numbered found) lt is
+    ∙ ap (λ (b : Bool). cond b (or_else old (Some clock)) old) (sym (same_at s t))
 
 -- a clock put apart from them
 
@@ -111,24 +122,32 @@ put_beside : (old : Option Row) (n clock : ℕ) (apart new : Option ℕ) (b : Bo
 put_beside old n clock apart new false none up = ap (clock_in_row old n) up
 put_beside old n clock apart new true none up = none refl new ∙ up ∙ ap (λ (o : Option ℕ). or_else o (Some clock)) (sym (none refl apart))
 
-pub put_out : (rows : BTreeMap TieKey Row) (s t : Tie) (clock : ℕ) (apart new : Option ℕ) → ((o : Option ℕ) → clock_in_row (get key_cmp rows (tie_key s)) s.number o ≡ o) → new ≡ cond (same s t) (or_else apart (Some clock)) apart
-    → clock_in_row (get key_cmp rows (tie_key t)) t.number new ≡ cond (same s t) (or_else (clock_in_row (get key_cmp rows (tie_key t)) t.number apart) (Some clock)) (clock_in_row (get key_cmp rows (tie_key t)) t.number apart)
-put_out rows s t clock apart new none up = put_beside (get key_cmp rows (tie_key t)) t.number clock apart new (same s t) (λ at o. subst (λ (q : Tie). clock_in_row (get key_cmp rows (tie_key q)) q.number o ≡ o) (same_is s t at) (none o)) up
+pub put_out : (row : TieKey → Option Row) (s t : Tie) (clock : ℕ) (apart new : Option ℕ) → ((o : Option ℕ) → clock_in_row (row (tie_key s)) s.number o ≡ o) → new ≡ cond (same s t) (or_else apart (Some clock)) apart
+    → clock_in_row (row (tie_key t)) t.number new ≡ cond (same s t) (or_else (clock_in_row (row (tie_key t)) t.number apart) (Some clock)) (clock_in_row (row (tie_key t)) t.number apart)
+put_out row s t clock apart new none up = put_beside (row (tie_key t)) t.number clock apart new (same s t) (λ at o. subst (λ (q : Tie). clock_in_row (row (tie_key q)) q.number o ≡ o) (same_is s t at) (none o)) up
 
-pub past_row : (old : Option Row) (row : Row) (n : ℕ) (o : Option ℕ) → Some row ≡ old → length row.items ≤ n → clock_in_row old n o ≡ o
-past_row old row n o found le = ap (λ (r : Option Row). clock_in_row r n o) (sym found) ∙ (λ j. cond (sym (ltb_off n (length row.items) le) j) (get_or row.items n None) o)
+-- where the row of a key has no place for the ticket, the clock stands beside it
 
-pub past_none : (old : Option Row) (n : ℕ) (o : Option ℕ) → old ≡ None → clock_in_row old n o ≡ o
-past_none old n o none = ap (λ (r : Option Row). clock_in_row r n o) none
+pub past_row : (number : Numbers) (rows : List Row) (j : TieKey) (i n : ℕ) (row : Row) (o : Option ℕ) → number j ≡ Some i → slice_get rows i ≡ Some row → length row.items ≤ n → clock_in_row (row_at rows (number j)) n o ≡ o
+past_row number rows j i n row o numbered found le =
+    ap (λ (r : Option Row). clock_in_row r n o) (ap (row_at rows) numbered ∙ found) ∙ (λ k. cond (sym (ltb_off n (length row.items) le) k) (get_or row.items n None) o)
+
+pub past_rows : (number : Numbers) (rows : List Row) (j : TieKey) (i n : ℕ) (o : Option ℕ) → number j ≡ Some i → length rows ≤ i → clock_in_row (row_at rows (number j)) n o ≡ o
+past_rows number rows j i n o numbered le = ap (λ (r : Option Row). clock_in_row r n o) (ap (row_at rows) numbered ∙ slice_get_past rows i le)
+
+pub in_row : (number : Numbers) (rows : List Row) (j : TieKey) (i n : ℕ) (row : Row) (o : Option ℕ) → number j ≡ Some i → slice_get rows i ≡ Some row → n < length row.items → clock_in_row (row_at rows (number j)) n o ≡ get_or row.items n None
+in_row number rows j i n row o numbered found lt =
+    ap (λ (r : Option Row). clock_in_row r n o) (ap (row_at rows) numbered ∙ found) ∙ (λ k. cond (sym (ltb_on n (length row.items) lt) k) (get_or row.items n None) o)
+
+-- a row that was read stays as it was
+pub same_rows : (rows : List Row) (i : ℕ) (row : Row) → slice_get rows i ≡ Some row → set rows i row ≡ rows
+same_rows [] i row h = refl
+same_rows (r ∷ rows) zero row h = ap (λ (x : Row). x ∷ rows) (some_is row r (sym h))
+  where
+    some_is : (a b : Row) → Some a ≡ Some b → a ≡ b
+    some_is a b e = cc
+same_rows (r ∷ rows) (suc i) row h = ap (λ (l : List Row). r ∷ l) (same_rows rows i row h)
 
 pub on_ok : {A E P Q : Type 0} (r : Result A E) → (P → Q) → OnOk r P → OnOk r Q
 on_ok (Ok x) f p = f p
 on_ok (Err e) f p = tt
-
--- a row that was read stays as it was
-pub same_row : (rows after : BTreeMap TieKey Row) (j k : TieKey) (row : Row) → Some row ≡ get key_cmp rows j → get key_cmp after k ≡ cond (is_at (key_cmp j) k) (Some row) (get key_cmp rows k) → get key_cmp after k ≡ get key_cmp rows k
-same_row rows after j k row found up = go (is_at (key_cmp j) k) refl up
-  where
-    go : (b : Bool) → is_at (key_cmp j) k ≡ b → get key_cmp after k ≡ cond b (Some row) (get key_cmp rows k) → get key_cmp after k ≡ get key_cmp rows k
-    go true is e = e ∙ found ∙ ap (get key_cmp rows) (key_is j k is)
-    go false is e = e

@@ -11,8 +11,7 @@ use Rattle.logical_clock.specs.declared.event.Record.{Record}
 use Rattle.log_closure.specs.declared.tie.Tie.{Tie}
 use Rattle.log_closure.specs.Events.{LogEvent, event_of, events_behind, events_of}
 use Rattle.log_closure.specs.FirstWrong.{both, clock_at, first_twice, greatest, or_else, repeats}
-use Rattle.log_closure.specs.declared.table.Table.{Table}
-use Rattle.log_closure.specs.Tables.{Owns, clock_in}
+use Rattle.log_closure.specs.Tables.{Owns}
 use Rattle.log_closure.specs.Ties.{earlier, key_tie, keys, keys_of, listed, needs, same, thread_tie, ties}
 use Rattle.log_closure.proofs.Numbers.{events_behind-append, seen_records}
 use Rattle.log_closure.proofs.Steps.{clock_at-append, listed_more, or_false, same_is}
@@ -97,8 +96,8 @@ listed_keys e t pos = go (same (thread_tie e) t) refl
     go false is = refl
     go true is = let z = ap (λ (x : Tie). x.class) (same_is (thread_tie e) t is) in absurd (omega (arith, z, pos))
 
-pub owns_more : (old new : Table) (rs : List Record) (i : ℕ) (r : Record) (ms : List KeyMark) → i < length rs → r ≡ get_or rs i r → ms ≡ r.keys → Owns old (events_of (take i rs))
-    → ((t : Tie) → clock_in new t ≡ or_else (clock_in old t) (cond (listed (map key_tie ms) t) (Some r.clock) None))
+pub owns_more : (old new : Tie → Option ℕ) (rs : List Record) (i : ℕ) (r : Record) (ms : List KeyMark) → i < length rs → r ≡ get_or rs i r → ms ≡ r.keys → Owns old (events_of (take i rs))
+    → ((t : Tie) → new t ≡ or_else (old t) (cond (listed (map key_tie ms) t) (Some r.clock) None))
     → Owns new (events_of (take (i + 1) rs))
 owns_more old new rs i r ms lt is keys_is h up t pos =
     let e = event_of (take i rs) r in
@@ -114,8 +113,8 @@ listed_all (e ∷ es) t pos = go (listed (ties e) t) (listed_keys e t pos) (list
     go true is h = ap (λ (b : Bool). b || listed (keys_of es) t) is
     go false is h = h ∙ ap (λ (b : Bool). b || listed (keys_of es) t) is
 
-pub owns_listed : (m : Table) (es : List LogEvent) → Owns m es → (t : Tie) → 0 < t.class → is_some (clock_in m t) ≡ listed (keys_of es) t
-owns_listed m es h t pos = ap is_some (h t pos) ∙ listed_all es t pos
+pub owns_listed : (at : Tie → Option ℕ) (es : List LogEvent) → Owns at es → (t : Tie) → 0 < t.class → is_some (at t) ≡ listed (keys_of es) t
+owns_listed at es h t pos = ap is_some (h t pos) ∙ listed_all es t pos
 
 twice_more : (n : ℕ) (before es : List LogEvent) (e : LogEvent) → first_twice n before (es ++ e ∷ []) ≡ or_else (first_twice n before es) (cond (repeats (keys_of (before ++ es)) (keys e)) (Some (n + length es)) None)
 twice_more n before [] e = (λ i. cond (repeats (keys_of (sym (append-nil before) i)) (keys e)) (Some (sym (plus_zero n) i)) None)

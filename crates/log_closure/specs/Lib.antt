@@ -8,4 +8,5 @@ pub mod FirstWrong
 pub mod Growing
 pub mod Places
 pub mod Tables
+pub mod KeyNumbers
 pub mod Indexed

@@ -1,6 +1,7 @@
 -- What the tables of the check hold.
-use Rattle.std.specs.Prelude.{◌≡◌, ℕ, ◌<◌, cond, ltb, length, slice_index_or, List, Option, Some, None, IfSome, Result, Ok, Err}
-use Rattle.std.specs.BTreeMap.{BTreeMap, get}
+use Rattle.std.specs.Prelude.{◌≡◌, ℕ, ◌<◌, cond, ltb, length, slice_index_or, List, Option, Some, None, Result, Ok, Err}
+use Rattle.std.specs.List.{All, slice_get}
+use Rattle.std.specs.BTreeMap.{get}
 use Rattle.std.specs.Global.{Vec}
 use Rattle.std.specs.BTreeSet.{contains}
 use Rattle.std.specs.declared.cmp.Ordering.{Ordering}
@@ -24,22 +25,35 @@ key_cmp a b = ordering_then (nat_cmp a.class b.class) (nat_cmp a.value b.value)
 abbrev pub tie_key : Tie → TieKey
 tie_key t = record { class = t.class; value = t.value }
 
+-- the numbers of the keys that have one
+abbrev pub Numbers : Type 0
+Numbers = TieKey → Option ℕ
+
+-- different keys have different numbers
+abbrev pub AreApart : Numbers → Type 0
+AreApart number = (j k : TieKey) (n : ℕ) → number j ≡ Some n → number k ≡ Some n → j ≡ k
+
+-- the row with this number
+abbrev pub row_at : List (Vec (Option ℕ)) → Option ℕ → Option (Vec (Option ℕ))
+row_at rows None = None
+row_at rows (Some n) = slice_get rows n
+
 -- the clock in a row at a ticket, or the one apart where the row has no place for it
 abbrev pub clock_in_row : Option (Vec (Option ℕ)) → ℕ → Option ℕ → Option ℕ
 clock_in_row None n apart = apart
 clock_in_row (Some row) n apart = cond (ltb n (length row.items)) (slice_index_or row.items n None) apart
 
 -- the rows have no clock
-abbrev pub AreBlank : BTreeMap TieKey (Vec (Option ℕ)) → Type 0
-AreBlank rows = (k : TieKey) → IfSome (get key_cmp rows k) (λ row. (n : ℕ) → slice_index_or row.items n None ≡ None)
+abbrev pub AreBlank : List (Vec (Option ℕ)) → Type 0
+AreBlank rows = All (λ (row : Vec (Option ℕ)). (n : ℕ) → slice_index_or row.items n None ≡ None) rows
 
 -- the clock in the table at a key and ticket
-abbrev pub clock_in : Table → Tie → Option ℕ
-clock_in table t = clock_in_row (get key_cmp table.rows (tie_key t)) t.number (get tie_cmp table.rest t)
+abbrev pub clock_in : Numbers → Table → Tie → Option ℕ
+clock_in number table t = clock_in_row (row_at table.rows.items (number (tie_key t))) t.number (get tie_cmp table.rest t)
 
--- the table has the clock of the first event with each key and ticket
-abbrev pub Owns : Table → List LogEvent → Type 0
-Owns table es = (t : Tie) → 0 < t.class → clock_in table t ≡ clock_at es t
+-- these are the clocks of the first events with each key and ticket
+abbrev pub Owns : (Tie → Option ℕ) → List LogEvent → Type 0
+Owns at es = (t : Tie) → 0 < t.class → at t ≡ clock_at es t
 
 -- the keys and the lengths of threads are those of the part
 pub record IsGrown (g : Grown) (part : List LogEvent) : Type 0 where

@@ -7,6 +7,7 @@ mod clocks;
 mod closing;
 mod error;
 mod grow;
+mod numbering;
 mod part;
 mod place;
 mod table;

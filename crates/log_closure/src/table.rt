@@ -5,56 +5,19 @@ ghost use Rattle.std.specs.BTreeMap.{get};
 ghost use Rattle.log_closure.specs.declared.tie.Tie.{Tie};
 ghost use Rattle.log_closure.specs.Ties.{same};
 ghost use Rattle.log_closure.specs.FirstWrong.{or_else};
-ghost use Rattle.log_closure.specs.Tables.{AreBlank, clock_in, tie_cmp};
+ghost use Rattle.log_closure.specs.Tables.{AreApart, AreBlank, Numbers, clock_in, tie_cmp, tie_key};
 
-use crate::tie::{Tie, TieKey, key_of};
-use logical_clock::{KeyMark, Record};
+use crate::tie::Tie;
 use std::alloc::{AllocError, Global};
 use std::collections::BTreeMap;
 
-/// Adds a place to the row of the key.
-fn add_place(
-    alloc: Global,
-    rows: &mut BTreeMap<TieKey, Vec<Option<u32>>>,
-    key: TieKey,
-) -> Result<(), AllocError>
-    requires { AreBlank rows.old }
-    ensures { OnOk result (AreBlank rows.new) }
-{
-    if let Some(row) = rows.get_mut(&key) {
-        row.push(None)?;
-        return Ok(());
-    }
-    let mut row = Vec::new(alloc);
-    row.push(None)?;
-    rows.insert(key, row)?;
-    Ok(())
-}
-
-fn add_places(
-    alloc: Global,
-    rows: &mut BTreeMap<TieKey, Vec<Option<u32>>>,
-    marks: &[KeyMark],
-) -> Result<(), AllocError>
-    requires { AreBlank rows.old }
-    ensures { OnOk result (AreBlank rows.new) }
-{
-    for mark in marks {
-        add_place(alloc, rows, key_of(mark))?;
-    }
-    Ok(())
-}
-
 /// A row for each key, with as many places as it has marks.
-fn rows_of(
-    alloc: Global,
-    records: &[Record],
-) -> Result<BTreeMap<TieKey, Vec<Option<u32>>>, AllocError>
-    ensures { IfOk result (λ rows. AreBlank rows) }
+fn rows_of(alloc: Global, counts: &[u32]) -> Result<Vec<Vec<Option<u32>>>, AllocError>
+    ensures { IfOk result (λ rows. AreBlank rows.items) }
 {
-    let mut rows = BTreeMap::new(alloc);
-    for entry in records {
-        add_places(alloc, &mut rows, entry.keys.as_slice())?;
+    let mut rows = Vec::with_capacity(alloc, counts.len())?;
+    for count in counts {
+        rows.push(vec![in alloc; None; *count as usize]?)?;
     }
     Ok(rows)
 }
@@ -86,42 +49,43 @@ fn put_apart(rest: &mut BTreeMap<Tie, u32>, tie: Tie, clock: u32) -> Result<bool
 /// which is enough where its tickets count up; the clocks of greater tickets stand apart.
 #[derive(Debug, Drop)]
 pub struct Table {
-    pub rows: BTreeMap<TieKey, Vec<Option<u32>>>,
+    /// By the number of the key.
+    pub rows: Vec<Vec<Option<u32>>>,
     pub rest: BTreeMap<Tie, u32>,
 }
 
 impl Table {
-    /// A table without clocks, with room for the marks of the records.
-    pub fn for_records(alloc: Global, records: &[Record]) -> Result<Table, AllocError>
-        ensures { IfOk result (λ table. (t : Tie) → clock_in table t ≡ None) }
+    /// A table without clocks, with room for so many marks of each key.
+    pub fn for_counts(alloc: Global, counts: &[u32]) -> Result<Table, AllocError>
+        ensures { IfOk result (λ table. (number : Numbers) (t : Tie) → clock_in number table t ≡ None) }
     {
-        let rows = rows_of(alloc, records)?;
+        let rows = rows_of(alloc, counts)?;
         let rest = BTreeMap::new(alloc);
         Ok(Table { rows, rest })
     }
 
-    /// Puts the clock at the key and ticket, if none is there; true where one is.
-    pub fn put(&mut self, tie: Tie, clock: u32) -> Result<bool, AllocError>
-        ensures clock { OnOk result ((t : Tie) → clock_in self.new t ≡ cond (same tie t) (or_else (clock_in self.old t) (Some clock)) (clock_in self.old t)) }
-        ensures there { IfOk result (λ r. r ≡ is_some (clock_in self.old tie)) }
+    /// Puts the clock at the key, which has this number, and the ticket, if none is there; true where one is.
+    pub fn put(&mut self, key: u32, tie: Tie, clock: u32) -> Result<bool, AllocError>
+        ensures clock { (number : Numbers) → AreApart number → number (tie_key tie) ≡ Some key → OnOk result ((t : Tie) → clock_in number self.new t ≡ cond (same tie t) (or_else (clock_in number self.old t) (Some clock)) (clock_in number self.old t)) }
+        ensures there { (number : Numbers) → number (tie_key tie) ≡ Some key → IfOk result (λ r. r ≡ is_some (clock_in number self.old tie)) }
     {
-        let number = tie.number as usize;
-        if let Some(row) = self.rows.get_mut(&tie.key()) {
-            if number < row.len() {
-                return Ok(put_in_row(row, number, clock));
+        let ticket = tie.number as usize;
+        if let Some(row) = self.rows.get_mut(key as usize) {
+            if ticket < row.len() {
+                return Ok(put_in_row(row, ticket, clock));
             }
         }
         put_apart(&mut self.rest, tie, clock)
     }
 
-    /// The clock at the key and ticket.
-    pub fn get(&self, tie: Tie) -> Option<u32>
-        ensures { result ≡ clock_in self.now tie }
+    /// The clock at the key, which has this number, and the ticket.
+    pub fn get(&self, key: u32, tie: Tie) -> Option<u32>
+        ensures { (number : Numbers) → number (tie_key tie) ≡ Some key → result ≡ clock_in number self.now tie }
     {
-        let number = tie.number as usize;
-        if let Some(row) = self.rows.get(&tie.key()) {
-            if number < row.len() {
-                return row[number];
+        let ticket = tie.number as usize;
+        if let Some(row) = self.rows.get(key as usize) {
+            if ticket < row.len() {
+                return row[ticket];
             }
         }
         self.rest.get(&tie).copied()

@@ -21,17 +21,6 @@ pub struct TieKey {
     pub value: u64,
 }
 
-impl Tie {
-    pub fn key(&self) -> TieKey
-        ensures { result ≡ tie_key self.now }
-    {
-        TieKey {
-            class: self.class,
-            value: self.value,
-        }
-    }
-}
-
 pub fn key_of(mark: &KeyMark) -> TieKey
     ensures { result ≡ tie_key (key_tie mark.now) }
 {

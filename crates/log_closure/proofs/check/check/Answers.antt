@@ -10,7 +10,9 @@ use Rattle.log_closure.specs.declared.error.OrderError.TheVariants.{Twice}
 use Rattle.log_closure.specs.Events.{events_of, event_of, of_thread}
 use Rattle.log_closure.specs.Ties.{needs, thread_tie}
 use Rattle.log_closure.specs.FirstWrong.{first_wrong, or_else, clock_at, greatest}
-use Rattle.log_closure.specs.Tables.{Answers}
+use Rattle.log_closure.specs.Tables.{Answers, clock_in}
+use Rattle.log_closure.specs.KeyNumbers.{HaveNumbers, marks_of, number_in}
+use Rattle.log_closure.proofs.KeyNumbers.{next_first, next_fits, next_left}
 use Rattle.log_closure.proofs.Meaning.{tie_of_thread}
 use Rattle.log_closure.proofs.Steps.{first_at, first_next, first_found}
 use Rattle.log_closure.proofs.TableSteps.{length-events}
@@ -27,8 +29,21 @@ bounds-places-at c =
     let e : length c.args.places.now ≡ length c.args.records.now = ap length c.requires ∙ a ∙ b in
     omega (arith, e, c.loop-at-test.true)
 
+pub split_at-requires : goal.split_at-requires
+split_at-requires c =
+    next_fits c.loop-at.invariant.left.0 c.args.records.now c.loop-at.at c.index-records-at.result c.as_slice-marks.result.now c.loop-at.left.now c.loop-at-test.true c.index-records-at.is c.as_slice-marks.ensures c.loop-at.invariant.left.2
+
 pub loop-at-init : goal.loop-at-init
-loop-at-init c = record { wide = length-replicate {A = ℕ} 256 0; last = last_none c.args.records.now; later = λ m _. omega arith; same = λ _. first_wrong c.args.whole (events_of c.args.records.now) [] (events_of c.args.records.now) }
+loop-at-init c =
+    let all = events_of c.args.records.now in
+    let number = number_in c.in_ok-numbering.numbering in
+    record {
+      wide = length-replicate {A = ℕ} 256 0;
+      last = last_none c.args.records.now;
+      later = λ m _. omega arith;
+      left = (number, c.in_ok-clocks.ensures.owns, subst (HaveNumbers number (marks_of c.args.records.now)) (sym c.as_slice-left.ensures.value) c.in_ok-numbering.ensures.marks);
+      same = λ _. first_wrong c.args.whole all [] all;
+    }
 
 pub loop-at-preserved : goal.loop-at-preserved
 loop-at-preserved c =
@@ -50,12 +65,22 @@ loop-at-preserved c =
     let apart = not_twice_here rs i r lt is (λ m k. c.loop-at.invariant.later m (tw ∙ k)) (λ k. other (tw ∙ k)) in
     let own : greatest (clock_at all) (needs (thread_tie e ∷ [])) ≡ Some (get_or c.loop-at.last c.from-thread.result 0) =
     subst (λ (u : ℕ). greatest (clock_at all) (needs (tie_of_thread u (of_thread u (take i rs)) ∷ [])) ≡ Some (get_or c.loop-at.last c.from-thread.result 0)) th (c.loop-at.invariant.last c.from-thread.result fits) in
-    let here = wrong_here rs c.args.whole c.in_ok-clocks.clocks.table i r p c.as_slice.result.now (get_or c.loop-at.last c.from-thread.result 0) place c.as_slice.ensures c.in_ok-clocks.ensures.owns own apart in
-    let right = subst (Answers c.check_clock.result) here c.check_clock.ensures in
+    let ms = c.as_slice-marks.result.now in
+    let number = c.loop-at.invariant.left.0 in
+    let have : HaveNumbers number ms c.split_at.result.0.now = subst (HaveNumbers number ms) (sym c.split_at.ensures.front)
+    (next_first number rs i r ms c.loop-at.left.now lt is c.as_slice-marks.ensures c.loop-at.invariant.left.2) in
+    let here = wrong_here rs c.args.whole (clock_in number c.in_ok-clocks.clocks.table) i r p ms (get_or c.loop-at.last c.from-thread.result 0) place c.as_slice-marks.ensures c.loop-at.invariant.left.1 own apart in
+    let right = subst (Answers c.check_clock.result) here (c.check_clock.ensures number have) in
     record {
       wide = length-set c.loop-at.last c.from-thread.result r.clock ∙ c.loop-at.invariant.wide;
       last = last_more rs i c.from-thread.result r c.loop-at.last lt is th (omega (arith, fits, c.loop-at.invariant.wide)) c.loop-at.invariant.last;
       later = later;
+      left = (
+        number,
+        c.loop-at.invariant.left.1,
+        subst (HaveNumbers number (marks_of (drop (i + 1) rs))) (sym c.split_at.ensures.back)
+            (next_left number rs i r ms c.loop-at.left.now lt is c.as_slice-marks.ensures c.loop-at.invariant.left.2),
+      );
       same = c.loop-at.invariant.same ∙ first_next c.args.whole all i e c.check_clock.result c.in_ok-check_clock.field-0 (omega (arith, length-events [] rs, lt)) (event_here rs i r lt is) c.in_ok-check_clock.was right;
     }
 
@@ -94,8 +119,12 @@ returns-in_err-check_clock c =
     let apart = not_twice_here rs i r lt is (λ m k. c.loop-at.invariant.later m (tw ∙ k)) (λ k. other (tw ∙ k)) in
     let own : greatest (clock_at all) (needs (thread_tie e ∷ [])) ≡ Some (get_or c.loop-at.last c.from-thread.result 0) =
     subst (λ (u : ℕ). greatest (clock_at all) (needs (tie_of_thread u (of_thread u (take i rs)) ∷ [])) ≡ Some (get_or c.loop-at.last c.from-thread.result 0)) th (c.loop-at.invariant.last c.from-thread.result fits) in
-    let here = wrong_here rs c.args.whole c.in_ok-clocks.clocks.table i r p c.as_slice.result.now (get_or c.loop-at.last c.from-thread.result 0) place c.as_slice.ensures c.in_ok-clocks.ensures.owns own apart in
-    let wrong_is = subst (Answers {X = Unit {0}} (Err x)) here c.in_err-check_clock.ensures in
+    let ms = c.as_slice-marks.result.now in
+    let number = c.loop-at.invariant.left.0 in
+    let have : HaveNumbers number ms c.split_at.result.0.now = subst (HaveNumbers number ms) (sym c.split_at.ensures.front)
+    (next_first number rs i r ms c.loop-at.left.now lt is c.as_slice-marks.ensures c.loop-at.invariant.left.2) in
+    let here = wrong_here rs c.args.whole (clock_in number c.in_ok-clocks.clocks.table) i r p ms (get_or c.loop-at.last c.from-thread.result 0) place c.as_slice-marks.ensures c.loop-at.invariant.left.1 own apart in
+    let wrong_is = subst (Answers {X = Unit {0}} (Err x)) here (c.in_err-check_clock.ensures number have) in
     let q = err_from_is_err_and c.from_residual-in_err-check_clock.result c.from_residual-in_err-check_clock.ensures.1 in
     rw (q.1, q.2) (first_found c.args.whole all i e (Err x) x (first_wrong c.args.whole all [] all) (omega (arith, length-events [] rs, lt)) (event_here rs i r lt is) refl wrong_is c.loop-at.invariant.same)
 
