@@ -1,0 +1,4 @@
+pub mod TypeCodes
+pub mod Reading
+pub mod States
+pub mod Nodes
