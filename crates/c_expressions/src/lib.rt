@@ -1,0 +1,17 @@
+//! The types of the expressions and declarators of a C source, and what they are as typed nodes (C11 6.5, 6.7.6, 6.7.7).
+#![tactic(auto)]
+
+mod annotations;
+mod calls;
+mod constants;
+mod declarators;
+mod expressions;
+mod growing;
+mod made;
+mod parameters;
+mod sizes;
+
+pub use annotations::annotation_types;
+pub use declarators::{declarator, declared_type};
+pub use expressions::expression;
+pub use parameters::parameter_types;
