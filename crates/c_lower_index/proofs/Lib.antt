@@ -1,0 +1,4 @@
+pub mod Found
+pub mod Sized
+pub mod Placing
+pub mod Numbers
