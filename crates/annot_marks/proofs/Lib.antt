@@ -1,0 +1,5 @@
+pub mod Marking
+mod Fitting
+mod Sorting
+mod Factors
+pub mod Saying

@@ -1,0 +1,4 @@
+pub mod Sorts
+pub mod Rules
+pub mod Marking
+pub mod Sizing

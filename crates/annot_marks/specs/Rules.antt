@@ -1,0 +1,44 @@
+-- What the type rules say where annotations stand.
+use Rattle.std.specs.Prelude.{◌≡◌, ◌<◌, ℕ, List, length, Option, Some, None}
+use Rattle.c_syntax.specs.declared.id.DeclId.{DeclId}
+use Rattle.c_syntax.specs.Nodes.{Nodes}
+use Rattle.c_syntax.specs.Syntax.{Decl}
+use Rattle.c_syntax.specs.Stands.{StandsDecl}
+use Rattle.c_walks.specs.Numbers.{FitsDecl}
+use Rattle.c_type_model.specs.Types.{CType}
+use Rattle.c_type_table.specs.declared.ids.TypeId.{TypeId}
+use Rattle.c_type_table.specs.Tables.{at}
+use Rattle.c_typing.specs.Checked.{Checked, Fine, ◌>>=◌}
+use Rattle.c_typing.specs.Environment.{Environment, Meaning, FunctionNamed, extents}
+use Rattle.c_typing.specs.Expressions.{declared_type}
+use Rattle.c_typing.specs.Operators.{size_in}
+
+-- what is declared at a place of a source, and the types that go by numbers
+pub record Declared : Type 0 where
+  pub env : Environment
+  pub types : List CType
+
+-- the number stands for the type
+pub record Names (types : List CType) (id : TypeId) (t : CType) : Type 0 where
+  pub inside : id.0 < length types
+  pub is : at types id ≡ t
+
+-- what is declared is as it was, and numbers stand for what they did
+pub record Stays (old new : Declared) : Type 0 where
+  pub env : new.env ≡ old.env
+  pub types : (id : TypeId) (t : CType) → Names old.types id t → Names new.types id t
+
+-- the number stands for a declaration whose numbers types can represent
+abbrev pub IsTypeName : Nodes → DeclId → Type 0
+IsTypeName N i = (d : Decl) × StandsDecl N i d × FitsDecl d
+
+-- the size of the type that a type name names
+abbrev pub size_named : Environment → Decl → Checked ℕ
+size_named env d = do
+  t ← declared_type d env
+  Fine (size_in (extents env) t)
+
+-- the number of a function that a name means
+abbrev pub function_in : Option Meaning → Option ℕ
+function_in (Some (FunctionNamed number t)) = Some number
+function_in _ = None

@@ -1,0 +1,5 @@
+pub mod Words
+pub mod Readings
+pub mod Items
+pub mod Steps
+pub mod Places
