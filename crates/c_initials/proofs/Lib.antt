@@ -1,0 +1,9 @@
+pub mod Starts
+pub mod Written
+pub mod Depths
+pub mod Rests
+pub mod Made
+pub mod Scalars
+pub mod Plain
+pub mod Stepping
+pub mod Listing

@@ -1,0 +1,11 @@
+//! How the objects of a typed program's types lie in memory: sizes, alignments, and where the members of structs lie.
+#![tactic(auto)]
+
+mod laws;
+mod members;
+mod objects;
+#[cfg(test)]
+mod tests;
+
+pub use laws::offsets_are_those_of_members;
+pub use objects::layout;

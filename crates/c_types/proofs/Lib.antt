@@ -1,0 +1,15 @@
+mod Grown
+mod Followed
+mod Stepping
+mod Parts
+mod Tagged
+mod Gathered
+mod Pushed
+mod Defined
+mod Limited
+mod Ended
+mod Sourced
+mod Naming
+mod FunctionSteps
+mod GlobalSteps
+mod StructSteps

@@ -1,0 +1,14 @@
+use Rattle.std.proofs.Common.{drop}
+use Rattle.c_syntax.specs.Syntax.{Decls}
+use Rattle.c_syntax.specs.Stands.{StandDecls}
+use Rattle.c_expressions.specs.Found.{Stays}
+use Rattle.c_types.specs.Members.{AreBelow, members_in}
+use Rattle.c_types.proofs.Gathered.{RestOfMembers}
+use Rattle.c_types.proofs.members.members_of.Given as goal
+
+abbrev pub invariant-loop-id : goal.invariant-loop-id
+invariant-loop-id l = record {
+  kept : Stays l.fn.env l.env;
+  below : AreBelow l.env.table l.members;
+  rest : (ds : Decls) → StandDecls l.tree l.ids ds → RestOfMembers l.tree l.fn.env.env l.fn.env.found_large l.env.found_large (drop l.id-index l.ids) ds (members_in l.env.table l.members);
+}

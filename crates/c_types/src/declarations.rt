@@ -1,0 +1,89 @@
+//! What a source declares, one declaration after another.
+
+ghost use Rattle.std.specs.Prelude.{◌<◌, IfOk, length};
+ghost use Rattle.c_syntax.specs.Stands.{StandsDecl};
+ghost use Rattle.c_syntax.specs.Syntax.{Decl};
+ghost use Rattle.c_type_table.specs.Tables.{type_at};
+ghost use Rattle.c_typing.specs.Sources.{declaration as declaration_by_rules};
+ghost use Rattle.c_expressions.specs.Walks.{IsDecl};
+ghost use Rattle.c_types.specs.States.{DeclaresNothing, Follows, IsSound, program_of};
+ghost use Rattle.c_types.specs.Pieces.{named as named_by_rules, typed as typed_by_rules};
+
+use c_environment::Environment;
+use c_expressions::{annotation_types, declared_type};
+use c_operators::TypeError;
+use c_structs::Tags;
+use c_syntax::{Base, DeclId, Rest, Tree};
+use c_type_table::{Ty, TypeId};
+use c_typed_program::{Function, Global};
+use std::alloc::AllocError;
+
+/// What a source declares so far: what names mean, whether no struct has too many members, and functions and globals in order.
+#[derive(Drop)]
+pub(crate) struct Declarations {
+    pub(crate) env: Environment,
+    pub(crate) members_are_few: bool,
+    pub(crate) functions: Vec<Function>,
+    pub(crate) globals: Vec<Global>,
+}
+
+impl Declarations {
+    /// Nothing is declared. `tags` has those of all structs that the source defines. `AllocError` where there is no memory.
+    pub(crate) fn new(alloc: std::alloc::Global, tags: Tags) -> Result<Declarations, AllocError>
+        ensures { IfOk result (DeclaresNothing tags) }
+    {
+        Ok(Declarations {
+            env: Environment::new(alloc, tags)?,
+            members_are_few: true,
+            functions: Vec::new(alloc),
+            globals: Vec::new(alloc),
+        })
+    }
+
+    /// One declaration more.
+    ///
+    /// `Rule` names the first rule that is broken in it, with the offset of the node that breaks it. Notes where an object is too
+    /// large.
+    pub(crate) fn declaration(&mut self, tree: &Tree, id: DeclId) -> Result<(), TypeError>
+        requires id { IsDecl tree.now id }
+        requires sound { IsSound self.old }
+        ensures { (d : Decl) → StandsDecl tree.now id d → Follows self.old self.new (declaration_by_rules self.old.env.env.tags (program_of self.old) d) result }
+    {
+        let decl = tree.decl(id);
+        match (&decl.base, &decl.rest) {
+            (Base::Struct(tag), Rest::Members(members)) => self.struct_defined(
+                tree,
+                decl.from,
+                &decl.base,
+                tag.as_slice(),
+                members.as_slice(),
+            ),
+            _ => self.named(tree, id),
+        }
+    }
+
+    // A function or a global.
+    fn named(&mut self, tree: &Tree, id: DeclId) -> Result<(), TypeError>
+        requires id { IsDecl tree.now id }
+        requires sound { IsSound self.old }
+        ensures { (d : Decl) → StandsDecl tree.now id d → Follows self.old self.new (named_by_rules self.old.env.env.tags (program_of self.old) d) result }
+    {
+        let decl = tree.decl(id);
+        annotation_types(&mut self.env, tree, decl.annots.as_slice())?;
+        let ty = declared_type(&mut self.env, tree, id)?;
+        self.typed(tree, id, ty)
+    }
+
+    // A function or a global of this type.
+    fn typed(&mut self, tree: &Tree, id: DeclId, ty: TypeId) -> Result<(), TypeError>
+        requires id { IsDecl tree.now id }
+        requires ty { ty.0 < length self.old.env.table.types }
+        requires sound { IsSound self.old }
+        ensures { (d : Decl) → StandsDecl tree.now id d → Follows self.old self.new (typed_by_rules self.old.env.env.tags (program_of self.old) (type_at self.old.env.table.types ty) d) result }
+    {
+        match self.env.table().types().get(ty) {
+            Ty::Function { .. } => self.function(tree, id, ty),
+            _ => self.global(tree, id, ty),
+        }
+    }
+}

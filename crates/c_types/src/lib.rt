@@ -1,0 +1,21 @@
+//! The types of C sources: whole sources, and what they are as typed programs (C11 6.9).
+#![tactic(auto)]
+
+mod declarations;
+mod error;
+mod extents;
+mod functions;
+mod globals;
+mod growing;
+mod limits;
+mod members;
+mod signature;
+mod source;
+mod structs;
+mod tags;
+mod texts;
+mod whole;
+
+pub use error::{CheckError, Which};
+pub use source::{TypedSource, sources_stay_typed};
+pub use whole::{check, check_source};

@@ -1,0 +1,103 @@
+//! Whole sources.
+
+ghost use Rattle.std.specs.Prelude.{◌≡◌, map};
+ghost use Rattle.c_syntax.specs.Stands.{Holds};
+ghost use Rattle.c_syntax.specs.Syntax.{Decls};
+ghost use Rattle.c_typing.specs.Limits.{outcome};
+ghost use Rattle.c_typing.specs.Sources.{declarations as declarations_by_rules, has_main as has_main_by_rules, tags_of as tags_by_rules};
+ghost use Rattle.c_typed_program.specs.Declarations.{function_in};
+ghost use Rattle.c_typed_table.specs.Tables.{Table};
+ghost use Rattle.c_types.specs.Answers.{IsChecked, IsCheckedSource, IsSource};
+ghost use Rattle.c_types.specs.States.{Ends, IsSound, program_of};
+ghost use Rattle.c_types.specs.Pieces.{finished as finished_by_rules};
+ghost use Rattle.c_types.specs.Texts.{texts_among};
+
+use crate::declarations::Declarations;
+use crate::error::CheckError;
+use crate::source::TypedSource;
+use crate::tags::tags_of;
+use crate::texts::texts_of;
+use c_lexer::Token;
+use c_operators::TypeError;
+use c_syntax::{Seq, Tree};
+use c_typed_program::{Function, TextLiteral, TypedProgram};
+use std::alloc::Global;
+
+// Whether one of the functions is main, and has a body.
+fn has_main(functions: &[Function]) -> bool
+    ensures { (t : Table) → result ≡ has_main_by_rules (map (function_in t) functions.now) }
+{
+    for function in functions {
+        if function.name.as_slice() == b"main".as_slice() && function.body.is_some() {
+            return true;
+        }
+    }
+    false
+}
+
+// The typed source of all its declarations.
+fn finished(declared: Declarations, texts: Seq<TextLiteral>) -> Result<TypedSource, CheckError>
+    requires { IsSound declared }
+    ensures { IsCheckedSource texts declared.env.env.tags (finished_by_rules declared.env.found_large (program_of declared)) result }
+{
+    if !has_main(&declared.functions) {
+        return Err(CheckError::Rule(0, 18));
+    }
+    if let Some(which) = declared.first_limit() {
+        return Err(CheckError::Limit(which));
+    }
+    let Declarations {
+        env,
+        members_are_few: _,
+        functions,
+        globals,
+    } = declared;
+    Ok(TypedSource {
+        env,
+        functions: Seq::from(functions),
+        globals: Seq::from(globals),
+        texts,
+    })
+}
+
+// All declarations of a source, one after another.
+fn all_declared(declared: Declarations, tree: &Tree) -> Result<Declarations, TypeError>
+    requires source { IsSource tree.now }
+    requires sound { IsSound declared }
+    ensures { (ds : Decls) → Holds tree.now ds → Ends declared (declarations_by_rules declared.env.env.tags (program_of declared) ds) result }
+{
+    let mut declared = declared;
+    for id in tree.top() {
+        declared.declaration(tree, *id)?;
+    }
+    Ok(declared)
+}
+
+/// What a source declares, with its expressions and types in one table (C11 6.9), and its strings in order, where its annotations may
+/// still be read.
+///
+/// `Rule` names the first rule that is broken in it, with the offset of the node that breaks it. `Limit` where it keeps all rules and
+/// goes past a number. `Memory` where there is no memory.
+pub fn check_source(alloc: Global, tokens: &[Token], tree: &Tree) -> Result<TypedSource, CheckError>
+    // The tree is that of a source whose numbers are such as tokens are.
+    requires { IsSource tree.now }
+    // The answer is what the rules and the limits say of the source, with the strings among its tokens.
+    ensures { (ds : Decls) → Holds tree.now ds → IsCheckedSource (texts_among tokens.now) (tags_by_rules ds) (outcome ds) result }
+{
+    let tags = tags_of(alloc, tree, tree.top())?;
+    let declared = Declarations::new(alloc, tags)?;
+    let declared = all_declared(declared, tree)?;
+    let texts = texts_of(alloc, tokens)?;
+    finished(declared, texts)
+}
+
+/// The typed program of a source.
+///
+/// Errors are as for `check_source`.
+pub fn check(alloc: Global, tokens: &[Token], tree: &Tree) -> Result<TypedProgram, CheckError>
+    requires { IsSource tree.now }
+    ensures { (ds : Decls) → Holds tree.now ds → IsChecked (texts_among tokens.now) (outcome ds) result }
+{
+    let source = check_source(alloc, tokens, tree)?;
+    Ok(source.into_program())
+}
