@@ -36,10 +36,14 @@ first_fits None b h k = k
 -- ---- what stays
 
 pub stays_here : (a : Declared) → Stays a a
-stays_here a = record { env = refl; types = λ id t n. n }
+stays_here a = record { env = refl; types = λ id t n. n; nodes = record { has = λ k x h. h } }
 
 pub stays_through : (a b c : Declared) → Stays a b → Stays b c → Stays a c
-stays_through a b c h k = record { env = k.env ∙ h.env; types = λ id t n. k.types id t (h.types id t n) }
+stays_through a b c h k = record {
+  env = k.env ∙ h.env;
+  types = λ id t n. k.types id t (h.types id t n);
+  nodes = record { has = λ j x e. k.nodes.has j x (h.nodes.has j x e) };
+}
 
 pub known_stays : (g : Code) (e f : Environment) (s : Signature) → f ≡ e → IsKnown g e s → IsKnown g f s
 known_stays g e f s h k = subst (λ x. IsKnown g x s) (sym h) k

@@ -20,7 +20,7 @@ use std::alloc::AllocError;
 
 /// What the type rules say where annotations of functions stand: sizes of types, and names of parameters.
 pub trait TypeRules {
-    /// What is declared, and the types that go by numbers.
+    /// What is declared, and the types and typed nodes that go by numbers.
     ghost declared: { Self → Declared };
 
     /// The size in bytes of the type that a type name names. A size past 2^64 - 1 counts as 2^64 - 1.

@@ -1,0 +1,4 @@
+pub mod Sayings
+pub mod Steps
+pub mod Parameters
+pub mod First

@@ -1,0 +1,4 @@
+mod FunctionTypes
+mod Headings
+mod Typed
+mod Staying

@@ -1,0 +1,17 @@
+//! Rules of types that an annotation breaks.
+
+ghost use Rattle.std.specs.Prelude.{◌≡◌};
+ghost use Rattle.annot_types.specs.Errors.{by_type_error};
+
+use bare_annotations::AnnotationError;
+use c_operators::TypeError;
+
+/// The same, in an annotation.
+pub(crate) fn in_annotation(error: TypeError) -> AnnotationError
+    ensures { result ≡ by_type_error error }
+{
+    match error {
+        TypeError::Rule(from, rule) => AnnotationError::Rule(from, rule),
+        TypeError::Memory => AnnotationError::Memory,
+    }
+}
