@@ -1,14 +1,15 @@
 #!/usr/bin/env python3
-"""Spells a C source for bench/check.sh: `spell_source.py BYTES SOURCE PLAIN` writes one of at most that many bytes, and
-the same text without its annotations. The code is ordinary: structs, globals under locks, functions with loops, branches,
-calls and arithmetic, with comments."""
+"""Spells a C source for bench/check.sh: `spell_source.py BYTES SOURCE PLAIN` writes one of about that many bytes, and
+the same text without its annotations. The code is ordinary: structs, globals under locks, a thousand functions with loops, branches,
+calls and arithmetic, with comments. It keeps the rules of types, and has some 20,000 names of locals and parameters."""
 import random
 import sys
 
+# A source has 1,000 functions at most: these, two more in the head, and main.
+FUNCTIONS = 997
+LOCALS = 14
 HEAD = [
     ("struct node { long key; int left; int right; char name[16]; };", ""),
-    ("int r2_lock(int m);", ""),
-    ("int r2_unlock(int m);", ""),
     ("int receive(int s, char *buf, int len);", "int receive(int s, [out, cap(len), bsize(return)] char *buf, int len);"),
 ]
 BINARY = ["+", "-", "*", "&", "|", "^", "<", "<=", "==", "!=", "&&", "||"]
@@ -17,12 +18,13 @@ BINARY = ["+", "-", "*", "&", "|", "^", "<", "<=", "==", "!=", "&&", "||"]
 class Writer:
     """The functions of a source, each of which may call those before it."""
 
-    def __init__(self):
+    def __init__(self, length):
+        self.length = length
         self.rng = random.Random(1)
         self.count = 0
 
     def operand(self):
-        kind = self.rng.randrange(7)
+        kind = self.rng.randrange(10)
         if kind == 0:
             return str(self.rng.randrange(10000))
         if kind == 1:
@@ -33,6 +35,8 @@ class Writer:
             return "p[i]"
         if kind == 4:
             return "'%s'" % chr(self.rng.randrange(97, 123))
+        if kind >= 7:
+            return f"v{self.rng.randrange(LOCALS)}"
         return self.rng.choice(["a", "b", "i"])
 
     def expression(self, depth):
@@ -73,13 +77,13 @@ class Writer:
             "{",
             "    int i = 0;",
             "    long total = 0;",
-            *self.block(1, 3),
-            "    return total + sizeof(struct node);",
-            "}",
-            "",
+            *(f"    long v{number} = {number};" for number in range(LOCALS)),
         ]
+        while sum(len(line) + 1 for line in lines) < self.length:
+            lines += self.block(1, 3)
+        lines += ["    return total + sizeof(struct node);", "}", "", ""]
         self.count += 1
-        return "\n".join(lines) + "\n"
+        return "\n".join(lines)
 
     def shared(self, lock):
         plain = f"long shared_{lock};\n"
@@ -88,17 +92,20 @@ class Writer:
 
 def main():
     size, source, plain = int(sys.argv[1]), sys.argv[2], sys.argv[3]
-    writer = Writer()
+    # the last block of a function goes past its length
+    writer = Writer(size // FUNCTIONS - 360)
     parts = [(text + "\n", (annotated or text) + "\n") for text, annotated in HEAD]
     parts += [writer.shared(lock) for lock in range(8)]
     parts.append(("int outside(int x);\n", "[cut(top)] int outside(int x);\n"))
-    length = sum(len(annotated) for _, annotated in parts)
-    while True:
+    end = "int main(void) { return 0; }\n"
+    length = sum(len(annotated) for _, annotated in parts) + len(end)
+    while writer.count < FUNCTIONS:
         text = writer.function()
         if length + len(text) > size:
             break
         parts.append((text, text))
         length += len(text)
+    parts.append((end, end))
     for path, place in ((plain, 0), (source, 1)):
         with open(path, "w") as file:
             file.writelines(part[place] for part in parts)

@@ -227,7 +227,7 @@ one_answer_to words held form o p of (run.no_source a) (run.no_source b) = run.s
 one_answer_to words held form o p of (run.no_source a) (run.checked {bytes = bytes} b is) = absurd (let both : None ≡ Some bytes = sym a ∙ b in cc)
 one_answer_to words held form o p of (run.checked {bytes = bytes} a is) (run.no_source b) = absurd (let both : None ≡ Some bytes = sym b ∙ a in cc)
 one_answer_to words held form o p of (run.checked {src = src} {cut = cut} {bytes = bytes} a is) (run.checked {bytes = others} b it) =
-    one_check words (check src cut, of, tt) others o p (subst (λ (w : List ℕ). IsCheck w o) (let both : Some bytes ≡ Some others = sym a ∙ b in cc) is) it
+    one_check words (check src cut, of, tt) others cut o p (subst (λ (w : List ℕ). IsCheck w cut o) (let both : Some bytes ≡ Some others = sym a ∙ b in cc) is) it
 
 pub one_answer : (words : List (List ℕ)) (held : List ℕ → Option (List ℕ)) (o p : Outcome) → IsAnswer words held o → IsAnswer words held p → SameOutcome words o p
 one_answer words held o p (run.no_form a) (run.no_form b) = run.same

@@ -13,7 +13,7 @@ use Rattle.log_closure.specs.declared.error.OrderError.{OrderError}
 use Rattle.log_closure.specs.declared.error.OrderError.TheVariants as order_error
 use Rattle.r2_cli.specs.Endings.{order_ending, print_ending}
 use Rattle.r2_cli.specs.declared.ending.Ending.{Ending}
-use Rattle.r2_cli.specs.declared.ending.Ending.TheVariants.{Done, Usage, Source, Short, LogByte, LogEvent, ReadFault, NoFile, WriteFault, SourceLimit, LogLimit, NoMemory}
+use Rattle.r2_cli.specs.declared.ending.Ending.TheVariants.{Done, Usage, Source, NoCut, Short, LogByte, LogEvent, ReadFault, NoFile, WriteFault, SourceLimit, TooLarge, LogLimit, NoMemory}
 use Rattle.r2_cli.specs.declared.status.Status.TheVariants as status
 use Rattle.r2_cli.specs.Words.{Form, order, ReadsLog}
 use Rattle.r2_cli.specs.Outcome.{Outcome, refusal, line_of}
@@ -32,6 +32,7 @@ pub cause_of_log : (log : List ℕ) (r s f g : ℕ) (ending : Ending) → LogCau
 cause_of_log log r s f g Done cause = absurd cause
 cause_of_log log r s f g Usage cause = absurd cause
 cause_of_log log r s f g (Source fault) cause = absurd cause
+cause_of_log log r s f g (NoCut cut) cause = absurd cause
 cause_of_log log r s f g Short cause = absurd cause
 cause_of_log log r s f g (LogByte n) cause = tt
 cause_of_log log r s f g (LogEvent error) cause = (tt, cause)
@@ -39,6 +40,7 @@ cause_of_log log r s f g ReadFault cause = cause
 cause_of_log log r s f g (NoFile name) cause = cause
 cause_of_log log r s f g WriteFault cause = absurd cause
 cause_of_log log r s f g SourceLimit cause = absurd cause
+cause_of_log log r s f g (TooLarge which) cause = absurd cause
 cause_of_log log r s f g LogLimit cause = tt
 cause_of_log log r s f g NoMemory cause = tt
 
@@ -46,6 +48,7 @@ pub refused_log : (log : List ℕ) (held : Held) (r s : ℕ) (told : Option (Lis
 refused_log log held r s told Done cause ends = absurd cause
 refused_log log held r s told Usage cause ends = absurd cause
 refused_log log held r s told (Source fault) cause ends = absurd cause
+refused_log log held r s told (NoCut cut) cause ends = absurd cause
 refused_log log held r s told Short cause ends = absurd cause
 refused_log log held r s told (LogByte n) cause ends = record {
   settles = λ _. record {
@@ -83,6 +86,7 @@ refused_log log held r s told (NoFile name) cause ends = record {
 }
 refused_log log held r s told WriteFault cause ends = absurd cause
 refused_log log held r s told SourceLimit cause ends = absurd cause
+refused_log log held r s told (TooLarge which) cause ends = absurd cause
 refused_log log held r s told LogLimit cause ends = record {
   settles = λ _. record {
     outcome = refusal status.Limit (codes "limit log 67108864");

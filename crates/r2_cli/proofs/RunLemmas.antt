@@ -8,7 +8,7 @@ use Rattle.r2_cli.proofs.Told.{adds_nothing, adds_grown, prefix_grown, whole_pre
 use Rattle.log_closure.specs.declared.error.OrderError.{OrderError}
 use Rattle.log_closure.specs.declared.error.OrderError.TheVariants as order_error
 use Rattle.r2_cli.specs.declared.ending.Ending.{Ending}
-use Rattle.r2_cli.specs.declared.ending.Ending.TheVariants.{Done, Usage, Source, Short, LogByte, LogEvent, ReadFault, NoFile, WriteFault, SourceLimit, LogLimit, NoMemory}
+use Rattle.r2_cli.specs.declared.ending.Ending.TheVariants.{Done, Usage, Source, NoCut, Short, LogByte, LogEvent, ReadFault, NoFile, WriteFault, SourceLimit, TooLarge, LogLimit, NoMemory}
 use Rattle.r2_cli.specs.declared.status.Status.{Status}
 use Rattle.r2_cli.specs.declared.status.Status.TheVariants as status
 use Rattle.r2_cli.specs.Words.{Form, help, version, IsForm, IsUsage, IsOfLog}
@@ -39,6 +39,7 @@ settled_of : (ending : Ending) → IsDecided (status_of ending) → IsSettled en
 settled_of Done is = tt
 settled_of Usage is = tt
 settled_of (Source fault) is = tt
+settled_of (NoCut cut) is = tt
 settled_of Short is = tt
 settled_of (LogByte n) is = tt
 settled_of (LogEvent error) is = tt
@@ -46,6 +47,7 @@ settled_of ReadFault is = absurd is
 settled_of (NoFile name) is = tt
 settled_of WriteFault is = absurd is
 settled_of SourceLimit is = tt
+settled_of (TooLarge which) is = tt
 settled_of LogLimit is = tt
 settled_of NoMemory is = absurd is
 
@@ -53,6 +55,7 @@ pub early_of : (ending : Ending) → IsRefused (status_of ending) → IsEarly en
 early_of Done is = absurd is
 early_of Usage is = tt
 early_of (Source fault) is = tt
+early_of (NoCut cut) is = tt
 early_of Short is = absurd is
 early_of (LogByte n) is = tt
 early_of (LogEvent error) is = tt
@@ -60,6 +63,7 @@ early_of ReadFault is = tt
 early_of (NoFile name) is = tt
 early_of WriteFault is = absurd is
 early_of SourceLimit is = tt
+early_of (TooLarge which) is = tt
 early_of LogLimit is = tt
 early_of NoMemory is = absurd is
 
@@ -67,6 +71,7 @@ usage_of : (words : Words) (r s f g : ℕ) (ending : Ending) → WordsCause word
 usage_of words r s f g Done cause is = absurd cc
 usage_of words r s f g Usage cause is = cause
 usage_of words r s f g (Source fault) cause is = absurd cc
+usage_of words r s f g (NoCut cut) cause is = absurd cc
 usage_of words r s f g Short cause is = absurd cc
 usage_of words r s f g (LogByte n) cause is = absurd cc
 usage_of words r s f g (LogEvent error) cause is = absurd cc
@@ -74,6 +79,7 @@ usage_of words r s f g ReadFault cause is = absurd cc
 usage_of words r s f g (NoFile name) cause is = absurd cc
 usage_of words r s f g WriteFault cause is = absurd cc
 usage_of words r s f g SourceLimit cause is = absurd cc
+usage_of words r s f g (TooLarge which) cause is = absurd cc
 usage_of words r s f g LogLimit cause is = absurd cc
 usage_of words r s f g NoMemory cause is = absurd cc
 
@@ -82,6 +88,7 @@ usage_is : (words : Words) (r s f g : ℕ) (ending : Ending) → WordsCause word
 usage_is words r s f g Usage cause none = refl
 usage_is words r s f g Done (form, is, cause) none = absurd (none form is)
 usage_is words r s f g (Source fault) (form, is, cause) none = absurd (none form is)
+usage_is words r s f g (NoCut cut) (form, is, cause) none = absurd (none form is)
 usage_is words r s f g Short (form, is, cause) none = absurd (none form is)
 usage_is words r s f g (LogByte n) (form, is, cause) none = absurd (none form is)
 usage_is words r s f g (LogEvent error) (form, is, cause) none = absurd (none form is)
@@ -89,6 +96,7 @@ usage_is words r s f g ReadFault (form, is, cause) none = absurd (none form is)
 usage_is words r s f g (NoFile name) (form, is, cause) none = absurd (none form is)
 usage_is words r s f g WriteFault (form, is, cause) none = absurd (none form is)
 usage_is words r s f g SourceLimit (form, is, cause) none = absurd (none form is)
+usage_is words r s f g (TooLarge which) (form, is, cause) none = absurd (none form is)
 usage_is words r s f g LogLimit (form, is, cause) none = absurd (none form is)
 usage_is words r s f g NoMemory (form, is, cause) none = absurd (none form is)
 
@@ -104,6 +112,7 @@ ending_line : (words : Words) (r s f g : ℕ) (ending : Ending) → WordsCause w
 ending_line words r s f g Done cause = run.of_done
 ending_line words r s f g Usage cause = run.of_usage
 ending_line words r s f g (Source fault) (form, is, cause) = run.of_source fault.rule fault.at (form, is, cause)
+ending_line words r s f g (NoCut cut) (form, is, cause) = run.of_no_cut cut.now (form, is, cause)
 ending_line words r s f g Short (form, is, cause) = run.of_short (form, is, cause)
 ending_line words r s f g (LogByte n) (form, is, cause) = run.of_byte n (form, is, cause)
 ending_line words r s f g (LogEvent error) (form, is, cause) = order_line words error (form, is, cause.0) cause.1
@@ -111,6 +120,7 @@ ending_line words r s f g ReadFault cause = run.of_read_fault
 ending_line words r s f g (NoFile name) (form, is, cause) = run.of_no_file name.now (form, is, cause)
 ending_line words r s f g WriteFault cause = run.of_write_fault
 ending_line words r s f g SourceLimit (form, is, cause) = run.of_source_limit (form, is, cause)
+ending_line words r s f g (TooLarge which) (form, is, cause) = run.of_large which (form, is, cause)
 ending_line words r s f g LogLimit (form, is, cause) = run.of_log_limit (form, is, cause)
 ending_line words r s f g NoMemory cause = run.of_no_memory
 
@@ -145,11 +155,13 @@ complete_of words held NoMemory old new said_old said_new r s f g cause does rea
 complete_of words held Done old new said_old said_new r s f g cause does read write adds = inr (leaves words held Done old new said_old said_new (does.settles tt) adds)
 complete_of words held Usage old new said_old said_new r s f g cause does read write adds = inr (leaves words held Usage old new said_old said_new (does.settles tt) adds)
 complete_of words held (Source fault) old new said_old said_new r s f g cause does read write adds = inr (leaves words held (Source fault) old new said_old said_new (does.settles tt) adds)
+complete_of words held (NoCut cut) old new said_old said_new r s f g cause does read write adds = inr (leaves words held (NoCut cut) old new said_old said_new (does.settles tt) adds)
 complete_of words held Short old new said_old said_new r s f g cause does read write adds = inr (leaves words held Short old new said_old said_new (does.settles tt) adds)
 complete_of words held (LogByte n) old new said_old said_new r s f g cause does read write adds = inr (leaves words held (LogByte n) old new said_old said_new (does.settles tt) adds)
 complete_of words held (LogEvent error) old new said_old said_new r s f g cause does read write adds = inr (leaves words held (LogEvent error) old new said_old said_new (does.settles tt) adds)
 complete_of words held (NoFile name) old new said_old said_new r s f g cause does read write adds = inr (leaves words held (NoFile name) old new said_old said_new (does.settles tt) adds)
 complete_of words held SourceLimit old new said_old said_new r s f g cause does read write adds = inr (leaves words held SourceLimit old new said_old said_new (does.settles tt) adds)
+complete_of words held (TooLarge which) old new said_old said_new r s f g cause does read write adds = inr (leaves words held (TooLarge which) old new said_old said_new (does.settles tt) adds)
 complete_of words held LogLimit old new said_old said_new r s f g cause does read write adds = inr (leaves words held LogLimit old new said_old said_new (does.settles tt) adds)
 
 pub completes : (words : Words) (held : Held) (ending : Ending) (old new said_old said_new : Told) (r s f g b n : ℕ) (result : Status) → WordsCause words r s f g ending → Does words held old new ending
@@ -183,6 +195,7 @@ read_fault_of : (words : Words) (tells : Bool) (held : Held) (ending : Ending) (
 read_fault_of words tells held Done said_old said_new r s f g cause lacks adds is = absurd cc
 read_fault_of words tells held Usage said_old said_new r s f g cause lacks adds is = absurd cc
 read_fault_of words tells held (Source fault) said_old said_new r s f g cause lacks adds is = absurd cc
+read_fault_of words tells held (NoCut cut) said_old said_new r s f g cause lacks adds is = absurd cc
 read_fault_of words tells held Short said_old said_new r s f g cause lacks adds is = absurd cc
 read_fault_of words tells held (LogByte n) said_old said_new r s f g cause lacks adds is = absurd cc
 read_fault_of words tells held (LogEvent error) said_old said_new r s f g cause lacks adds is = absurd cc
@@ -190,6 +203,7 @@ read_fault_of words tells held ReadFault said_old said_new r s f g (form, of, ca
 read_fault_of words tells held (NoFile name) said_old said_new r s f g (form, of, cause) lacks adds is = run.no_file name.now (form, of, cause) lacks adds
 read_fault_of words tells held WriteFault said_old said_new r s f g cause lacks adds is = absurd cc
 read_fault_of words tells held SourceLimit said_old said_new r s f g cause lacks adds is = absurd cc
+read_fault_of words tells held (TooLarge which) said_old said_new r s f g cause lacks adds is = absurd cc
 read_fault_of words tells held LogLimit said_old said_new r s f g cause lacks adds is = absurd cc
 read_fault_of words tells held NoMemory said_old said_new r s f g cause lacks adds is = absurd cc
 
@@ -206,6 +220,7 @@ write_fault_of : (words : Words) (ending : Ending) (r s f g : ℕ) → WordsCaus
 write_fault_of words Done r s f g cause is = absurd cc
 write_fault_of words Usage r s f g cause is = absurd cc
 write_fault_of words (Source fault) r s f g cause is = absurd cc
+write_fault_of words (NoCut cut) r s f g cause is = absurd cc
 write_fault_of words Short r s f g cause is = absurd cc
 write_fault_of words (LogByte n) r s f g cause is = absurd cc
 write_fault_of words (LogEvent error) r s f g cause is = absurd cc
@@ -213,6 +228,7 @@ write_fault_of words ReadFault r s f g cause is = absurd cc
 write_fault_of words (NoFile name) r s f g cause is = absurd cc
 write_fault_of words WriteFault r s f g (form, of, cause) is = cause
 write_fault_of words SourceLimit r s f g cause is = absurd cc
+write_fault_of words (TooLarge which) r s f g cause is = absurd cc
 write_fault_of words LogLimit r s f g cause is = absurd cc
 write_fault_of words NoMemory r s f g cause is = absurd cc
 
@@ -260,6 +276,7 @@ pub form_cause : (words : Words) (form : Form) (r s f g : ℕ) (ending : Ending)
 form_cause words form r s f g Done is cause = (form, is, cause)
 form_cause words form r s f g Usage is cause = absurd cause
 form_cause words form r s f g (Source fault) is cause = (form, is, cause)
+form_cause words form r s f g (NoCut cut) is cause = (form, is, cause)
 form_cause words form r s f g Short is cause = (form, is, cause)
 form_cause words form r s f g (LogByte n) is cause = (form, is, cause)
 form_cause words form r s f g (LogEvent error) is cause = (form, is, cause)
@@ -267,6 +284,7 @@ form_cause words form r s f g ReadFault is cause = (form, is, cause)
 form_cause words form r s f g (NoFile name) is cause = (form, is, cause)
 form_cause words form r s f g WriteFault is cause = (form, is, cause)
 form_cause words form r s f g SourceLimit is cause = (form, is, cause)
+form_cause words form r s f g (TooLarge which) is cause = (form, is, cause)
 form_cause words form r s f g LogLimit is cause = (form, is, cause)
 form_cause words form r s f g NoMemory is cause = (form, is, cause)
 

@@ -5,22 +5,18 @@ use Rattle.log_closure.specs.declared.error.OrderError.TheVariants.{Memory}
 use Rattle.r2_base.specs.declared.fault.Fault.{Fault}
 use Rattle.r2_base.specs.declared.fault.Fault.TheVariants as fault
 use Rattle.r2_cli.specs.declared.ending.Ending.{Ending}
-use Rattle.r2_cli.specs.declared.ending.Ending.TheVariants.{Done, Usage, Source, Short, LogByte, LogEvent, ReadFault, NoFile, WriteFault, SourceLimit, LogLimit, NoMemory}
+use Rattle.r2_cli.specs.declared.ending.Ending.TheVariants.{Done, Usage, Source, NoCut, Short, LogByte, LogEvent, ReadFault, NoFile, WriteFault, SourceLimit, TooLarge, LogLimit, NoMemory}
 use Rattle.r2_cli.specs.declared.status.Status.{Status}
 use Rattle.r2_cli.specs.declared.status.Status.TheVariants as status
 use Rattle.r2_cli.specs.Outcome.{line_of}
 use Rattle.r2_cli.specs.Log.{order_words}
-use Rattle.c_lexer.specs.declared.error.LexError.{LexError}
-use Rattle.c_lexer.specs.declared.error.LexError.TheVariants as lex_error
-use Rattle.c_parser.specs.declared.parsing.ParseError.{ParseError}
-use Rattle.c_parser.specs.declared.parsing.ParseError.TheVariants as parse_error
-use Rattle.r2_cli.specs.declared.source_fault.SourceRule.TheVariants as rules
-use Rattle.r2_cli.specs.Source.{source_words}
+use Rattle.r2_cli.specs.Source.{source_words, limit_words, no_cut_words}
 
 abbrev pub status_of : Ending → Status
 status_of Done = status.Done
 status_of Usage = status.Usage
 status_of (Source fault) = status.Source
+status_of (NoCut cut) = status.Source
 status_of Short = status.Short
 status_of (LogByte n) = status.BadLog
 status_of (LogEvent error) = status.BadLog
@@ -28,6 +24,7 @@ status_of ReadFault = status.ReadFault
 status_of (NoFile name) = status.ReadFault
 status_of WriteFault = status.WriteFault
 status_of SourceLimit = status.Limit
+status_of (TooLarge which) = status.Limit
 status_of LogLimit = status.Limit
 status_of NoMemory = status.NoMemory
 
@@ -35,6 +32,7 @@ abbrev pub words_of_ending : Ending → List ℕ
 words_of_ending Done = []
 words_of_ending Usage = codes "usage"
 words_of_ending (Source fault) = source_words fault.rule fault.at
+words_of_ending (NoCut cut) = no_cut_words cut.now
 words_of_ending Short = codes "short"
 words_of_ending (LogByte n) = codes "log byte " ++ decimal n
 words_of_ending (LogEvent error) = order_words error
@@ -42,6 +40,7 @@ words_of_ending ReadFault = codes "read fault"
 words_of_ending (NoFile name) = codes "no file " ++ name.now
 words_of_ending WriteFault = codes "write fault"
 words_of_ending SourceLimit = codes "limit source 1048576"
+words_of_ending (TooLarge which) = limit_words which
 words_of_ending LogLimit = codes "limit log 67108864"
 words_of_ending NoMemory = codes "no memory"
 
@@ -53,20 +52,6 @@ line_of_ending ending = line_of (words_of_ending ending)
 abbrev pub order_ending : OrderError → Ending
 order_ending Memory = NoMemory
 order_ending error = LogEvent error
-
--- how reading a source ends that isn't tokens
-abbrev pub lex_ending : LexError → Ending
-lex_ending (lex_error.BadByte n) = Source (record { rule = rules.Byte; at = n })
-lex_ending (lex_error.OpenText n) = Source (record { rule = rules.Text; at = n })
-lex_ending (lex_error.BigNumber n) = Source (record { rule = rules.Number; at = n })
-lex_ending (lex_error.Directive n) = Source (record { rule = rules.Directive; at = n })
-lex_ending lex_error.Memory = NoMemory
-
--- how reading a source ends whose tokens are refused
-abbrev pub parse_ending : ParseError → Ending
-parse_ending (parse_error.Token n) = Source (record { rule = rules.Token; at = n })
-parse_ending (parse_error.Deep n) = Source (record { rule = rules.Deep; at = n })
-parse_ending parse_error.Memory = NoMemory
 
 -- how a command ends that prints a text, and would then be done or short
 abbrev pub print_ending : Bool → Result (Unit {0}) Fault → Ending

@@ -4,12 +4,12 @@ use Rattle.log_closure.specs.declared.error.OrderError.{OrderError}
 use Rattle.log_closure.specs.declared.error.OrderError.TheVariants as order_error
 use Rattle.r2_base.specs.Causes.{Rose}
 use Rattle.r2_cli.specs.declared.ending.Ending.{Ending}
-use Rattle.r2_cli.specs.declared.ending.Ending.TheVariants.{Done, Usage, Source, Short, LogByte, LogEvent, ReadFault, NoFile, WriteFault, SourceLimit, LogLimit, NoMemory}
+use Rattle.r2_cli.specs.declared.ending.Ending.TheVariants.{Done, Usage, Source, NoCut, Short, LogByte, LogEvent, ReadFault, NoFile, WriteFault, SourceLimit, TooLarge, LogLimit, NoMemory}
 use Rattle.r2_cli.specs.Words.{Form, IsForm, IsUsage, ReadsLog, ReadsSource}
 use Rattle.r2_cli.specs.Outcome.{Outcome}
 use Rattle.r2_cli.specs.Written.{Adds}
 use Rattle.r2_cli.specs.Endings.{status_of, line_of_ending}
-use Rattle.r2_cli.specs.Run.{IsAnswerTo, IsAnswer, IsInputOf, PrintsPrefix}
+use Rattle.r2_cli.specs.Run.{IsAnswerTo, IsAnswer, IsCutOf, IsInputOf, PrintsPrefix}
 
 abbrev pub IsOrderFault : OrderError → Type 0
 IsOrderFault order_error.Memory = ⊥
@@ -19,7 +19,9 @@ IsOrderFault error = Unit {0}
 abbrev pub EndingCause : Form → ℕ → ℕ → ℕ → ℕ → Ending → Type 0
 EndingCause form reads reads_now faults faults_now Usage = ⊥
 EndingCause form reads reads_now faults faults_now (Source fault) = ReadsSource form
+EndingCause form reads reads_now faults faults_now (NoCut cut) = IsCutOf form cut.now
 EndingCause form reads reads_now faults faults_now SourceLimit = ReadsSource form
+EndingCause form reads reads_now faults faults_now (TooLarge which) = ReadsSource form
 EndingCause form reads reads_now faults faults_now Short = ReadsLog form
 EndingCause form reads reads_now faults faults_now (LogByte n) = ReadsLog form
 EndingCause form reads reads_now faults faults_now (LogEvent error) = ReadsLog form × IsOrderFault error
@@ -40,13 +42,15 @@ LogCause log reads reads_now NoMemory = Unit {0}
 LogCause log reads reads_now ending = ⊥
 
 -- the same of an ending of reading a source
-abbrev pub SourceCause : List ℕ → ℕ → ℕ → Ending → Type 0
-SourceCause src reads reads_now (Source fault) = Unit {0}
-SourceCause src reads reads_now ReadFault = Rose reads reads_now
-SourceCause src reads reads_now (NoFile name) = name.now ≡ src
-SourceCause src reads reads_now SourceLimit = Unit {0}
-SourceCause src reads reads_now NoMemory = Unit {0}
-SourceCause src reads reads_now ending = ⊥
+abbrev pub SourceCause : (src cut : List ℕ) → ℕ → ℕ → Ending → Type 0
+SourceCause src cut reads reads_now (Source fault) = Unit {0}
+SourceCause src cut reads reads_now (NoCut name) = name.now ≡ cut
+SourceCause src cut reads reads_now ReadFault = Rose reads reads_now
+SourceCause src cut reads reads_now (NoFile name) = name.now ≡ src
+SourceCause src cut reads reads_now SourceLimit = Unit {0}
+SourceCause src cut reads reads_now (TooLarge which) = Unit {0}
+SourceCause src cut reads reads_now NoMemory = Unit {0}
+SourceCause src cut reads reads_now ending = ⊥
 
 -- the same of an ending of any words
 abbrev pub WordsCause : List (List ℕ) → ℕ → ℕ → ℕ → ℕ → Ending → Type 0

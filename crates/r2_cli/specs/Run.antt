@@ -10,9 +10,10 @@ use Rattle.r2_cli.specs.Outcome.{Outcome, refusal, line_of}
 use Rattle.r2_cli.specs.Written.{Adds, AddsPrefix}
 use Rattle.r2_cli.specs.Order.{IsOrder}
 use Rattle.r2_cli.specs.Check.{IsCheck}
-use Rattle.r2_cli.specs.Source.{source_words}
-use Rattle.r2_cli.specs.declared.source_fault.SourceRule.{SourceRule}
-use Rattle.r2_cli.specs.declared.source_fault.SourceRule.TheVariants.{Token, Deep}
+use Rattle.r2_cli.specs.Source.{source_words, limit_words, no_cut_words}
+use Rattle.c_types.specs.declared.error.Which.{Which}
+use Rattle.front_end.specs.declared.error.SourceRule.{SourceRule}
+use Rattle.front_end.specs.declared.error.SourceRule.TheVariants.{Token, Deep}
 use Rattle.r2_cli.specs.OrderText.{name_text}
 
 -- the outcome of a command, by what the names hold
@@ -22,7 +23,7 @@ pub data IsAnswerTo (held : List ℕ → Option (List ℕ)) : Form → Outcome �
   no_log : {log : List ℕ} → held log ≡ None → IsAnswerTo held (order log) (refusal ReadFault (codes "no file " ++ log))
   ordered : {log bytes : List ℕ} {outcome : Outcome} → held log ≡ Some bytes → IsOrder bytes outcome → IsAnswerTo held (order log) outcome
   no_source : {src cut : List ℕ} → held src ≡ None → IsAnswerTo held (check src cut) (refusal ReadFault (codes "no file " ++ src))
-  checked : {src cut bytes : List ℕ} {outcome : Outcome} → held src ≡ Some bytes → IsCheck bytes outcome → IsAnswerTo held (check src cut) outcome
+  checked : {src cut bytes : List ℕ} {outcome : Outcome} → held src ≡ Some bytes → IsCheck bytes cut outcome → IsAnswerTo held (check src cut) outcome
 
 -- the outcome of the words: that of the command whose form they have, or else Usage
 pub data IsAnswer (words : List (List ℕ)) (held : List ℕ → Option (List ℕ)) : Outcome → Type 0 where
@@ -76,6 +77,14 @@ IsInputOf version name = ⊥
 IsInputOf (order log) name = name ≡ log
 IsInputOf (check src cut) name = name ≡ src
 
+-- this is the name of the cut that the command is given
+abbrev pub IsCutOf : Form → List ℕ → Type 0
+IsCutOf (check src cut) name = name ≡ cut
+IsCutOf form name = ⊥
+
+abbrev pub IsCut : List (List ℕ) → List ℕ → Type 0
+IsCut words name = (form : Form) × IsForm words form × IsCutOf form name
+
 abbrev pub IsInput : List (List ℕ) → List ℕ → Type 0
 IsInput words name = (form : Form) × IsForm words form × IsInputOf form name
 
@@ -89,6 +98,7 @@ pub data IsLine (words : List (List ℕ)) : Status → List ℕ → Type 0 where
   of_done : IsLine words Done []
   of_usage : IsLine words Usage (line_of (codes "usage"))
   of_source : (rule : SourceRule) (n : ℕ) → IsOfSource words → IsLine words Source (line_of (source_words rule n))
+  of_no_cut : (cut : List ℕ) → IsCut words cut → IsLine words Source (line_of (no_cut_words cut))
   of_short : IsOfLog words → IsLine words Short (line_of (codes "short"))
   of_byte : (n : ℕ) → IsOfLog words → IsLine words BadLog (line_of (codes "log byte " ++ decimal n))
   of_twice : (name : EventName) → IsOfLog words → IsLine words BadLog (line_of (codes "log twice " ++ name_text name))
@@ -98,6 +108,7 @@ pub data IsLine (words : List (List ℕ)) : Status → List ℕ → Type 0 where
   of_no_file : (name : List ℕ) → IsInput words name → IsLine words ReadFault (line_of (codes "no file " ++ name))
   of_write_fault : IsLine words WriteFault (line_of (codes "write fault"))
   of_source_limit : IsOfSource words → IsLine words Limit (line_of (codes "limit source 1048576"))
+  of_large : (which : Which) → IsOfSource words → IsLine words Limit (line_of (limit_words which))
   of_log_limit : IsOfLog words → IsLine words Limit (line_of (codes "limit log 67108864"))
   of_no_memory : IsLine words NoMemory (line_of (codes "no memory"))
 

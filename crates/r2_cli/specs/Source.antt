@@ -1,36 +1,44 @@
--- What the bytes of a source say: its tree, or what is wrong with it.
+-- The words of what is wrong with a source.
 use Rattle.std.specs.Prelude.{ℕ, List, ◌++◌, codes, decimal}
-use Rattle.c_lexer.specs.declared.token.Token as lexed
-use Rattle.c_lexer.specs.declared.error.LexError.TheVariants.{BadByte, OpenText, BigNumber, Directive}
-use Rattle.c_lexer.specs.Lexing as lex
-use Rattle.c_syntax.specs.Nodes.{Nodes}
-use Rattle.c_parser.specs.declared.parsing.ParseError.TheVariants as parse_error
-use Rattle.c_parser.specs.Parsed as parse
-use Rattle.r2_cli.specs.declared.source_fault.SourceRule.{SourceRule}
-use Rattle.r2_cli.specs.declared.source_fault.SourceRule.TheVariants as rules
+use Rattle.c_types.specs.declared.error.Which.{Which}
+use Rattle.c_types.specs.declared.error.Which.TheVariants as numbers
+use Rattle.front_end.specs.declared.error.SourceError.{SourceError}
+use Rattle.front_end.specs.declared.error.SourceError.TheVariants as errors
+use Rattle.front_end.specs.declared.error.SourceRule.{SourceRule}
+use Rattle.front_end.specs.declared.error.SourceRule.TheVariants as rules
+use Rattle.r2_cli.specs.declared.status.Status.TheVariants.{Source, Limit, NoMemory}
+use Rattle.r2_cli.specs.Outcome.{Outcome, refusal}
 
-abbrev pub rule_word : SourceRule → List ℕ
-rule_word rules.Byte = codes "byte"
-rule_word rules.Text = codes "text"
-rule_word rules.Number = codes "number"
-rule_word rules.Directive = codes "directive"
-rule_word rules.Token = codes "token"
-rule_word rules.Deep = codes "deep"
+abbrev pub rule_words : SourceRule → List ℕ
+rule_words rules.Byte = codes "byte"
+rule_words rules.Text = codes "text"
+rule_words rules.Number = codes "number"
+rule_words rules.Directive = codes "directive"
+rule_words rules.Token = codes "token"
+rule_words rules.Deep = codes "deep"
+rule_words (rules.Type n) = codes "rule " ++ decimal n
+rule_words (rules.Annotation n) = codes "annotation " ++ decimal n
 
 -- the words of what is wrong with a source: the offset, and the rule that is broken there
 abbrev pub source_words : SourceRule → ℕ → List ℕ
-source_words rule n = codes "source " ++ decimal n ++ codes " " ++ rule_word rule
+source_words rule n = codes "source " ++ decimal n ++ codes " " ++ rule_words rule
 
--- the bytes are the tokens of a source whose tree this is, and isn't deep
-abbrev pub IsTree : List ℕ → Nodes → Type 0
-IsTree bytes tree = (ts : List lexed.Token) × lex.IsTokens bytes ts × parse.IsParsed ts tree
+-- the words of a number that a source goes past, with the number
+abbrev pub limit_words : Which → List ℕ
+limit_words numbers.Functions = codes "limit functions 1000"
+limit_words numbers.Params = codes "limit params 8"
+limit_words numbers.Members = codes "limit members 64"
+limit_words numbers.Object = codes "limit object 1048576"
+limit_words numbers.Globals = codes "limit globals 1048576"
+limit_words numbers.Frame = codes "limit frame 32768"
 
--- the bytes break this rule at this offset: they aren't tokens, and this is the first rule that they break; or they are
--- tokens that no source has, whatever the offset; or those of a source with a node there that more than 200 others hold
-abbrev pub IsBadSource : List ℕ → SourceRule → ℕ → Type 0
-IsBadSource bytes rules.Byte n = lex.IsRefused bytes (BadByte n)
-IsBadSource bytes rules.Text n = lex.IsRefused bytes (OpenText n)
-IsBadSource bytes rules.Number n = lex.IsRefused bytes (BigNumber n)
-IsBadSource bytes rules.Directive n = lex.IsRefused bytes (Directive n)
-IsBadSource bytes rules.Token n = (ts : List lexed.Token) × lex.IsTokens bytes ts × parse.IsRefused ts (parse_error.Token n)
-IsBadSource bytes rules.Deep n = (ts : List lexed.Token) × lex.IsTokens bytes ts × parse.IsRefused ts (parse_error.Deep n)
+-- the words that say that no declaration names the cut
+abbrev pub no_cut_words : List ℕ → List ℕ
+no_cut_words cut = codes "no cut " ++ cut
+
+-- how a source is refused with which this is wrong
+abbrev pub refused_for : (cut : List ℕ) → SourceError → Outcome
+refused_for cut (errors.Fault fault) = refusal Source (source_words fault.rule fault.at)
+refused_for cut errors.NoSuchCut = refusal Source (no_cut_words cut)
+refused_for cut (errors.Limit which) = refusal Limit (limit_words which)
+refused_for cut errors.Memory = refusal NoMemory (codes "no memory")

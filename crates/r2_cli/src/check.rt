@@ -11,21 +11,22 @@ use crate::source_file::read_source;
 use r2_base::{Fault, Files, Sink};
 use std::alloc::Global;
 
-/// What is printed of a source that has a tree.
-const PARSED: &str = "parsed\n";
+/// What is printed of a source that keeps all rules.
+const TYPED: &str = "typed\n";
 
-fn print_parsed<S: Sink>(out: &mut S) -> Result<(), Fault>
-    ensures printed { TellsGrowth (S.told out.old) (S.told out.new) result (codes "parsed\n") }
+fn print_typed<S: Sink>(out: &mut S) -> Result<(), Fault>
+    ensures printed { TellsGrowth (S.told out.old) (S.told out.new) result (codes "typed\n") }
     ensures later { S.faults out.old ≤ S.faults out.new }
     ensures cause { IfErr result (IsWriteCause (S.faults out.old) (S.faults out.new)) }
 {
-    out.put(PARSED.as_bytes())
+    out.put(TYPED.as_bytes())
 }
 
-/// Says whether the source has a tree, whatever the cut.
+/// Says whether the source keeps all rules, and has the cut.
 pub fn check<'a, F: Files, S: Sink>(
     alloc: Global,
     source: &'a str,
+    cut: &'a str,
     files: &mut F,
     out: &mut S,
 ) -> Ending<'a>
@@ -35,16 +36,14 @@ pub fn check<'a, F: Files, S: Sink>(
     ensures writes { F.write_faults files.new ≡ F.write_faults files.old }
     ensures later { F.read_faults files.old ≤ F.read_faults files.new }
     ensures out_later { S.faults out.old ≤ S.faults out.new }
-    ensures cause { (cut : List ℕ) → EndingCause (check source.now cut) (F.read_faults files.old)
+    ensures cause { EndingCause (check source.now cut.now) (F.read_faults files.old)
         (F.read_faults files.new) (S.faults out.old) (S.faults out.new) result }
     ensures early { IsEarly result → out.new ≡ out.old }
-    ensures performs { (cut : List ℕ) → IsTrue (F.tells files.old)
-        → Performs (check source.now cut) (F.held files.old) (S.told out.old) (S.told out.new) result }
+    ensures performs { IsTrue (F.tells files.old)
+        → Performs (check source.now cut.now) (F.held files.old) (S.told out.old) (S.told out.new) result }
 {
-    let tree = match read_source(alloc, files, source) {
-        Ok(tree) => tree,
-        Err(ending) => return ending,
-    };
-    drop(tree);
-    print_ending(true, print_parsed(out))
+    if let Err(ending) = read_source(alloc, files, source, cut) {
+        return ending;
+    }
+    print_ending(true, print_typed(out))
 }

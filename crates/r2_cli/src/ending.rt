@@ -6,8 +6,10 @@ ghost use Rattle.r2_cli.specs.Log.{order_words};
 ghost use Rattle.r2_cli.specs.OrderText.{name_text};
 
 use crate::order_text::{put_name, put_number};
-use crate::source_fault::{SourceFault, put_source_fault};
+use crate::source_fault::{limit_words, put_source_fault};
 use crate::status::Status;
+use c_types::Which;
+use front_end::SourceFault;
 use log_closure::OrderError;
 use logical_clock::EventName;
 use r2_base::Fault;
@@ -20,6 +22,8 @@ pub enum Ending<'a> {
     Usage,
     /// What is wrong with the source.
     Source(SourceFault),
+    /// The cut that no declaration names.
+    NoCut(&'a str),
     Short,
     /// The first wrong byte of the log.
     LogByte(u64),
@@ -31,6 +35,8 @@ pub enum Ending<'a> {
     WriteFault,
     /// The source is too long.
     SourceLimit,
+    /// The number that the source goes past.
+    TooLarge(Which),
     /// The log is too long.
     LogLimit,
     NoMemory,
@@ -45,6 +51,7 @@ impl Ending<'_> {
             Ending::Done => Status::Done,
             Ending::Usage => Status::Usage,
             Ending::Source(_) => Status::Source,
+            Ending::NoCut(_) => Status::Source,
             Ending::Short => Status::Short,
             Ending::LogByte(_) => Status::BadLog,
             Ending::LogEvent(_) => Status::BadLog,
@@ -52,6 +59,7 @@ impl Ending<'_> {
             Ending::NoFile(_) => Status::ReadFault,
             Ending::WriteFault => Status::WriteFault,
             Ending::SourceLimit => Status::Limit,
+            Ending::TooLarge(_) => Status::Limit,
             Ending::LogLimit => Status::Limit,
             Ending::NoMemory => Status::NoMemory,
         }
@@ -78,6 +86,7 @@ impl Ending<'_> {
             Ending::Done => Ok(()),
             Ending::Usage => line.extend_from_slice(b"usage"),
             Ending::Source(fault) => put_source_fault(line, fault),
+            Ending::NoCut(cut) => put_named(line, "no cut ", cut),
             Ending::Short => line.extend_from_slice(b"short"),
             Ending::LogByte(at) => {
                 line.extend_from_slice(b"log byte ")?;
@@ -85,12 +94,10 @@ impl Ending<'_> {
             }
             Ending::LogEvent(error) => put_order_error(line, error),
             Ending::ReadFault => line.extend_from_slice(b"read fault"),
-            Ending::NoFile(name) => {
-                line.extend_from_slice(b"no file ")?;
-                line.extend_from_slice(name.as_bytes())
-            }
+            Ending::NoFile(name) => put_named(line, "no file ", name),
             Ending::WriteFault => line.extend_from_slice(b"write fault"),
             Ending::SourceLimit => line.extend_from_slice(b"limit source 1048576"),
+            Ending::TooLarge(which) => line.extend_from_slice(limit_words(which).as_bytes()),
             Ending::LogLimit => line.extend_from_slice(b"limit log 67108864"),
             Ending::NoMemory => line.extend_from_slice(b"no memory"),
         }
@@ -107,6 +114,13 @@ pub fn print_ending<'a>(whole: bool, printed: Result<(), Fault>) -> Ending<'a>
         Err(Fault::Memory) => Ending::NoMemory,
         Err(Fault::Failed | Fault::Missing) => Ending::WriteFault,
     }
+}
+
+fn put_named(line: &mut Vec<u8>, words: &str, name: &str) -> Result<(), AllocError>
+    ensures { OnOk result (line.new.items ≡ line.old.items ++ words.now ++ name.now) }
+{
+    line.extend_from_slice(words.as_bytes())?;
+    line.extend_from_slice(name.as_bytes())
 }
 
 fn put_order_error(line: &mut Vec<u8>, error: OrderError) -> Result<(), AllocError>

@@ -5,12 +5,12 @@ pub const HELP: &str = "\
 r2 records, replays and reads the runs of programs that are cut at an interface.
 
   r2 order LOG       print the events of a log, sorted by clock and thread
-  r2 check SRC CUT   print whether a C source has a tree
+  r2 check SRC CUT   check a C source, its annotations and a cut
   r2 --help          print this text
   r2 --version       print the version
 
 Exit status: 0 done, 2 usage, 3 the source is wrong, 8 the log is cut short,
-9 the log is wrong, 11 a read failed, 12 a write failed, 13 a file is too long,
+9 the log is wrong, 11 a read failed, 12 a write failed, 13 a limit is passed,
 14 no memory.
 ";
 

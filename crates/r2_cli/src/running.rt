@@ -44,7 +44,7 @@ fn work<'a, F: Files, S: Sink>(
         Command::Help => print_ending(true, out.put(HELP.as_bytes())),
         Command::Version => print_ending(true, out.put(VERSION.as_bytes())),
         Command::Order { log } => order(alloc, log, files, out),
-        Command::Check { source, .. } => check(alloc, source, files, out),
+        Command::Check { source, cut } => check(alloc, source, cut, files, out),
     }
 }
 

@@ -1,49 +1,43 @@
-//! What is wrong with a source, and the words that say so.
+//! The words that say what is wrong with a source.
 
-ghost use Rattle.std.specs.Prelude.{◌≡◌, ◌++◌, OnOk};
-ghost use Rattle.r2_cli.specs.Source.{rule_word, source_words};
+ghost use Rattle.std.specs.Prelude.{◌≡◌, ◌++◌, OnOk, codes, decimal};
+ghost use Rattle.r2_cli.specs.Source.{limit_words, rule_words, source_words};
 
 use crate::order_text::put_number;
+use c_types::Which;
+use front_end::{SourceFault, SourceRule};
 use std::alloc::AllocError;
 
-/// A rule that a source breaks, of its tokens or of its grammar.
-#[derive(Clone, Copy, Debug, PartialEq, Eq)]
-pub enum SourceRule {
-    /// A byte belongs to no token.
-    Byte,
-    /// A comment, character or string isn't closed.
-    Text,
-    /// A number is too big for its types.
-    Number,
-    /// A line that begins with `#` is no line marker.
-    Directive,
-    /// No source of the grammar has the tokens.
-    Token,
-    /// More than 200 nodes hold a node.
-    Deep,
+/// Adds `rule NUMBER`.
+fn put_type_rule(line: &mut Vec<u8>, number: u8) -> Result<(), AllocError>
+    ensures { OnOk result (line.new.items ≡ line.old.items ++ codes "rule " ++ decimal number) }
+{
+    line.extend_from_slice(b"rule ")?;
+    put_number(line, u64::from(number))
 }
 
-impl SourceRule {
-    /// The word of the rule.
-    fn word(self) -> &'static str
-        ensures { result.now ≡ rule_word self }
-    {
-        match self {
-            SourceRule::Byte => "byte",
-            SourceRule::Text => "text",
-            SourceRule::Number => "number",
-            SourceRule::Directive => "directive",
-            SourceRule::Token => "token",
-            SourceRule::Deep => "deep",
-        }
+/// Adds `annotation NUMBER`.
+fn put_annotation_rule(line: &mut Vec<u8>, number: u8) -> Result<(), AllocError>
+    ensures { OnOk result (line.new.items ≡ line.old.items ++ codes "annotation " ++ decimal number) }
+{
+    line.extend_from_slice(b"annotation ")?;
+    put_number(line, u64::from(number))
+}
+
+/// Adds the words of a rule.
+fn put_rule(line: &mut Vec<u8>, rule: SourceRule) -> Result<(), AllocError>
+    ensures { OnOk result (line.new.items ≡ line.old.items ++ rule_words rule) }
+{
+    match rule {
+        SourceRule::Byte => line.extend_from_slice(b"byte"),
+        SourceRule::Text => line.extend_from_slice(b"text"),
+        SourceRule::Number => line.extend_from_slice(b"number"),
+        SourceRule::Directive => line.extend_from_slice(b"directive"),
+        SourceRule::Token => line.extend_from_slice(b"token"),
+        SourceRule::Deep => line.extend_from_slice(b"deep"),
+        SourceRule::Type(number) => put_type_rule(line, number),
+        SourceRule::Annotation(number) => put_annotation_rule(line, number),
     }
-}
-
-/// What is wrong with a source: the rule that it breaks, and the offset at which.
-#[derive(Clone, Copy, Debug, PartialEq, Eq)]
-pub struct SourceFault {
-    pub rule: SourceRule,
-    pub at: u32,
 }
 
 /// Adds `source AT RULE`.
@@ -53,5 +47,19 @@ pub fn put_source_fault(line: &mut Vec<u8>, fault: SourceFault) -> Result<(), Al
     line.extend_from_slice(b"source ")?;
     put_number(line, u64::from(fault.at))?;
     line.push(b' ')?;
-    line.extend_from_slice(fault.rule.word().as_bytes())
+    put_rule(line, fault.rule)
+}
+
+/// The words `limit WORD N` for a number that a source goes past.
+pub fn limit_words(which: Which) -> &'static str
+    ensures { result.now ≡ limit_words which }
+{
+    match which {
+        Which::Functions => "limit functions 1000",
+        Which::Params => "limit params 8",
+        Which::Members => "limit members 64",
+        Which::Object => "limit object 1048576",
+        Which::Globals => "limit globals 1048576",
+        Which::Frame => "limit frame 32768",
+    }
 }

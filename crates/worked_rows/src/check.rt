@@ -1,4 +1,4 @@
-use crate::runs::{Left, check_of, front, run_words};
+use crate::runs::{Left, check_cut, check_of, front, run_words};
 use crate::sources::{POOL, signs_before_zero, zero_in_brackets};
 use r2_base::{MemFiles, MemSink};
 use r2_cli::Status;
@@ -7,10 +7,15 @@ use std::alloc::{AllocError, Global};
 /// The status of a refusal has its line, and nothing is printed; else the word is.
 fn is_an_answer(left: &Left) -> bool {
     match left.status {
-        Status::Done => left.out.as_slice() == b"parsed\n".as_slice() && left.err.is_empty(),
+        Status::Done => left.out.as_slice() == b"typed\n".as_slice() && left.err.is_empty(),
         Status::Source => left.out.is_empty() && left.err.as_slice().starts_with(b"r2: source "),
         _ => false,
     }
+}
+
+/// Nothing is wrong, or all that is wrong is that there is no `main`.
+fn has_a_tree(left: &Left) -> bool {
+    left.status == Status::Done || left.err.as_slice().ends_with(b" rule 18\n")
 }
 
 #[test]
@@ -65,18 +70,61 @@ fn tokens_without_a_tree_are_refused_at_the_first_that_can_not_go_on(
 }
 
 #[test]
-fn a_source_with_a_tree_is_parsed(rt: HostRuntime) -> Result<(), AllocError> {
+fn a_source_that_keeps_all_rules_is_typed(rt: HostRuntime) -> Result<(), AllocError> {
     let alloc = rt.alloc();
-    for source in [
-        "",
-        "int main(void) { return 0; }",
-        "int f(int a) { if (a) if (a > 1) return 2; else return 1; return 0; }",
-        POOL,
+    for (source, cut) in [
+        (
+            "int main(void) { return 0; } [cut(top)] int x(void);",
+            "top",
+        ),
+        (POOL, "sys"),
     ] {
-        let left = check_of(alloc, source.as_bytes())?;
+        let left = check_cut(alloc, source.as_bytes(), cut)?;
         assert_eq!(rt; left.status, Status::Done);
-        assert_eq!(rt; left.out.as_slice(), b"parsed\n".as_slice());
+        assert_eq!(rt; left.out.as_slice(), b"typed\n".as_slice());
         assert_eq!(rt; left.err.as_slice(), b"".as_slice());
+    }
+    Ok(())
+}
+
+#[test]
+fn a_source_is_refused_by_its_types_its_limits_its_annotations_and_its_cut(
+    rt: HostRuntime,
+) -> Result<(), AllocError> {
+    let alloc = rt.alloc();
+    for (source, status, err) in [
+        ("", Status::Source, "r2: source 0 rule 18\n"),
+        (
+            "int main(void) { return 1 + a; }",
+            Status::Source,
+            "r2: source 28 rule 1\n",
+        ),
+        (
+            "char a[1048577]; int main(void) { return 0; }",
+            Status::Limit,
+            "r2: limit object 1048576\n",
+        ),
+        (
+            "int f(int, int, int, int, int, int, int, int, int); int main(void) { return 0; }",
+            Status::Limit,
+            "r2: limit params 8\n",
+        ),
+        // the limits come before the annotations
+        (
+            "[cut(c)] int f([out, bsize(return)] char *b); int main(void) { return 0; }",
+            Status::Source,
+            "r2: source 42 annotation 5\n",
+        ),
+        (
+            "int main(void) { return 0; }",
+            Status::Source,
+            "r2: no cut c\n",
+        ),
+    ] {
+        let left = check_cut(alloc, source.as_bytes(), "c")?;
+        assert_eq!(rt; left.status, status);
+        assert_eq!(rt; left.out.as_slice(), b"".as_slice());
+        assert_eq!(rt; left.err.as_slice(), err.as_bytes());
     }
     Ok(())
 }
@@ -85,13 +133,13 @@ fn a_source_with_a_tree_is_parsed(rt: HostRuntime) -> Result<(), AllocError> {
 fn more_than_200_nodes_may_hold_no_node(rt: HostRuntime) -> Result<(), AllocError> {
     let alloc = rt.alloc();
     let left = check_of(alloc, &signs_before_zero(alloc, 198)?)?;
-    assert_eq!(rt; left.out.as_slice(), b"parsed\n".as_slice());
+    assert_eq!(rt; left.err.as_slice(), b"r2: no cut top\n".as_slice());
     let left = check_of(alloc, &signs_before_zero(alloc, 199)?)?;
     assert_eq!(rt; left.status, Status::Source);
     assert_eq!(rt; left.err.as_slice(), b"r2: source 223 deep\n".as_slice());
     // brackets that group are no nodes
     let left = check_of(alloc, &zero_in_brackets(alloc, 5_000)?)?;
-    assert_eq!(rt; left.out.as_slice(), b"parsed\n".as_slice());
+    assert_eq!(rt; left.err.as_slice(), b"r2: source 0 rule 18\n".as_slice());
     Ok(())
 }
 
@@ -107,61 +155,61 @@ fn a_source_has_at_most_1_mebibyte(rt: HostRuntime) -> Result<(), AllocError> {
         b"r2: limit source 1048576\n".as_slice()
     );
     let left = check_of(alloc, front(&spaces, 1_048_576))?;
-    assert_eq!(rt; left.status, Status::Done);
+    assert_eq!(rt; left.err.as_slice(), b"r2: source 0 rule 18\n".as_slice());
     Ok(())
 }
 
-/// How many fronts of the pool, of the lengths from `from` to before `to`, are parsed; none where one has no answer.
-fn parsed_fronts(alloc: Global, from: usize, to: usize) -> Result<Option<usize>, AllocError> {
-    let mut parsed: usize = 0;
+/// How many fronts of the pool, of the lengths from `from` to before `to`, have a tree; none where one has no answer.
+fn fronts_with_a_tree(alloc: Global, from: usize, to: usize) -> Result<Option<usize>, AllocError> {
+    let mut count: usize = 0;
     for length in from..to {
-        let left = check_of(alloc, front(POOL.as_bytes(), length))?;
+        let left = check_cut(alloc, front(POOL.as_bytes(), length), "sys")?;
         if !is_an_answer(&left) {
             return Ok(None);
         }
-        if left.status == Status::Done {
-            parsed = parsed.saturating_add(1);
+        if has_a_tree(&left) {
+            count = count.saturating_add(1);
         }
     }
-    Ok(Some(parsed))
+    Ok(Some(count))
 }
 
-// The fronts that are parsed end between two declarations, and cut no comment and no line marker.
+// The fronts that have a tree end between two declarations, and cut no comment and no line marker.
 
 #[test]
-fn fronts_of_a_source_are_parsed_or_refused_in_its_first_part(
+fn fronts_of_a_source_are_trees_or_refused_in_its_first_part(
     rt: HostRuntime,
 ) -> Result<(), AllocError> {
-    assert_eq!(rt; parsed_fronts(rt.alloc(), 0, 924)?, Some(42));
+    assert_eq!(rt; fronts_with_a_tree(rt.alloc(), 0, 924)?, Some(42));
     Ok(())
 }
 
 #[test]
-fn fronts_of_a_source_are_parsed_or_refused_in_its_second_part(
+fn fronts_of_a_source_are_trees_or_refused_in_its_second_part(
     rt: HostRuntime,
 ) -> Result<(), AllocError> {
-    assert_eq!(rt; parsed_fronts(rt.alloc(), 924, 1307)?, Some(3));
+    assert_eq!(rt; fronts_with_a_tree(rt.alloc(), 924, 1307)?, Some(3));
     Ok(())
 }
 
 #[test]
-fn fronts_of_a_source_are_parsed_or_refused_in_its_third_part(
+fn fronts_of_a_source_are_trees_or_refused_in_its_third_part(
     rt: HostRuntime,
 ) -> Result<(), AllocError> {
-    assert_eq!(rt; parsed_fronts(rt.alloc(), 1307, 1601)?, Some(3));
+    assert_eq!(rt; fronts_with_a_tree(rt.alloc(), 1307, 1601)?, Some(3));
     Ok(())
 }
 
 #[test]
-fn fronts_of_a_source_are_parsed_or_refused_in_its_last_part(
+fn fronts_of_a_source_are_trees_or_refused_in_its_last_part(
     rt: HostRuntime,
 ) -> Result<(), AllocError> {
-    assert_eq!(rt; parsed_fronts(rt.alloc(), 1601, 1849)?, Some(2));
+    assert_eq!(rt; fronts_with_a_tree(rt.alloc(), 1601, 1849)?, Some(2));
     Ok(())
 }
 
 #[test]
-fn every_change_of_a_byte_is_parsed_or_refused(rt: HostRuntime) -> Result<(), AllocError> {
+fn every_change_of_a_byte_is_answered(rt: HostRuntime) -> Result<(), AllocError> {
     let alloc = rt.alloc();
     let source = "int a=1;";
     for at in 0..source.len() {
@@ -228,7 +276,11 @@ fn words_and_files_that_do_not_fit_are_refused(rt: HostRuntime) -> Result<(), Al
 fn a_word_that_can_not_be_printed_is_a_write_fault(rt: HostRuntime) -> Result<(), AllocError> {
     let alloc = rt.alloc();
     let mut files = MemFiles::new(alloc, 100, Vec::new(alloc));
-    files.hold(alloc, "a", b"int a;")?;
+    files.hold(
+        alloc,
+        "a",
+        b"[cut(top)] int x(void); int main(void) { return 0; }",
+    )?;
     // standard output gets half of its text, and standard error the line
     let mut out = MemSink::new(alloc, vec![in alloc; 0]?);
     let mut err = MemSink::new(alloc, Vec::new(alloc));
@@ -240,7 +292,7 @@ fn a_word_that_can_not_be_printed_is_a_write_fault(rt: HostRuntime) -> Result<()
         &mut err,
     )?;
     assert_eq!(rt; left, Status::WriteFault);
-    assert_eq!(rt; out.bytes(), b"par".as_slice());
+    assert_eq!(rt; out.bytes(), b"typ".as_slice());
     assert_eq!(rt; err.bytes(), b"r2: write fault\n".as_slice());
     Ok(())
 }

@@ -34,7 +34,12 @@ pub fn order_of(alloc: Global, bytes: &[u8]) -> Result<Left, AllocError> {
 
 /// Runs `check a top` where `a` holds these bytes.
 pub fn check_of(alloc: Global, bytes: &[u8]) -> Result<Left, AllocError> {
-    left_of(alloc, &["check", "a", "top"], bytes, 4096)
+    check_cut(alloc, bytes, "top")
+}
+
+/// Runs `check a CUT` where `a` holds these bytes.
+pub fn check_cut(alloc: Global, bytes: &[u8], cut: &str) -> Result<Left, AllocError> {
+    left_of(alloc, &["check", "a", cut], bytes, 4096)
 }
 
 /// Runs the program with these words where `a` holds these bytes, and reads give at most so many.

@@ -24,8 +24,8 @@ returns-in-Order-clause-does g c = λ told.
 
 pub returns-in-Check-clause-cause : goal.returns-in-Check-clause-cause
 returns-in-Check-clause-cause g c =
-    form_cause _ (check c.in-Check.source.now c.in-Check.cut.now) _ _ _ _ c.check.result (is_form_of _ c.in-Some.command _ c.in-Some.ensures.form c.in-Check.is) (c.check.ensures.cause c.in-Check.cut.now)
+    form_cause _ (check c.in-Check.source.now c.in-Check.cut.now) _ _ _ _ c.check.result (is_form_of _ c.in-Some.command _ c.in-Some.ensures.form c.in-Check.is) c.check.ensures.cause
 
 pub returns-in-Check-clause-does : goal.returns-in-Check-clause-does
 returns-in-Check-clause-does g c = λ told.
-    form_does _ _ (check c.in-Check.source.now c.in-Check.cut.now) _ _ _ (is_form_of _ c.in-Some.command _ c.in-Some.ensures.form c.in-Check.is) (c.check.ensures.performs c.in-Check.cut.now told)
+    form_does _ _ (check c.in-Check.source.now c.in-Check.cut.now) _ _ _ (is_form_of _ c.in-Some.command _ c.in-Some.ensures.form c.in-Check.is) (c.check.ensures.performs told)

@@ -1,0 +1,32 @@
+-- Sources that are accepted.
+use Rattle.std.proofs.Common.{◌≡◌, ℕ, List, Ok, sym, ◌∙◌, subst}
+use Rattle.c_lexer.specs.declared.token.Token.{Token}
+use Rattle.c_lexer.specs.Lexing.{IsTokens}
+use Rattle.c_parser.specs.Parsed.{IsParsed}
+use Rattle.c_syntax.specs.Nodes.{Nodes}
+use Rattle.c_syntax.specs.Syntax.{Decls}
+use Rattle.c_typing.specs.Limits.{Outcome}
+use Rattle.c_typed_program.specs.Programs.{IsProgram}
+use Rattle.cut_meaning.specs.Cuts.{annotations}
+use Rattle.c_types.specs.declared.source.TypedSource.{TypedSource}
+use Rattle.annot_reader.specs.Interfaces.{IsInterface}
+use Rattle.annot_types.specs.Sources as readable
+use Rattle.front_end.specs.declared.source.CheckedSource.{CheckedSource}
+use Rattle.front_end.specs.Answers.{IsAccepted, IsTyped, SaysOf}
+use Rattle.front_end.specs.Sources.{IsSource}
+use Rattle.front_end.proofs.Refusals.{nothing_wrong}
+
+-- the annotations of a typed source can be read
+pub typed_source : (N : Nodes) (ts : List Token) (ds : Decls) (s : TypedSource) → (t : IsTyped N ts ds s) → readable.IsTypedSource N s.env s.functions ds t.program
+typed_source N ts ds s t = record { holds = t.holds; fits = t.fits; typed = t.typed; env = t.is.env; functions = t.is.functions; numbers = t.is.are_functions }
+
+pub accepted : (bytes cut : List ℕ) (N : Nodes) (ds : Decls) (s : TypedSource) (c : CheckedSource) → (source : IsSource bytes ds) → (t : IsTyped N source.tokens ds s) → IsProgram c.program t.program → c.program.texts ≡ s.texts
+    → IsInterface cut (annotations ds t.program) (Ok c.interface) → IsAccepted bytes cut c
+accepted bytes cut N ds s c source t program texts reads = record {
+  right = record { ds = ds; source = source; right = nothing_wrong cut ds t.program c.interface t.typed reads };
+  says = subst (λ (o : Outcome). SaysOf cut source.tokens ds o c) (sym t.typed) (program, texts ∙ t.texts, reads);
+}
+
+-- the bytes are a source where their tokens have a tree
+abbrev pub source_of : (bytes : List ℕ) (ts : List Token) (N : Nodes) → IsTokens bytes ts → (p : IsParsed ts N) → IsSource bytes p.0
+source_of bytes ts N lexed p = record { tokens = ts; lexed = lexed; spells = p.1; shallow = p.3 }

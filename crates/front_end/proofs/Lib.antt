@@ -1,0 +1,3 @@
+mod Refusals
+mod Accepting
+pub mod OneAnswer

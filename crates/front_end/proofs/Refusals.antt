@@ -1,0 +1,122 @@
+-- What the errors of the parts say of a source.
+use Rattle.std.proofs.Common.{◌≡◌, ◌≢◌, ◌↔◌, ℕ, List, Some, None, Result, Ok, Err, sym, ◌∙◌, ap, refl}
+use Rattle.std.specs.Result.{IsErrOf}
+use Rattle.c_lexer.specs.declared.error.LexError.{LexError}
+use Rattle.c_lexer.specs.declared.error.LexError.TheVariants as lexing
+use Rattle.c_lexer.specs.declared.token.Token.{Token}
+use Rattle.c_lexer.specs.Lexing as tokens
+use Rattle.c_syntax.specs.Syntax.{Decls}
+use Rattle.c_parser.specs.declared.parsing.ParseError.{ParseError}
+use Rattle.c_parser.specs.declared.parsing.ParseError.TheVariants as parsing
+use Rattle.c_parser.specs.Parsed as grammar
+use Rattle.c_typing.specs.Checked.{Checked, Fine, Large, Broken}
+use Rattle.c_typing.specs.Limits as limits
+use Rattle.c_typing.specs.Limits.{Outcome, outcome}
+use Rattle.c_typing.specs.Sources.{Program}
+use Rattle.c_typed_program.specs.declared.text.TextLiteral.{TextLiteral}
+use Rattle.cut_meaning.specs.Cuts.{annotations}
+use Rattle.cut_meaning.specs.Notes.{Annotated}
+use Rattle.c_types.specs.declared.error.CheckError.{CheckError}
+use Rattle.c_types.specs.declared.error.CheckError.TheVariants as typing
+use Rattle.c_types.specs.declared.error.Which.{Which}
+use Rattle.c_types.specs.declared.error.Which.TheVariants as numbers
+use Rattle.c_types.specs.declared.source.TypedSource.{TypedSource}
+use Rattle.c_types.specs.Answers.{IsCheckedSource, which_in}
+use Rattle.c_types.specs.Sources.{IsTypedAs}
+use Rattle.annot_reader.specs.declared.error.InterfaceError.{InterfaceError}
+use Rattle.annot_reader.specs.declared.error.InterfaceError.TheVariants as reading
+use Rattle.annot_reader.specs.Interface.{Interface}
+use Rattle.annot_reader.specs.Interfaces.{IsInterface}
+use Rattle.front_end.specs.declared.error.SourceError.TheVariants as errors
+use Rattle.front_end.specs.declared.error.SourceRule.TheVariants as rules
+use Rattle.front_end.specs.Answers.{IsRefused}
+use Rattle.front_end.specs.Errors.{by_annotations, by_grammar, by_tokens, by_types, found}
+use Rattle.front_end.specs.Sources.{IsSource, fault_of, fault_of_annotations, fault_of_types, no_tokens, no_tree, too_deep, refused, unless_named, which_of}
+
+-- ---- tokens and grammar
+
+-- an error of which it is said exactly when it comes
+abbrev Exactly : Type 0 → List ℕ → LexError → LexError → Type 0
+Exactly T text error e = ◌≢◌ {A = Result T LexError} (Err error) (Err lexing.Memory) → (IsErrOf {T = T} (Err error) e ↔ tokens.IsRefused text e)
+
+pub by_lexing : {T : Type 0} (bytes cut : List ℕ) (error : LexError)
+    → ((n : ℕ) → Exactly T bytes error (lexing.BadByte n)) → ((n : ℕ) → Exactly T bytes error (lexing.OpenText n))
+    → ((n : ℕ) → Exactly T bytes error (lexing.BigNumber n)) → ((n : ℕ) → Exactly T bytes error (lexing.Directive n))
+    → IsRefused bytes cut (by_tokens error)
+by_lexing bytes cut (lexing.BadByte n) byte open_text number directive = no_tokens (lexing.BadByte n) ((byte n (λ k. cc)).0 refl)
+by_lexing bytes cut (lexing.OpenText n) byte open_text number directive = no_tokens (lexing.OpenText n) ((open_text n (λ k. cc)).0 refl)
+by_lexing bytes cut (lexing.BigNumber n) byte open_text number directive = no_tokens (lexing.BigNumber n) ((number n (λ k. cc)).0 refl)
+by_lexing bytes cut (lexing.Directive n) byte open_text number directive = no_tokens (lexing.Directive n) ((directive n (λ k. cc)).0 refl)
+by_lexing bytes cut lexing.Memory byte open_text number directive = tt
+
+pub by_parsing : (bytes cut : List ℕ) (ts : List Token) (error : ParseError) → tokens.IsTokens bytes ts → grammar.IsRefused ts error → IsRefused bytes cut (by_grammar error)
+by_parsing bytes cut ts (parsing.Token at) lexed none = no_tree at ts lexed none
+by_parsing bytes cut ts (parsing.Deep at) lexed deep = too_deep at ts deep.0 lexed deep.1 deep.2
+by_parsing bytes cut ts parsing.Memory lexed none = tt
+
+-- ---- types
+
+same_number : (w : Which) → which_of (which_in w) ≡ w
+same_number numbers.Functions = refl
+same_number numbers.Params = refl
+same_number numbers.Members = refl
+same_number numbers.Object = refl
+same_number numbers.Globals = refl
+same_number numbers.Frame = refl
+
+broken_types : (bytes cut : List ℕ) (ds : Decls) (texts : List TextLiteral) (tags : List (List ℕ)) (o : Outcome) (error : CheckError)
+    → outcome ds ≡ o → IsSource bytes ds → IsCheckedSource texts tags o (Err error) → IsRefused bytes cut (by_types error)
+broken_types bytes cut ds texts tags o typing.Memory same source is = tt
+broken_types bytes cut ds texts tags (limits.Rule from rule) (typing.Rule f r) same source is =
+    refused (found (rules.Type r) f) ds source
+    (ap (fault_of_types cut ds) same ∙ ap (λ (n : ℕ). Some (found (rules.Type rule) n)) (sym is.0) ∙ ap (λ (n : ℕ). Some (found (rules.Type n) f)) (sym is.1))
+broken_types bytes cut ds texts tags (limits.Rule from rule) (typing.Limit v) same source is = absurd is
+broken_types bytes cut ds texts tags (limits.Limit w) (typing.Limit v) same source is =
+    refused (errors.Limit v) ds source
+    (ap (fault_of_types cut ds) same ∙ ap (λ (n : limits.Which). Some (errors.Limit (which_of n))) (sym is) ∙ ap (λ (n : Which). Some (errors.Limit n)) (same_number v))
+broken_types bytes cut ds texts tags (limits.Limit w) (typing.Rule f r) same source is = absurd is
+broken_types bytes cut ds texts tags (limits.Typed p) (typing.Rule f r) same source is = absurd is
+broken_types bytes cut ds texts tags (limits.Typed p) (typing.Limit v) same source is = absurd is
+
+pub by_typing : (bytes cut : List ℕ) (ds : Decls) (texts : List TextLiteral) (tags : List (List ℕ)) (error : CheckError)
+    → IsSource bytes ds → IsCheckedSource texts tags (outcome ds) (Err error) → IsRefused bytes cut (by_types error)
+by_typing bytes cut ds texts tags error source is = broken_types bytes cut ds texts tags (outcome ds) error refl source is
+
+typed_program : (ds : Decls) (texts : List TextLiteral) (tags : List (List ℕ)) (o : Outcome) (s : TypedSource) → outcome ds ≡ o → IsCheckedSource texts tags o (Ok s)
+    → (p : Program) × (outcome ds ≡ limits.Typed p) × IsTypedAs tags p s × (s.texts ≡ texts)
+typed_program ds texts tags (limits.Typed p) s same is = (p, same, is.0, is.1)
+typed_program ds texts tags (limits.Rule from rule) s same is = absurd is
+typed_program ds texts tags (limits.Limit w) s same is = absurd is
+
+-- a source that is typed is so as a program
+pub program_of : (ds : Decls) (texts : List TextLiteral) (tags : List (List ℕ)) (s : TypedSource) → IsCheckedSource texts tags (outcome ds) (Ok s)
+    → (p : Program) × (outcome ds ≡ limits.Typed p) × IsTypedAs tags p s × (s.texts ≡ texts)
+program_of ds texts tags s is = typed_program ds texts tags (outcome ds) s refl is
+
+-- ---- annotations
+
+broken_annotations : (cut : List ℕ) (c : Checked Annotated) (f r : ℕ) → IsInterface cut c (Err (reading.Rule f r)) → fault_of_annotations cut c ≡ Some (found (rules.Annotation r) f)
+broken_annotations cut (Broken from rule) f r is = ap (λ (n : ℕ). Some (found (rules.Annotation rule) n)) (sym is.0) ∙ ap (λ (n : ℕ). Some (found (rules.Annotation n) f)) (sym is.1)
+broken_annotations cut (Fine a) f r is = absurd is
+broken_annotations cut (Large a) f r is = absurd is
+
+no_cut : (cut : List ℕ) (c : Checked Annotated) → IsInterface cut c (Err reading.NoSuchCut) → fault_of_annotations cut c ≡ Some errors.NoSuchCut
+no_cut cut (Fine a) is = ap unless_named is
+no_cut cut (Large a) is = ap unless_named is
+no_cut cut (Broken from rule) is = absurd is
+
+pub by_reading : (bytes cut : List ℕ) (ds : Decls) (p : Program) (error : InterfaceError) → outcome ds ≡ limits.Typed p → IsSource bytes ds
+    → IsInterface cut (annotations ds p) (Err error) → IsRefused bytes cut (by_annotations error)
+by_reading bytes cut ds p (reading.Rule f r) same source is =
+    refused (found (rules.Annotation r) f) ds source (ap (fault_of_types cut ds) same ∙ broken_annotations cut (annotations ds p) f r is)
+by_reading bytes cut ds p reading.NoSuchCut same source is = refused errors.NoSuchCut ds source (ap (fault_of_types cut ds) same ∙ no_cut cut (annotations ds p) is)
+by_reading bytes cut ds p reading.Memory same source is = tt
+
+named : (cut : List ℕ) (c : Checked Annotated) (i : Interface) → IsInterface cut c (Ok i) → fault_of_annotations cut c ≡ None
+named cut (Fine a) i is = ap unless_named is.1
+named cut (Large a) i is = ap unless_named is.1
+named cut (Broken from rule) i is = absurd is
+
+-- nothing is wrong where the interface of the cut was read
+pub nothing_wrong : (cut : List ℕ) (ds : Decls) (p : Program) (i : Interface) → outcome ds ≡ limits.Typed p → IsInterface cut (annotations ds p) (Ok i) → fault_of cut ds ≡ None
+nothing_wrong cut ds p i same is = ap (fault_of_types cut ds) same ∙ named cut (annotations ds p) i is

@@ -1,0 +1,37 @@
+use Rattle.std.proofs.Common.{List, Err, ap, sym, ◌∙◌, subst}
+use Rattle.c_lexer.specs.declared.token.Token.{Token}
+use Rattle.std.proofs.lemmas.Result.{err_from_is_err_and}
+use Rattle.c_lexer.specs.Lexing.{IsTokens}
+use Rattle.c_parser.specs.Parsed.{IsParsed}
+use Rattle.front_end.specs.Answers.{IsChecked, IsTyped}
+use Rattle.front_end.proofs.Accepting.{source_of}
+use Rattle.front_end.proofs.source.check_source.Goals as goal
+
+pub returns-in_err-tokens : goal.returns-in_err-tokens
+returns-in_err-tokens c =
+    let q = err_from_is_err_and c.from_residual.result c.from_residual.ensures.1 in
+    subst (IsChecked c.args.bytes.now c.args.cut.now) (sym (q.1 ∙ ap Err q.2)) (c.in_err-tokens.ensures.refused c.args.cut.now)
+
+pub returns-in_err-tree : goal.returns-in_err-tree
+returns-in_err-tree c =
+    let q = err_from_is_err_and c.from_residual-in_err-tree.result c.from_residual-in_err-tree.ensures.1 in
+    let lexed = subst (IsTokens c.args.bytes.now) (sym c.deref.ensures.value) c.in_ok-tokens.ensures.tokens in
+    subst (IsChecked c.args.bytes.now c.args.cut.now) (sym (q.1 ∙ ap Err q.2)) (c.in_err-tree.ensures.refused c.args.bytes.now c.args.cut.now lexed)
+
+pub returns-in_err-source : goal.returns-in_err-source
+returns-in_err-source c =
+    let q = err_from_is_err_and c.from_residual-in_err-source.result c.from_residual-in_err-source.ensures.1 in
+    let lexed = subst (IsTokens c.args.bytes.now) (sym c.deref.ensures.value) c.in_ok-tokens.ensures.tokens in
+    let p = c.in_ok-tree.ensures.tree in
+    subst (IsChecked c.args.bytes.now c.args.cut.now) (sym (q.1 ∙ ap Err q.2))
+    (c.in_err-source.ensures.refused c.args.bytes.now c.args.cut.now p.0 p.2 (source_of c.args.bytes.now c.deref.result.now c.in_ok-tree.tree lexed p))
+
+pub returns : goal.returns
+returns c =
+    let ts = c.in_ok-tokens.tokens.items in
+    let N = c.in_ok-tree.tree in
+    let bytes = c.args.bytes.now in
+    let lexed = c.in_ok-tokens.ensures.tokens in
+    let p = subst (λ (v : List Token). IsParsed v N) c.deref.ensures.value c.in_ok-tree.ensures.tree in
+    c.with_interface.ensures bytes p.0 (source_of bytes ts N lexed p)
+    (subst (λ (v : List Token). IsTyped N v p.0 c.in_ok-source.source) c.deref-2.ensures.value (c.in_ok-source.ensures.typed p.0 p.2 (c.numbers_fit.ensures bytes ts p.0 lexed p.1)))

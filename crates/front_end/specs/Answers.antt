@@ -1,0 +1,49 @@
+-- What an answer to the bytes of a source and the name of a cut says.
+use Rattle.std.specs.Prelude.{◌≡◌, ℕ, List, Result, Ok, Err}
+use Rattle.c_lexer.specs.declared.token.Token.{Token}
+use Rattle.c_syntax.specs.Nodes.{Nodes}
+use Rattle.c_syntax.specs.Stands.{Holds}
+use Rattle.c_syntax.specs.Syntax.{Decls}
+use Rattle.c_walks.specs.Numbers.{FitsDecls}
+use Rattle.c_typing.specs.Limits.{Outcome, Typed, outcome}
+use Rattle.c_typing.specs.Sources.{Program, tags_of}
+use Rattle.c_typed_program.specs.Programs.{IsProgram}
+use Rattle.cut_meaning.specs.Cuts.{annotations}
+use Rattle.c_types.specs.declared.source.TypedSource.{TypedSource}
+use Rattle.c_types.specs.Sources.{IsTypedAs}
+use Rattle.c_types.specs.Texts.{texts_among}
+use Rattle.annot_reader.specs.Interfaces.{IsInterface}
+use Rattle.front_end.specs.declared.error.SourceError.{SourceError}
+use Rattle.front_end.specs.declared.error.SourceError.TheVariants.{Memory}
+use Rattle.front_end.specs.declared.source.CheckedSource.{CheckedSource}
+use Rattle.front_end.specs.Sources.{IsRight, IsWrong}
+
+-- the tree is that of these declarations, which keep all rules and limits of types, and this is what they are, with the strings among
+-- the tokens
+pub record IsTyped (N : Nodes) (ts : List Token) (ds : Decls) (s : TypedSource) : Type 0 where
+  pub program : Program
+  pub holds : Holds N ds
+  pub fits : FitsDecls ds
+  pub typed : outcome ds ≡ Typed program
+  pub is : IsTypedAs (tags_of ds) program s
+  pub texts : s.texts ≡ texts_among ts
+
+-- the typed program, its strings and the interface of the cut are what these declarations and tokens say
+abbrev pub SaysOf : (cut : List ℕ) → List Token → Decls → Outcome → CheckedSource → Type 0
+SaysOf cut ts ds (Typed p) c = IsProgram c.program p × (c.program.texts ≡ texts_among ts) × IsInterface cut (annotations ds p) (Ok c.interface)
+SaysOf cut ts ds o c = ⊥
+
+-- nothing is wrong with the source that the bytes are, and this is what it says
+pub record IsAccepted (bytes cut : List ℕ) (c : CheckedSource) : Type 0 where
+  pub right : IsRight bytes cut
+  pub says : SaysOf cut right.source.tokens right.ds (outcome right.ds) c
+
+-- this is wrong with the bytes; of memory nothing is said
+abbrev pub IsRefused : (bytes cut : List ℕ) → SourceError → Type 0
+IsRefused bytes cut Memory = Unit {0}
+IsRefused bytes cut error = IsWrong bytes cut error
+
+-- the source is accepted, or wrong in this way
+abbrev pub IsChecked : (bytes cut : List ℕ) → Result CheckedSource SourceError → Type 0
+IsChecked bytes cut (Ok c) = IsAccepted bytes cut c
+IsChecked bytes cut (Err error) = IsRefused bytes cut error

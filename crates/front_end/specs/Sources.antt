@@ -1,0 +1,66 @@
+-- What the bytes of a source and the name of a cut say: that the source is accepted, or what is wrong with it.
+use Rattle.std.specs.Prelude.{◌≡◌, ℕ, Bool, true, false, List, Option, Some, None}
+use Rattle.c_lexer.specs.declared.token.Token.{Token}
+use Rattle.c_lexer.specs.declared.error.LexError.{LexError}
+use Rattle.c_lexer.specs.Lexing as lexing
+use Rattle.c_syntax.specs.Sources.{Spells}
+use Rattle.c_syntax.specs.Syntax.{Decls}
+use Rattle.c_depth.specs.Deep.{IsDeepAt, IsShallow}
+use Rattle.c_typing.specs.Checked.{Checked, Fine, Large, Broken}
+use Rattle.c_typing.specs.Limits as typing
+use Rattle.c_typing.specs.Limits.{outcome}
+use Rattle.cut_meaning.specs.Cuts.{annotations, is_named}
+use Rattle.cut_meaning.specs.Notes.{Annotated}
+use Rattle.c_types.specs.declared.error.Which.{Which}
+use Rattle.c_types.specs.declared.error.Which.TheVariants as numbers
+use Rattle.front_end.specs.declared.error.SourceError.{SourceError}
+use Rattle.front_end.specs.declared.error.SourceError.TheVariants.{NoSuchCut, Limit}
+use Rattle.front_end.specs.declared.error.SourceRule.TheVariants as rules
+use Rattle.front_end.specs.Errors.{by_tokens, found}
+
+-- the bytes are the tokens of a source with these declarations, in which no node lies too deep
+pub record IsSource (bytes : List ℕ) (ds : Decls) : Type 0 where
+  pub tokens : List Token
+  pub lexed : lexing.IsTokens bytes tokens
+  pub spells : Spells tokens ds
+  pub shallow : IsShallow ds
+
+abbrev pub which_of : typing.Which → Which
+which_of typing.Functions = numbers.Functions
+which_of typing.Params = numbers.Params
+which_of typing.Members = numbers.Members
+which_of typing.Object = numbers.Object
+which_of typing.Globals = numbers.Globals
+which_of typing.Frame = numbers.Frame
+
+abbrev pub unless_named : Bool → Option SourceError
+unless_named true = None
+unless_named false = Some NoSuchCut
+
+abbrev pub fault_of_annotations : (cut : List ℕ) → Checked Annotated → Option SourceError
+fault_of_annotations cut (Fine a) = unless_named (is_named cut a)
+fault_of_annotations cut (Large a) = unless_named (is_named cut a)
+fault_of_annotations cut (Broken from rule) = Some (found (rules.Annotation rule) from)
+
+abbrev pub fault_of_types : (cut : List ℕ) → Decls → typing.Outcome → Option SourceError
+fault_of_types cut ds (typing.Rule from rule) = Some (found (rules.Type rule) from)
+fault_of_types cut ds (typing.Limit which) = Some (Limit (which_of which))
+fault_of_types cut ds (typing.Typed p) = fault_of_annotations cut (annotations ds p)
+
+-- what is wrong with a source that has a tree: its types, its limits, its annotations, or that none names the cut
+abbrev pub fault_of : (cut : List ℕ) → Decls → Option SourceError
+fault_of cut ds = fault_of_types cut ds (outcome ds)
+
+-- what is wrong with the bytes: they aren't tokens, and this is the first rule that they break; no source has the tokens, whatever the
+-- offset; a node there is held by more than 200 others; or it is what is wrong with the source that they are
+pub data IsWrong (bytes cut : List ℕ) : SourceError → Type 0 where
+  no_tokens : (error : LexError) → lexing.IsRefused bytes error → IsWrong bytes cut (by_tokens error)
+  no_tree : (at : ℕ) (ts : List Token) → lexing.IsTokens bytes ts → ((ds : Decls) → Spells ts ds → ⊥) → IsWrong bytes cut (found rules.Token at)
+  too_deep : (at : ℕ) (ts : List Token) (ds : Decls) → lexing.IsTokens bytes ts → Spells ts ds → IsDeepAt ds at → IsWrong bytes cut (found rules.Deep at)
+  refused : (error : SourceError) (ds : Decls) → IsSource bytes ds → fault_of cut ds ≡ Some error → IsWrong bytes cut error
+
+-- nothing is wrong with the source that the bytes are
+pub record IsRight (bytes cut : List ℕ) : Type 0 where
+  pub ds : Decls
+  pub source : IsSource bytes ds
+  pub right : fault_of cut ds ≡ None

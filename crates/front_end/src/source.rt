@@ -1,0 +1,115 @@
+//! Sources from bytes.
+
+ghost use Rattle.std.specs.Prelude.{◌≡◌, ◌≤◌, List, ℕ, IfErr, IfOk, length};
+ghost use Rattle.c_lexer.specs.Lexing.{IsTokens};
+ghost use Rattle.c_lexer.specs.declared.token.Token.{Token as Lexed};
+ghost use Rattle.c_syntax.specs.Stands.{Holds};
+ghost use Rattle.c_syntax.specs.Syntax.{Decls};
+ghost use Rattle.c_parser.specs.Parsed.{IsParsed};
+ghost use Rattle.c_walks.specs.Numbers.{FitsDecls};
+ghost use Rattle.c_types.specs.Answers.{IsSource as IsFit};
+ghost use Rattle.front_end.specs.Answers.{IsChecked, IsRefused, IsTyped};
+ghost use Rattle.front_end.specs.Sources.{IsSource};
+
+use crate::error::SourceError;
+use annot_reader::Iface;
+use annot_types::interface_of;
+use c_lexer::{Token, lex};
+use c_parser::parse;
+use c_syntax::Tree;
+use c_typed_program::TypedProgram;
+use c_types::{TypedSource, check_source as check_types, sources_stay_typed};
+use c_walks::numbers_fit;
+use std::alloc::Global;
+
+/// A source that is accepted: its typed program, and the interface of the cut.
+#[derive(Drop)]
+pub struct CheckedSource {
+    pub program: TypedProgram,
+    pub interface: Iface,
+}
+
+// The tokens that the bytes are.
+fn tokens_of(alloc: Global, bytes: &[u8]) -> Result<Vec<Token>, SourceError>
+    requires { length bytes.now ≤ 1048576 }
+    ensures tokens { IfOk result (λ v. IsTokens bytes.now v.items) }
+    ensures refused { (cut : List ℕ) → IfErr result (IsRefused bytes.now cut) }
+{
+    match lex(alloc, bytes) {
+        Ok(tokens) => Ok(tokens),
+        Err(error) => Err(SourceError::from(error)),
+    }
+}
+
+// The tree of the source that has these tokens.
+fn tree_of(alloc: Global, tokens: &[Token]) -> Result<Tree, SourceError>
+    ensures tree { IfOk result (λ t. IsParsed tokens.now t) }
+    ensures refused { (bytes cut : List ℕ) → IsTokens bytes tokens.now → IfErr result (IsRefused bytes cut) }
+{
+    match parse(alloc, tokens) {
+        Ok(tree) => Ok(tree),
+        Err(error) => Err(SourceError::from(error)),
+    }
+}
+
+// What the source is by its types.
+fn typed(alloc: Global, tokens: &[Token], tree: &Tree) -> Result<TypedSource, SourceError>
+    requires { IsFit tree.now }
+    ensures typed { (ds : Decls) → Holds tree.now ds → FitsDecls ds → IfOk result (IsTyped tree.now tokens.now ds) }
+    ensures refused { (bytes cut : List ℕ) (ds : Decls) → Holds tree.now ds → IsSource bytes ds → IfErr result (IsRefused bytes cut) }
+{
+    match check_types(alloc, tokens, tree) {
+        Ok(source) => Ok(source),
+        Err(error) => Err(SourceError::from(error)),
+    }
+}
+
+// The typed source with the interface of the cut.
+fn with_interface(
+    alloc: Global,
+    source: TypedSource,
+    tree: &Tree,
+    cut: &[u8],
+) -> Result<CheckedSource, SourceError>
+    requires { (ts : List Lexed) × (ds : Decls) × IsTyped tree.now ts ds source }
+    ensures { (bytes : List ℕ) (ds : Decls) → (s : IsSource bytes ds) → IsTyped tree.now s.tokens ds source → IsChecked bytes cut.now result }
+{
+    let TypedSource {
+        env,
+        functions,
+        globals,
+        texts,
+    } = source;
+    let (env, interface) = match interface_of(alloc, env, functions.as_slice(), tree, cut) {
+        Ok(found) => found,
+        Err(error) => return Err(SourceError::from(error)),
+    };
+    sources_stay_typed();
+    let source = TypedSource {
+        env,
+        functions,
+        globals,
+        texts,
+    };
+    Ok(CheckedSource {
+        program: source.into_program(),
+        interface,
+    })
+}
+
+/// The source that these bytes are, at most 1 MiB, with the interface of the cut.
+///
+/// `Fault` names a rule that the source breaks, with the offset where; `Limit` the first number that it goes past, where it breaks no rule
+/// of types; `NoSuchCut` where all rules hold and no declaration names the cut; `Memory` where there is no memory.
+pub fn check_source(alloc: Global, bytes: &[u8], cut: &[u8]) -> Result<CheckedSource, SourceError>
+    requires { length bytes.now ≤ 1048576 }
+    // The source is accepted where nothing is wrong with it; else this is.
+    ensures { IsChecked bytes.now cut.now result }
+{
+    let tokens = tokens_of(alloc, bytes)?;
+    let tree = tree_of(alloc, &tokens)?;
+    numbers_fit();
+    let source = typed(alloc, &tokens, &tree)?;
+    drop(tokens);
+    with_interface(alloc, source, &tree, cut)
+}
