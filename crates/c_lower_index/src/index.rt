@@ -25,6 +25,7 @@ use std::collections::HashMap;
 use std::marker::Model;
 
 /// A program, with where the members of its structs lie, and the order of its strings.
+#[derive(Drop)]
 pub struct Index<'a> {
     program: &'a TypedProgram,
     members: Vec<Offsets>,

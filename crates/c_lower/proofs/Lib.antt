@@ -1,0 +1,9 @@
+pub mod Same
+pub mod Long
+pub mod Standing
+pub mod Laid
+pub mod Emitted
+pub mod Valid
+pub mod Naming
+pub mod Names
+pub mod Gathered

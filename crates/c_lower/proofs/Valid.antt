@@ -1,0 +1,172 @@
+-- The code of a program in which few values wait is valid.
+use Rattle.std.proofs.Common.{◌≡◌, ℕ, zero, suc, ◌+◌, ◌^◌, ◌<◌, ◌≤◌, Bool, true, false, ◌||◌, cond, lit≤, List, [], ◌∷◌, ◌++◌, length, map, Option, Some, None, refl, sym, ap, ◌∙◌, subst, arith}
+use Rattle.std.specs.Prelude.{nat_lt, slice_get}
+use Rattle.std.specs.Option.{option_map}
+use Rattle.std.proofs.lemmas.List.{length-map}
+use Rattle.std.proofs.lemmas.Option.{same_Some}
+use Rattle.std.proofs.lemmas.Bool.{ltb-false}
+use Rattle.places.specs.declared.placed.Placed.{Placed}
+use Rattle.c_code.specs.declared.code.FuncInfo.{FuncInfo}
+use Rattle.c_code.specs.declared.instr.Instr.{Instr}
+use Rattle.c_code.specs.Machine.{Flat, flat, func_of}
+use Rattle.c_code.specs.Valid.{IsSteady, IsValid}
+use Rattle.c_type_model.specs.Types.{CType}
+use Rattle.c_builtins.specs.declared.builtin.Builtin.{Builtin}
+use Rattle.c_builtins.specs.declared.builtin.Builtin.TheVariants.{Malloc, Free, Spawn, Join, Lock, Unlock, Print}
+use Rattle.c_builtins.specs.declared.lookup.TheConstants.{BUILTINS}
+use Rattle.c_builtins.specs.Table.{number_of}
+use Rattle.c_typing.specs.Sources as sources
+use Rattle.c_typing.specs.TypedTree as typed
+use Rattle.c_meaning.specs.Context.{Source, body_of, shape_of, shapes_of, type_of}
+use Rattle.c_placement.specs.Code.{body_code, making as making_at}
+use Rattle.c_placement.specs.Heights.{Stand, body_heights, statement_waits}
+use Rattle.c_placement.specs.Laws.{IsEmitted, IsMadeOf, IsWithin, MakesTheMarks}
+use Rattle.c_typed_table.specs.Tables.{Table}
+use Rattle.c_typed_program.specs.declared.function.Body.{Body}
+use Rattle.c_typed_program.specs.declared.function.Function.{Function}
+use Rattle.c_typed_program.specs.Declarations.{Declared, body_in, function_in}
+use Rattle.c_typed_program.specs.Programs.{texts_in}
+use Rattle.c_typed_program.specs.Statements.{statement_in}
+use Rattle.c_lower_index.specs.Sources.{fixed_types, sig_in, source_in, types_of_functions}
+use Rattle.c_fits.specs.Fits.{IsFit, Knows}
+use Rattle.c_lower.specs.Lowered.{IsSourceOf, builtin_info, code_of, codes_of, infos_from, lowered}
+use Rattle.c_lower.specs.Waits.{first_wide, is_wide, unevaluated_at}
+use Rattle.c_lower_index.proofs.Numbers.{one_place}
+use Rattle.c_lower.proofs.Standing.{height_in}
+use Rattle.c_lower.proofs.Laid.{all_heights, among, heights_of, infos_counted, stands_at, start}
+use Rattle.c_lower.proofs.Emitted.{Found, body_found, body_here, code_means, emitted, entry_is, known, source, typed_at}
+
+abbrev nowhere : Placed
+nowhere = record { globals = []; strings = []; replay = []; system = []; faces = [] }
+
+-- no function up to the end is wide
+all_few : (t : Table) (us : List ℕ) (n : ℕ) (fs : List Function) → first_wide t us n fs ≡ None → (k : ℕ) (g : Function) → slice_get fs k ≡ Some g → is_wide t g.body (unevaluated_at us (n + k)) ≡ false
+all_few t us n [] e k g h = absurd cc
+all_few t us n (f ∷ fs) e k g h = by (is_wide t f.body (unevaluated_at us n)) refl k h (λ r m c. all_few t us (suc n) fs r m g c)
+  where
+    by : (b : Bool) → is_wide t f.body (unevaluated_at us n) ≡ b → (k : ℕ) → slice_get (f ∷ fs) k ≡ Some g
+        → (first_wide t us (suc n) fs ≡ None → (m : ℕ) → slice_get fs m ≡ Some g → is_wide t g.body (unevaluated_at us (suc n + m)) ≡ false) → is_wide t g.body (unevaluated_at us (n + k)) ≡ false
+    by true w k h later = let some : first_wide t us n (f ∷ fs) ≡ Some (16 + n) = ap (λ c. cond c (Some (16 + n)) (first_wide t us (suc n) fs)) w in absurd cc
+    by false w zero h later =
+        let here : n + 0 ≡ n = omega arith in
+        ap (λ (x : Function). is_wide t x.body (unevaluated_at us (n + 0))) (sym (same_Some f g h)) ∙ (ap (λ m. is_wide t f.body (unevaluated_at us m)) here ∙ w)
+    by false w (suc m) h later =
+        let there : n + suc m ≡ suc n + m = omega arith in
+        ap (λ i. is_wide t g.body (unevaluated_at us i)) there ∙ later (sym (ap (λ c. cond c (Some (16 + n)) (first_wide t us (suc n) fs)) w) ∙ e) m h
+
+-- where neither of two tests holds, the second doesn't
+second_false : (a b : Bool) → (a || b) ≡ false → b ≡ false
+second_false true b h = absurd cc
+second_false false b h = h
+
+get_some : (fs : List Function) (k : ℕ) → k < length fs → (g : Function) × (slice_get fs k ≡ Some g)
+get_some [] k lt = absurd (omega arith)
+get_some (f ∷ fs) zero lt = (f, refl)
+get_some (f ∷ fs) (suc k) lt = get_some fs k (omega arith)
+
+module _ (p : Declared) where
+  abbrev s : Source
+  s = source p [] nowhere
+
+  abbrev code : Flat
+  code = lowered p
+
+  abbrev sig : CType → ℕ
+  sig = sig_in p
+
+  abbrev height : ℕ → ℕ
+  height = height_in (all_heights p p.functions)
+
+  knows : Knows s code sig
+  unfolding sig_in
+  knows = record {
+    each = λ f info e. let h = typed_at p [] nowhere f info e in (h.0, h.2);
+    tells = λ f info t known e. let h = typed_at p [] nowhere f info known in sym (one_place (fixed_types ++ types_of_functions s.program.functions) t (type_of s f) h.3 (sym e ∙ h.2));
+    builtins = builtins;
+    sources = λ k lt. let h = get_some p.functions k (omega (arith, length-map p.functions (function_in p.table))) in (_, known p [] nowhere k h.0 h.1);
+  }
+    where
+      builtins : (b : Builtin) → (info : FuncInfo) × (func_of code (number_of b) ≡ Some info)
+      builtins Malloc = (_, refl)
+      builtins Free = (_, refl)
+      builtins Spawn = (_, refl)
+      builtins Join = (_, refl)
+      builtins Lock = (_, refl)
+      builtins Unlock = (_, refl)
+      builtins Print = (_, refl)
+
+  stands : (f : ℕ) (b : typed.Body) (w : Found p [] nowhere f b) → Stand height (0 + start p w.place p.functions) (body_heights b)
+  stands f b w =
+      let here : Stand height (start p w.place p.functions) (heights_of p w.function.body) = stands_at p p.functions w.place w.function w.there in
+      subst (λ n. Stand height n (body_heights b)) (omega arith)
+      (subst (λ (hs : List ℕ). Stand height (start p w.place p.functions) hs) (ap (heights_of p) w.has ∙ ap body_heights w.means) here)
+
+  within : (q : ℕ) (i : Instr) → slice_get code.instrs q ≡ Some i → IsWithin s code sig (emitted p [] nowhere) q
+  within q i e = let h = among p p.functions q i e in of_body h.0 h.1 h.2 h.2.body refl h.3 h.4 h.5
+    where
+      of_body : (k by : ℕ) (g : Function) (o : Option Body) → g.body ≡ o → slice_get p.functions k ≡ Some g → by < length (code_of p g.body) → start p k p.functions + by ≡ q → IsWithin s code sig (emitted p [] nowhere) q
+      of_body k by g None h t lt n = let none : length (code_of p g.body) ≡ 0 = ap (λ o. length (code_of p o)) h in absurd (omega arith)
+      of_body k by g (Some body) h t lt n =
+          let b = body_in p.table body in
+          let defined : body_of s (16 + k) ≡ Some b = body_here p [] nowhere k g t ∙ ap (λ (o : Option Body). option_map (body_in p.table) o) h in
+          let w = body_found p [] nowhere (16 + k) b defined in
+          let place : w.place ≡ k = let e = w.number in omega arith in
+          let long : length (code_of p g.body) ≡ length (body_code b (making_at s code sig b)) = ap (λ o. length (code_of p o)) h ∙ ap length (code_means p [] nowhere body) in
+          let there : 0 + start p w.place p.functions + by ≡ q = let m : start p w.place p.functions ≡ start p k p.functions = ap (λ j. start p j p.functions) place in omega arith in
+          record { func = 16 + k; body = b; defined = defined; by = by; inside = omega arith; there = ap (λ m. m + by) (entry_is p [] nowhere (16 + k) b defined) ∙ there }
+
+  few_in : (us : List ℕ) → first_wide p.table us 0 p.functions ≡ None → (f : ℕ) (b : typed.Body) → Found p [] nowhere f b → statement_waits b.statements ≤ 64
+  few_in us few f b w =
+      let n = unevaluated_at us (0 + w.place) in
+      let no : is_wide p.table w.function.body n ≡ false = all_few p.table us 0 p.functions few w.place w.function w.there in
+      let test : nat_lt 64 (statement_waits (statement_in p.table w.body.statements)) ≡ false =
+      second_false (nat_lt 64 n) (nat_lt 64 (statement_waits (statement_in p.table w.body.statements))) (ap (λ o. is_wide p.table o n) (sym w.has) ∙ no) in
+      subst (λ (c : typed.Body). statement_waits c.statements ≤ 64) w.means (ltb-false 64 (statement_waits (statement_in p.table w.body.statements)) test)
+
+  made : (us : List ℕ) → IsFit p → first_wide p.table us 0 p.functions ≡ None → IsMadeOf s code sig height
+  unfolding source_in
+  made us fit few = record {
+    emitted = emitted p [] nowhere;
+    within = within;
+    stands = λ f b d. subst (λ n. Stand height n (body_heights b)) (sym (entry_is p [] nowhere f b d)) (stands f b (body_found p [] nowhere f b d));
+    fits = λ f b d. record { few = few_in us few f b (body_found p [] nowhere f b d); calls = (fit.bodies f b d).calls code knows; holds = (fit.bodies f b d).holds };
+  }
+
+  one_type : (f g : ℕ) (a b : FuncInfo) → func_of code f ≡ Some a → func_of code g ≡ Some b → a.sig ≡ b.sig → (a.params ≡ b.params) × (a.result ≡ b.result)
+  unfolding sig_in
+  one_type f g a b ea eb e =
+      let ha = typed_at p [] nowhere f a ea in
+      let hb = typed_at p [] nowhere g b eb in
+      let us = fixed_types ++ types_of_functions s.program.functions in
+      let same : type_of s f ≡ type_of s g = one_place us (type_of s f) (type_of s g) hb.3 (sym ha.2 ∙ (e ∙ hb.2)) in (
+        ha.0 ∙ (ap (λ t. shapes_of (sources.params_of t)) same ∙ sym hb.0),
+        ha.1 ∙ (ap (λ t. shape_of (sources.result_of t)) same ∙ sym hb.1),
+      )
+
+  pub valid : IsFit p → ((us : List ℕ) × (first_wide p.table us 0 p.functions ≡ None)) → length (codes_of p p.functions) < 2 ^ 32 → ((height : ℕ → ℕ) → IsMadeOf s code sig height → IsSteady code height) → IsValid code
+  unfolding source_in
+  valid fit few short law = record {
+    height = height;
+    steady = law height (made few.0 fit few.1);
+    few_params = λ f info e. let h = typed_at p [] nowhere f info e in subst (λ ps. length ps ≤ 8) (sym h.0) (fit.few_params f);
+    one_type = one_type;
+    builtins = lit≤ tt;
+    numbered = omega (arith, fit.few_functions, infos_counted p p.functions 0, length-map p.functions (function_in p.table));
+    placed = short;
+  }
+
+-- the same of parts that were put together
+pub valid_made : (p : Declared) (bs ss : List FuncInfo) (is : List Instr) → bs ≡ map (builtin_info p) BUILTINS → ss ≡ infos_from p 0 p.functions → is ≡ codes_of p p.functions
+    → IsFit p → ((us : List ℕ) × (first_wide p.table us 0 p.functions ≡ None)) → length is < 2 ^ 32 → ((s : Source) (code : Flat) (sig : CType → ℕ) (height : ℕ → ℕ) → IsMadeOf s code sig height → IsSteady code height)
+    → IsValid (flat bs ss is)
+valid_made p bs ss is eb es ei fit few short law =
+    let same : flat bs ss is ≡ lowered p = ap (λ l. flat l ss is) eb ∙ (ap (λ l. flat (map (builtin_info p) BUILTINS) l is) es ∙ ap (λ l. flat (map (builtin_info p) BUILTINS) (infos_from p 0 p.functions) l) ei) in
+    let few_instrs : length (codes_of p p.functions) < 2 ^ 32 = subst (λ (l : List Instr). length l < 2 ^ 32) ei short in
+    subst (λ (c : Flat). IsValid c) (sym same) (valid p fit few few_instrs (λ height made. law (source p [] nowhere) (lowered p) (sig_in p) height made))
+
+-- the code makes the marks of each source that the program stands for
+pub marks : (p : Declared) (s : Source) → IsSourceOf p s → ((s : Source) (code : Flat) (sig : CType → ℕ) → IsEmitted s code sig → MakesTheMarks s code) → MakesTheMarks s (lowered p)
+marks p s of law =
+    let same : source p s.program.names s.placed ≡ s =
+    ap (λ q. record { program = q; texts = texts_in p.texts; placed = s.placed }) (sym of.program) ∙ ap (λ ts. record { program = s.program; texts = ts; placed = s.placed }) (sym of.texts) in
+    subst (λ (z : Source). MakesTheMarks z (lowered p)) same (law (source p s.program.names s.placed) (lowered p) (sig_in p) (emitted p s.program.names s.placed))

@@ -1,0 +1,12 @@
+//! The code of a typed program.
+#![tactic(auto)]
+
+mod error;
+mod functions;
+mod lowering;
+mod shapes;
+mod waits;
+mod wide;
+
+pub use error::LowerError;
+pub use lowering::{MOST_NODES, lower};

@@ -1,0 +1,72 @@
+//! Lowering.
+
+ghost use Rattle.std.specs.Prelude.{◌≡◌, ◌↔◌, ◌<◌, ◌≤◌, ℕ, List, None, Some, IfOk, OnOk};
+ghost use Rattle.c_meaning.specs.Context.{Source};
+ghost use Rattle.c_placement.specs.Laws.{MakesTheMarks};
+ghost use Rattle.c_fits.specs.Fits.{IsFit};
+ghost use Rattle.c_lower.specs.Lowered.{IsSourceOf, lowered};
+ghost use Rattle.c_lower.specs.Named.{NamesNoMore};
+ghost use Rattle.c_lower.specs.Waits.{first_wide as first_wide_of, most_nodes};
+
+use crate::error::LowerError;
+use crate::functions::{builtin_infos, function_info};
+use crate::wide::first_wide;
+use c_code::Code;
+use c_lower_index::Index;
+use c_placement::{emitted_code_is_steady, emitted_code_makes_the_marks};
+use c_typed_program::TypedProgram;
+use std::alloc::{AllocError, Global};
+
+/// How many nodes a source may have.
+pub const MOST_NODES: usize = 131_072;
+
+// The code of a program in which few values wait.
+fn code(alloc: Global, program: &TypedProgram) -> Result<Code, AllocError>
+    requires fit { IsFit program.now }
+    requires few { (us : List ℕ) × (first_wide_of program.now.table us 0 program.now.functions ≡ None) }
+    ensures { IfOk result (λ c. c ≡ lowered program.now) }
+{
+    let index = Index::new(alloc, program)?;
+    let builtins = builtin_infos(alloc)?;
+    let mut sources = Vec::with_capacity(alloc, program.functions().len())?;
+    let mut instrs = Vec::new(alloc);
+    for function in program.functions() {
+        sources.push(function_info(alloc, &index, function, &mut instrs)?)?;
+    }
+    if instrs.len() > u32::MAX as usize {
+        return Err(AllocError);
+    }
+    emitted_code_is_steady();
+    Ok(Code::new(builtins, sources, instrs))
+}
+
+/// The code of a program whose source has so many nodes. `unevaluated` says of each function, in their order, how many values
+/// wait at most in the expressions of its body that aren't evaluated, as under `sizeof` and in lengths of arrays; more than 255
+/// count as 255, and where it ends there are none.
+///
+/// `Long` where the nodes are more than 131,072; else `Wide` with the number of the first function in which more than 64 values
+/// wait, in what is evaluated or not; else the code, or `Memory` where there is no memory for it or a number is too great for an
+/// instruction.
+pub fn lower(
+    alloc: Global,
+    program: &TypedProgram,
+    nodes: usize,
+    unevaluated: &[u8],
+) -> Result<Code, LowerError>
+    requires { IsFit program.now }
+    ensures long { (result ≡ Err LowerError.Long) ↔ (most_nodes < nodes) }
+    ensures wide { (f : ℕ) → (result ≡ Err (LowerError.Wide f)) ↔ ((nodes ≤ most_nodes) × (first_wide_of program.now.table unevaluated.now 0 program.now.functions ≡ Some f)) }
+    ensures few { OnOk result ((nodes ≤ most_nodes) × (first_wide_of program.now.table unevaluated.now 0 program.now.functions ≡ None)) }
+    ensures code { IfOk result (λ c. c ≡ lowered program.now) }
+    ensures marks { IfOk result (λ c. (s : Source) → IsSourceOf program.now s → MakesTheMarks s c) }
+    ensures names { IfOk result (λ c. NamesNoMore program.now c) }
+{
+    if nodes > MOST_NODES {
+        return Err(LowerError::Long);
+    }
+    emitted_code_makes_the_marks();
+    match first_wide(program, unevaluated) {
+        Some(number) => Err(LowerError::Wide(number)),
+        None => Ok(code(alloc, program)?),
+    }
+}

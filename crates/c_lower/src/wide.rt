@@ -1,0 +1,116 @@
+//! Functions in which too many values wait.
+
+ghost use Rattle.std.specs.Prelude.{◌≡◌, ◌+◌, ◌^◌, ◌≤◌, length};
+ghost use Rattle.c_builtins.specs.Table.{first_source_function};
+ghost use Rattle.c_typed_program.specs.Declarations.{IsBody};
+ghost use Rattle.c_typed_program.specs.Statements.{AllStatements, IsMaybeAt, IsStatement, maybe_at, statement_in, statements_in};
+ghost use Rattle.c_typed_table.specs.Tables.{Table};
+ghost use Rattle.c_placement.specs.Heights.{maybe_waits as maybe_waits_of, statement_waits as statement_waits_of, statements_waits as statements_waits_of};
+ghost use Rattle.c_lower.specs.Waits.{capped, first_wide as first_wide_of, is_wide as is_wide_of, unevaluated_at};
+
+use crate::waits::{either, value_waits};
+use c_builtins::FIRST_SOURCE_FUNCTION;
+use c_typed_program::{Body, Statement, TypedProgram};
+use c_typed_table::{NodeId, TypedTable};
+
+// So many values of one function may wait.
+const MOST_VALUES: u8 = 64;
+
+fn maybe_waits(table: &TypedTable, value: Option<NodeId>) -> u8
+    requires { IsMaybeAt table.now value }
+    ensures { result ≡ capped (maybe_waits_of (maybe_at table.now value)) }
+{
+    match value {
+        None => 0,
+        Some(value) => value_waits(table, value),
+    }
+}
+
+// How many values of a statement wait at most. More than 255 count as 255.
+#[cycle(statements)]
+fn statement_waits(table: &TypedTable, statement: &Statement) -> u8
+    requires { IsStatement table.now statement.now }
+    ensures { result ≡ capped (statement_waits_of (statement_in table.now statement.now)) }
+{
+    match statement {
+        Statement::Block(statements) => statements_waits(table, statements),
+        Statement::Evaluate(value) | Statement::Initialise { value, .. } => value_waits(
+            table, *value,
+        ),
+        Statement::If(value, body) | Statement::While(value, body) => either(
+            value_waits(table, *value),
+            statement_waits(table, body),
+        ),
+        Statement::IfElse(value, then, other) => either(
+            value_waits(table, *value),
+            either(statement_waits(table, then), statement_waits(table, other)),
+        ),
+        Statement::Do(body, value) => either(
+            statement_waits(table, body),
+            value_waits(table, *value),
+        ),
+        Statement::For {
+            first,
+            condition,
+            last,
+            body,
+        } => either(
+            statements_waits(table, first),
+            either(
+                maybe_waits(table, *condition),
+                either(maybe_waits(table, *last), statement_waits(table, body)),
+            ),
+        ),
+        Statement::Break | Statement::Continue => 0,
+        Statement::Return(value) => either(1, maybe_waits(table, *value)),
+    }
+}
+
+#[cycle(statements)]
+fn statements_waits(table: &TypedTable, statements: &[Statement]) -> u8
+    requires { AllStatements table.now statements.now }
+    ensures { result ≡ capped (statements_waits_of (statements_in table.now statements.now)) }
+{
+    let mut most = 0;
+    for i in (0..statements.len()).rev() {
+        most = either(statement_waits(table, &statements[i]), most);
+    }
+    most
+}
+
+// Whether more than 64 values wait in a function, where so many do in the expressions of its body that aren't evaluated.
+fn is_wide(table: &TypedTable, body: &Option<Body>, unevaluated: u8) -> bool
+    requires { IsBody table.now body.now }
+    ensures { result ≡ is_wide_of table.now body.now unevaluated }
+{
+    match body {
+        None => false,
+        Some(body) => unevaluated > MOST_VALUES
+            || statement_waits(table, &body.statements) > MOST_VALUES,
+    }
+}
+
+// The count of the function at a place; 0 where there is none.
+fn count_at(counts: &[u8], place: usize) -> u8
+    ensures { result ≡ unevaluated_at counts.now place }
+{
+    counts.get(place).copied().unwrap_or(0)
+}
+
+/// The number of the first function in which more than 64 values wait; `None` where there is none. It takes time linear in
+/// the code.
+pub fn first_wide(program: &TypedProgram, unevaluated: &[u8]) -> Option<u16>
+    requires { first_source_function + length program.now.functions ≤ 2 ^ 16 }
+    ensures { result ≡ first_wide_of program.now.table unevaluated.now 0 program.now.functions }
+{
+    for (place, function) in program.functions().iter().enumerate() {
+        if is_wide(
+            program.table(),
+            &function.body,
+            count_at(unevaluated, place),
+        ) {
+            return Some(FIRST_SOURCE_FUNCTION + place as u16);
+        }
+    }
+    None
+}

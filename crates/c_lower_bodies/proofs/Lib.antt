@@ -1,0 +1,5 @@
+pub mod Reversed
+pub mod Weights
+pub mod Called
+pub mod Loops
+pub mod Among

@@ -1,0 +1,63 @@
+use Rattle.std.proofs.Common.{◌+◌}
+use Rattle.c_typed_table.specs.Parts.{values}
+use Rattle.c_typed_table.specs.Tables.{Table, callee_at, node_at, object_at, typed_of, value_at}
+use Rattle.c_typed_table.specs.declared.ids.NodeId.{NodeId}
+use Rattle.c_lower_bodies.proofs.Weights.{callee_weight, object_weight, value_weight, values_weight, weight}
+use Rattle.c_lower_bodies.proofs.emitter.Emitter.+values.Given as goal
+
+abbrev pub decreases-node : goal.decreases-node
+decreases-node l = weight (node_at l.self.now.declared.table l.id)
+
+abbrev pub decreases-value : goal.decreases-value
+decreases-value l = 1 + value_weight (value_at l.self.now.declared.table l.id)
+
+abbrev pub decreases-object : goal.decreases-object
+decreases-object l = 1 + object_weight (object_at l.self.now.declared.table l.id)
+
+abbrev pub decreases-values : goal.decreases-values
+decreases-values l = values_weight (values (typed_of l.self.now.declared.table) l.ids.now)
+
+abbrev pub decreases-pair : goal.decreases-pair
+decreases-pair l = 2 + (value_weight (value_at l.self.now.declared.table l.left) + value_weight (value_at l.self.now.declared.table l.right))
+
+abbrev pub decreases-sum : goal.decreases-sum
+decreases-sum l = 3 + (value_weight (value_at l.self.now.declared.table l.pointer) + value_weight (value_at l.self.now.declared.table l.index))
+
+abbrev pub decreases-change : goal.decreases-change
+decreases-change l = 2 + value_weight (value_at l.self.now.declared.table l.value)
+
+abbrev pub decreases-convert : goal.decreases-convert
+decreases-convert l = 3 + value_weight (value_at l.self.now.declared.table l.value)
+
+abbrev pub decreases-read : goal.decreases-read
+decreases-read l = 2 + object_weight (object_at l.self.now.declared.table l.object)
+
+abbrev pub decreases-member : goal.decreases-member
+decreases-member l = 2 + object_weight (object_at l.self.now.declared.table l.object)
+
+abbrev pub decreases-both : goal.decreases-both
+decreases-both l = 3 + (value_weight (value_at l.self.now.declared.table l.left) + value_weight (value_at l.self.now.declared.table l.right))
+
+abbrev pub decreases-either : goal.decreases-either
+decreases-either l = 3 + (value_weight (value_at l.self.now.declared.table l.first) + value_weight (value_at l.self.now.declared.table l.second))
+
+abbrev pub decreases-choice : goal.decreases-choice
+decreases-choice l = 2 + (value_weight (value_at l.self.now.declared.table l.condition) + (value_weight (value_at l.self.now.declared.table l.then) + value_weight (value_at l.self.now.declared.table l.other)))
+
+abbrev pub decreases-sequence : goal.decreases-sequence
+decreases-sequence l = 2 + (value_weight (value_at l.self.now.declared.table l.first) + value_weight (value_at l.self.now.declared.table l.second))
+
+abbrev pub decreases-assigned : goal.decreases-assigned
+decreases-assigned l = 2 + (object_weight (object_at l.self.now.declared.table l.left) + value_weight (value_at l.self.now.declared.table l.right))
+
+abbrev pub decreases-changed : goal.decreases-changed
+decreases-changed l = 2 + (object_weight (object_at l.self.now.declared.table l.object) + value_weight (value_at l.self.now.declared.table l.value))
+
+abbrev pub decreases-moved : goal.decreases-moved
+decreases-moved l = 2 + (object_weight (object_at l.self.now.declared.table l.object) + value_weight (value_at l.self.now.declared.table l.index))
+
+abbrev pub decreases-stepped : goal.decreases-stepped
+decreases-stepped l = 2 + object_weight (object_at l.self.now.declared.table l.object)
+
+abbrev pub decreases-call : goal.decreases-call
+decreases-call l = 2 + (callee_weight (callee_at l.self.now.declared.table l.callee) + values_weight (values (typed_of l.self.now.declared.table) l.arguments.now))

@@ -1,0 +1,17 @@
+//! The code of bodies of functions.
+#![tactic(auto)]
+
+mod backward;
+mod body;
+mod calls;
+mod emitter;
+mod logic;
+mod origins;
+mod pairs;
+mod simple;
+mod statements;
+mod updates;
+mod values;
+
+pub use backward::Backward;
+pub use emitter::Emitter;
