@@ -1,0 +1,5 @@
+pub mod Counts
+pub mod Weights
+pub mod Named
+pub mod Totals
+pub mod Places

@@ -1,0 +1,10 @@
+mod Rests
+mod Lists
+mod Lower
+mod Parts
+mod Arguments
+mod Scoped
+mod Braces
+mod Nearest
+mod Counted
+mod Tops

@@ -1,0 +1,15 @@
+mod Held
+mod Names
+mod Within
+mod Operators
+mod Assignments
+mod Designators
+mod Calls
+mod Expressions
+mod BodyValues
+mod Locals
+mod Statements
+mod Counts
+mod Parts
+mod Functions
+mod Sources
