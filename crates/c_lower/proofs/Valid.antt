@@ -30,7 +30,7 @@ use Rattle.c_typed_program.specs.Statements.{statement_in}
 use Rattle.c_lower_index.specs.Sources.{fixed_types, sig_in, source_in, types_of_functions}
 use Rattle.c_fits.specs.Fits.{IsFit, Knows}
 use Rattle.c_lower.specs.Lowered.{IsSourceOf, builtin_info, code_of, codes_of, infos_from, lowered}
-use Rattle.c_lower.specs.Waits.{first_wide, is_wide, unevaluated_at}
+use Rattle.c_lower.specs.Waits.{first_wide, is_wide, counted_at}
 use Rattle.c_lower_index.proofs.Numbers.{one_place}
 use Rattle.c_lower.proofs.Standing.{height_in}
 use Rattle.c_lower.proofs.Laid.{all_heights, among, heights_of, infos_counted, stands_at, start}
@@ -40,19 +40,19 @@ abbrev nowhere : Placed
 nowhere = record { globals = []; strings = []; replay = []; system = []; faces = [] }
 
 -- no function up to the end is wide
-all_few : (t : Table) (us : List ℕ) (n : ℕ) (fs : List Function) → first_wide t us n fs ≡ None → (k : ℕ) (g : Function) → slice_get fs k ≡ Some g → is_wide t g.body (unevaluated_at us (n + k)) ≡ false
+all_few : (t : Table) (us : List ℕ) (n : ℕ) (fs : List Function) → first_wide t us n fs ≡ None → (k : ℕ) (g : Function) → slice_get fs k ≡ Some g → is_wide t g.body (counted_at us (n + k)) ≡ false
 all_few t us n [] e k g h = absurd cc
-all_few t us n (f ∷ fs) e k g h = by (is_wide t f.body (unevaluated_at us n)) refl k h (λ r m c. all_few t us (suc n) fs r m g c)
+all_few t us n (f ∷ fs) e k g h = by (is_wide t f.body (counted_at us n)) refl k h (λ r m c. all_few t us (suc n) fs r m g c)
   where
-    by : (b : Bool) → is_wide t f.body (unevaluated_at us n) ≡ b → (k : ℕ) → slice_get (f ∷ fs) k ≡ Some g
-        → (first_wide t us (suc n) fs ≡ None → (m : ℕ) → slice_get fs m ≡ Some g → is_wide t g.body (unevaluated_at us (suc n + m)) ≡ false) → is_wide t g.body (unevaluated_at us (n + k)) ≡ false
+    by : (b : Bool) → is_wide t f.body (counted_at us n) ≡ b → (k : ℕ) → slice_get (f ∷ fs) k ≡ Some g
+        → (first_wide t us (suc n) fs ≡ None → (m : ℕ) → slice_get fs m ≡ Some g → is_wide t g.body (counted_at us (suc n + m)) ≡ false) → is_wide t g.body (counted_at us (n + k)) ≡ false
     by true w k h later = let some : first_wide t us n (f ∷ fs) ≡ Some (16 + n) = ap (λ c. cond c (Some (16 + n)) (first_wide t us (suc n) fs)) w in absurd cc
     by false w zero h later =
         let here : n + 0 ≡ n = omega arith in
-        ap (λ (x : Function). is_wide t x.body (unevaluated_at us (n + 0))) (sym (same_Some f g h)) ∙ (ap (λ m. is_wide t f.body (unevaluated_at us m)) here ∙ w)
+        ap (λ (x : Function). is_wide t x.body (counted_at us (n + 0))) (sym (same_Some f g h)) ∙ (ap (λ m. is_wide t f.body (counted_at us m)) here ∙ w)
     by false w (suc m) h later =
         let there : n + suc m ≡ suc n + m = omega arith in
-        ap (λ i. is_wide t g.body (unevaluated_at us i)) there ∙ later (sym (ap (λ c. cond c (Some (16 + n)) (first_wide t us (suc n) fs)) w) ∙ e) m h
+        ap (λ i. is_wide t g.body (counted_at us i)) there ∙ later (sym (ap (λ c. cond c (Some (16 + n)) (first_wide t us (suc n) fs)) w) ∙ e) m h
 
 -- where neither of two tests holds, the second doesn't
 second_false : (a b : Bool) → (a || b) ≡ false → b ≡ false
@@ -117,7 +117,7 @@ module _ (p : Declared) where
 
   few_in : (us : List ℕ) → first_wide p.table us 0 p.functions ≡ None → (f : ℕ) (b : typed.Body) → Found p [] nowhere f b → statement_waits b.statements ≤ 64
   few_in us few f b w =
-      let n = unevaluated_at us (0 + w.place) in
+      let n = counted_at us (0 + w.place) in
       let no : is_wide p.table w.function.body n ≡ false = all_few p.table us 0 p.functions few w.place w.function w.there in
       let test : nat_lt 64 (statement_waits (statement_in p.table w.body.statements)) ≡ false =
       second_false (nat_lt 64 n) (nat_lt 64 (statement_waits (statement_in p.table w.body.statements))) (ap (λ o. is_wide p.table o n) (sym w.has) ∙ no) in

@@ -1,5 +1,5 @@
 -- How many values wait in the functions of a program.
-use Rattle.std.specs.Prelude.{ℕ, suc, ◌+◌, Bool, false, ◌||◌, cond, nat_lt, max, min, List, [], ◌∷◌, slice_index_or, Option, Some, None}
+use Rattle.std.specs.Prelude.{ℕ, suc, ◌+◌, Bool, ◌||◌, cond, nat_lt, max, min, List, [], ◌∷◌, slice_index_or, Option, Some, None}
 use Rattle.c_builtins.specs.Table.{first_source_function}
 use Rattle.c_code.specs.Valid.{most_values}
 use Rattle.c_typing.specs.TypedTree.{Callee, Typed, AnObject, AFunction, AValue, SourceFunction, BuiltinFunction, Through}
@@ -30,19 +30,19 @@ calling_waits (AnObject o) n = max 1 n
 calling_waits (AFunction f t) n = call_waits f n
 calling_waits (AValue v) n = max 1 n
 
--- whether more than 64 values wait in a function, where so many do in the expressions of its body that aren't evaluated
-abbrev pub is_wide : Table → Option Body → (unevaluated : ℕ) → Bool
-is_wide t None n = false
+-- whether more than 64 values wait in a function, where its source says that so many do
+abbrev pub is_wide : Table → Option Body → (counted : ℕ) → Bool
+is_wide t None n = nat_lt most_values n
 is_wide t (Some b) n = nat_lt most_values n || nat_lt most_values (statement_waits (statement_in t b.statements))
 
--- how many values wait in what isn't evaluated of the function at a place; none where nothing is said of it
-abbrev pub unevaluated_at : List ℕ → ℕ → ℕ
-unevaluated_at us place = slice_index_or us place 0
+-- how many values the source says to wait in the function at a place; none where nothing is said of it
+abbrev pub counted_at : List ℕ → ℕ → ℕ
+counted_at us place = slice_index_or us place 0
 
 -- the number of the first such function, where these have the places from one on
-abbrev pub first_wide : Table → (unevaluated : List ℕ) → (place : ℕ) → List Function → Option ℕ
+abbrev pub first_wide : Table → (counted : List ℕ) → (place : ℕ) → List Function → Option ℕ
 first_wide t us place [] = None
-first_wide t us place (f ∷ fs) = cond (is_wide t f.body (unevaluated_at us place)) (Some (first_source_function + place)) (first_wide t us (suc place) fs)
+first_wide t us place (f ∷ fs) = cond (is_wide t f.body (counted_at us place)) (Some (first_source_function + place)) (first_wide t us (suc place) fs)
 
 -- so many nodes a source may have
 abbrev pub most_nodes : ℕ

@@ -40,23 +40,23 @@ fn code(alloc: Global, program: &TypedProgram) -> Result<Code, AllocError>
     Ok(Code::new(builtins, sources, instrs))
 }
 
-/// The code of a program whose source has so many nodes. `unevaluated` says of each function, in their order, how many values
-/// wait at most in the expressions of its body that aren't evaluated, as under `sizeof` and in lengths of arrays; more than 255
+/// The code of a program whose source has so many nodes. `counted` says of each function, in their order, how many values wait at
+/// most in the expressions of its body as the source says it, those under `sizeof` and in lengths of arrays among them; more than 255
 /// count as 255, and where it ends there are none.
 ///
 /// `Long` where the nodes are more than 131,072; else `Wide` with the number of the first function in which more than 64 values
-/// wait, in what is evaluated or not; else the code, or `Memory` where there is no memory for it or a number is too great for an
-/// instruction.
+/// wait, as is counted or in its typed body; else the code, or `Memory` where there is no memory for it or a number is too great for
+/// an instruction.
 pub fn lower(
     alloc: Global,
     program: &TypedProgram,
     nodes: usize,
-    unevaluated: &[u8],
+    counted: &[u8],
 ) -> Result<Code, LowerError>
     requires { IsFit program.now }
     ensures long { (result ≡ Err LowerError.Long) ↔ (most_nodes < nodes) }
-    ensures wide { (f : ℕ) → (result ≡ Err (LowerError.Wide f)) ↔ ((nodes ≤ most_nodes) × (first_wide_of program.now.table unevaluated.now 0 program.now.functions ≡ Some f)) }
-    ensures few { OnOk result ((nodes ≤ most_nodes) × (first_wide_of program.now.table unevaluated.now 0 program.now.functions ≡ None)) }
+    ensures wide { (f : ℕ) → (result ≡ Err (LowerError.Wide f)) ↔ ((nodes ≤ most_nodes) × (first_wide_of program.now.table counted.now 0 program.now.functions ≡ Some f)) }
+    ensures few { OnOk result ((nodes ≤ most_nodes) × (first_wide_of program.now.table counted.now 0 program.now.functions ≡ None)) }
     ensures code { IfOk result (λ c. c ≡ lowered program.now) }
     ensures marks { IfOk result (λ c. (s : Source) → IsSourceOf program.now s → MakesTheMarks s c) }
     ensures names { IfOk result (λ c. NamesNoMore program.now c) }
@@ -65,7 +65,7 @@ pub fn lower(
         return Err(LowerError::Long);
     }
     emitted_code_makes_the_marks();
-    match first_wide(program, unevaluated) {
+    match first_wide(program, counted) {
         Some(number) => Err(LowerError::Wide(number)),
         None => Ok(code(alloc, program)?),
     }

@@ -6,7 +6,7 @@ ghost use Rattle.c_typed_program.specs.Declarations.{IsBody};
 ghost use Rattle.c_typed_program.specs.Statements.{AllStatements, IsMaybeAt, IsStatement, maybe_at, statement_in, statements_in};
 ghost use Rattle.c_typed_table.specs.Tables.{Table};
 ghost use Rattle.c_placement.specs.Heights.{maybe_waits as maybe_waits_of, statement_waits as statement_waits_of, statements_waits as statements_waits_of};
-ghost use Rattle.c_lower.specs.Waits.{capped, first_wide as first_wide_of, is_wide as is_wide_of, unevaluated_at};
+ghost use Rattle.c_lower.specs.Waits.{capped, first_wide as first_wide_of, is_wide as is_wide_of, counted_at};
 
 use crate::waits::{either, value_waits};
 use c_builtins::FIRST_SOURCE_FUNCTION;
@@ -78,37 +78,33 @@ fn statements_waits(table: &TypedTable, statements: &[Statement]) -> u8
     most
 }
 
-// Whether more than 64 values wait in a function, where so many do in the expressions of its body that aren't evaluated.
-fn is_wide(table: &TypedTable, body: &Option<Body>, unevaluated: u8) -> bool
+// Whether more than 64 values wait in a function, where its source says that so many do.
+fn is_wide(table: &TypedTable, body: &Option<Body>, counted: u8) -> bool
     requires { IsBody table.now body.now }
-    ensures { result ≡ is_wide_of table.now body.now unevaluated }
+    ensures { result ≡ is_wide_of table.now body.now counted }
 {
     match body {
-        None => false,
-        Some(body) => unevaluated > MOST_VALUES
+        None => counted > MOST_VALUES,
+        Some(body) => counted > MOST_VALUES
             || statement_waits(table, &body.statements) > MOST_VALUES,
     }
 }
 
 // The count of the function at a place; 0 where there is none.
 fn count_at(counts: &[u8], place: usize) -> u8
-    ensures { result ≡ unevaluated_at counts.now place }
+    ensures { result ≡ counted_at counts.now place }
 {
     counts.get(place).copied().unwrap_or(0)
 }
 
 /// The number of the first function in which more than 64 values wait; `None` where there is none. It takes time linear in
 /// the code.
-pub fn first_wide(program: &TypedProgram, unevaluated: &[u8]) -> Option<u16>
+pub fn first_wide(program: &TypedProgram, counted: &[u8]) -> Option<u16>
     requires { first_source_function + length program.now.functions ≤ 2 ^ 16 }
-    ensures { result ≡ first_wide_of program.now.table unevaluated.now 0 program.now.functions }
+    ensures { result ≡ first_wide_of program.now.table counted.now 0 program.now.functions }
 {
     for (place, function) in program.functions().iter().enumerate() {
-        if is_wide(
-            program.table(),
-            &function.body,
-            count_at(unevaluated, place),
-        ) {
+        if is_wide(program.table(), &function.body, count_at(counted, place)) {
             return Some(FIRST_SOURCE_FUNCTION + place as u16);
         }
     }

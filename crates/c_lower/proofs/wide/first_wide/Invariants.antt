@@ -3,4 +3,4 @@ use Rattle.c_lower.specs.Waits.{first_wide}
 use Rattle.c_lower.proofs.wide.first_wide.Given as goal
 
 abbrev pub invariant-loop-place : goal.invariant-loop-place
-invariant-loop-place l = first_wide l.program.table l.unevaluated l.place (drop l.place l.program.functions) ≡ first_wide l.program.table l.unevaluated 0 l.program.functions
+invariant-loop-place l = first_wide l.program.table l.counted l.place (drop l.place l.program.functions) ≡ first_wide l.program.table l.counted 0 l.program.functions
