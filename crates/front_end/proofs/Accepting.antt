@@ -1,5 +1,5 @@
 -- Sources that are accepted.
-use Rattle.std.proofs.Common.{◌≡◌, ℕ, List, Ok, sym, ◌∙◌, subst}
+use Rattle.std.proofs.Common.{◌≡◌, ℕ, List, None, Ok, sym, ◌∙◌, subst}
 use Rattle.c_lexer.specs.declared.token.Token.{Token}
 use Rattle.c_lexer.specs.Lexing.{IsTokens}
 use Rattle.c_parser.specs.Parsed.{IsParsed}
@@ -12,19 +12,19 @@ use Rattle.c_types.specs.declared.source.TypedSource.{TypedSource}
 use Rattle.annot_reader.specs.Interfaces.{IsInterface}
 use Rattle.annot_types.specs.Sources as readable
 use Rattle.front_end.specs.declared.source.CheckedSource.{CheckedSource}
-use Rattle.front_end.specs.Answers.{IsAccepted, IsTyped, SaysOf}
-use Rattle.front_end.specs.Sources.{IsSource}
-use Rattle.front_end.proofs.Refusals.{nothing_wrong}
+use Rattle.front_end.specs.Answers.{IsAccepted, IsCode, IsTyped, SaysOf}
+use Rattle.front_end.specs.Sources.{IsSource, too_large}
+use Rattle.front_end.proofs.Refusals.{read}
 
 -- the annotations of a typed source can be read
 pub typed_source : (N : Nodes) (ts : List Token) (ds : Decls) (s : TypedSource) → (t : IsTyped N ts ds s) → readable.IsTypedSource N s.env s.functions ds t.program
 typed_source N ts ds s t = record { holds = t.holds; fits = t.fits; typed = t.typed; env = t.is.env; functions = t.is.functions; numbers = t.is.are_functions }
 
 pub accepted : (bytes cut : List ℕ) (N : Nodes) (ds : Decls) (s : TypedSource) (c : CheckedSource) → (source : IsSource bytes ds) → (t : IsTyped N source.tokens ds s) → IsProgram c.program t.program → c.program.texts ≡ s.texts
-    → IsInterface cut (annotations ds t.program) (Ok c.interface) → IsAccepted bytes cut c
-accepted bytes cut N ds s c source t program texts reads = record {
-  right = record { ds = ds; source = source; right = nothing_wrong cut ds t.program c.interface t.typed reads };
-  says = subst (λ (o : Outcome). SaysOf cut source.tokens ds o c) (sym t.typed) (program, texts ∙ t.texts, reads);
+    → IsInterface cut (annotations ds t.program) (Ok c.interface) → too_large ds ≡ None → IsCode c.program c.code → IsAccepted bytes cut c
+accepted bytes cut N ds s c source t program texts reads small code = record {
+  right = record { ds = ds; source = source; right = read cut ds t.program c.interface t.typed reads ∙ small };
+  says = subst (λ (o : Outcome). SaysOf cut source.tokens ds o c) (sym t.typed) (program, texts ∙ t.texts, reads, code);
 }
 
 -- the bytes are a source where their tokens have a tree

@@ -1,3 +1,4 @@
+mod Lowering
 mod Refusals
 mod Accepting
 pub mod OneAnswer

@@ -1,5 +1,5 @@
 -- What the errors of the parts say of a source.
-use Rattle.std.proofs.Common.{◌≡◌, ◌≢◌, ◌↔◌, ℕ, List, Some, None, Result, Ok, Err, sym, ◌∙◌, ap, refl}
+use Rattle.std.proofs.Common.{◌≡◌, ◌≢◌, ◌↔◌, ℕ, List, Some, Result, Ok, Err, sym, ◌∙◌, ap, refl}
 use Rattle.std.specs.Result.{IsErrOf}
 use Rattle.c_lexer.specs.declared.error.LexError.{LexError}
 use Rattle.c_lexer.specs.declared.error.LexError.TheVariants as lexing
@@ -27,11 +27,13 @@ use Rattle.annot_reader.specs.declared.error.InterfaceError.{InterfaceError}
 use Rattle.annot_reader.specs.declared.error.InterfaceError.TheVariants as reading
 use Rattle.annot_reader.specs.Interface.{Interface}
 use Rattle.annot_reader.specs.Interfaces.{IsInterface}
+use Rattle.front_end.specs.declared.error.SourceError.{SourceError}
 use Rattle.front_end.specs.declared.error.SourceError.TheVariants as errors
+use Rattle.front_end.specs.declared.error.SourceLimit.TheVariants.{Types}
 use Rattle.front_end.specs.declared.error.SourceRule.TheVariants as rules
-use Rattle.front_end.specs.Answers.{IsRefused}
+use Rattle.front_end.specs.Answers.{IsRefused, IsTooLarge}
 use Rattle.front_end.specs.Errors.{by_annotations, by_grammar, by_tokens, by_types, found}
-use Rattle.front_end.specs.Sources.{IsSource, fault_of, fault_of_annotations, fault_of_types, no_tokens, no_tree, too_deep, refused, unless_named, which_of}
+use Rattle.front_end.specs.Sources.{IsSource, fault_of, fault_of_annotations, fault_of_types, no_tokens, no_tree, too_deep, too_large, refused, unless_named, which_of}
 
 -- ---- tokens and grammar
 
@@ -72,8 +74,8 @@ broken_types bytes cut ds texts tags (limits.Rule from rule) (typing.Rule f r) s
     (ap (fault_of_types cut ds) same ∙ ap (λ (n : ℕ). Some (found (rules.Type rule) n)) (sym is.0) ∙ ap (λ (n : ℕ). Some (found (rules.Type n) f)) (sym is.1))
 broken_types bytes cut ds texts tags (limits.Rule from rule) (typing.Limit v) same source is = absurd is
 broken_types bytes cut ds texts tags (limits.Limit w) (typing.Limit v) same source is =
-    refused (errors.Limit v) ds source
-    (ap (fault_of_types cut ds) same ∙ ap (λ (n : limits.Which). Some (errors.Limit (which_of n))) (sym is) ∙ ap (λ (n : Which). Some (errors.Limit n)) (same_number v))
+    refused (errors.Limit (Types v)) ds source
+    (ap (fault_of_types cut ds) same ∙ ap (λ (n : limits.Which). Some (errors.Limit (Types (which_of n)))) (sym is) ∙ ap (λ (n : Which). Some (errors.Limit (Types n))) (same_number v))
 broken_types bytes cut ds texts tags (limits.Limit w) (typing.Rule f r) same source is = absurd is
 broken_types bytes cut ds texts tags (limits.Typed p) (typing.Rule f r) same source is = absurd is
 broken_types bytes cut ds texts tags (limits.Typed p) (typing.Limit v) same source is = absurd is
@@ -95,28 +97,36 @@ program_of ds texts tags s is = typed_program ds texts tags (outcome ds) s refl 
 
 -- ---- annotations
 
-broken_annotations : (cut : List ℕ) (c : Checked Annotated) (f r : ℕ) → IsInterface cut c (Err (reading.Rule f r)) → fault_of_annotations cut c ≡ Some (found (rules.Annotation r) f)
-broken_annotations cut (Broken from rule) f r is = ap (λ (n : ℕ). Some (found (rules.Annotation rule) n)) (sym is.0) ∙ ap (λ (n : ℕ). Some (found (rules.Annotation n) f)) (sym is.1)
-broken_annotations cut (Fine a) f r is = absurd is
-broken_annotations cut (Large a) f r is = absurd is
+broken_annotations : (cut : List ℕ) (ds : Decls) (c : Checked Annotated) (f r : ℕ) → IsInterface cut c (Err (reading.Rule f r)) → fault_of_annotations cut ds c ≡ Some (found (rules.Annotation r) f)
+broken_annotations cut ds (Broken from rule) f r is = ap (λ (n : ℕ). Some (found (rules.Annotation rule) n)) (sym is.0) ∙ ap (λ (n : ℕ). Some (found (rules.Annotation n) f)) (sym is.1)
+broken_annotations cut ds (Fine a) f r is = absurd is
+broken_annotations cut ds (Large a) f r is = absurd is
 
-no_cut : (cut : List ℕ) (c : Checked Annotated) → IsInterface cut c (Err reading.NoSuchCut) → fault_of_annotations cut c ≡ Some errors.NoSuchCut
-no_cut cut (Fine a) is = ap unless_named is
-no_cut cut (Large a) is = ap unless_named is
-no_cut cut (Broken from rule) is = absurd is
+no_cut : (cut : List ℕ) (ds : Decls) (c : Checked Annotated) → IsInterface cut c (Err reading.NoSuchCut) → fault_of_annotations cut ds c ≡ Some errors.NoSuchCut
+no_cut cut ds (Fine a) is = ap (unless_named ds) is
+no_cut cut ds (Large a) is = ap (unless_named ds) is
+no_cut cut ds (Broken from rule) is = absurd is
 
 pub by_reading : (bytes cut : List ℕ) (ds : Decls) (p : Program) (error : InterfaceError) → outcome ds ≡ limits.Typed p → IsSource bytes ds
     → IsInterface cut (annotations ds p) (Err error) → IsRefused bytes cut (by_annotations error)
 by_reading bytes cut ds p (reading.Rule f r) same source is =
-    refused (found (rules.Annotation r) f) ds source (ap (fault_of_types cut ds) same ∙ broken_annotations cut (annotations ds p) f r is)
-by_reading bytes cut ds p reading.NoSuchCut same source is = refused errors.NoSuchCut ds source (ap (fault_of_types cut ds) same ∙ no_cut cut (annotations ds p) is)
+    refused (found (rules.Annotation r) f) ds source (ap (fault_of_types cut ds) same ∙ broken_annotations cut ds (annotations ds p) f r is)
+by_reading bytes cut ds p reading.NoSuchCut same source is = refused errors.NoSuchCut ds source (ap (fault_of_types cut ds) same ∙ no_cut cut ds (annotations ds p) is)
 by_reading bytes cut ds p reading.Memory same source is = tt
 
-named : (cut : List ℕ) (c : Checked Annotated) (i : Interface) → IsInterface cut c (Ok i) → fault_of_annotations cut c ≡ None
-named cut (Fine a) i is = ap unless_named is.1
-named cut (Large a) i is = ap unless_named is.1
-named cut (Broken from rule) i is = absurd is
+named : (cut : List ℕ) (ds : Decls) (c : Checked Annotated) (i : Interface) → IsInterface cut c (Ok i) → fault_of_annotations cut ds c ≡ too_large ds
+named cut ds (Fine a) i is = ap (unless_named ds) is.1
+named cut ds (Large a) i is = ap (unless_named ds) is.1
+named cut ds (Broken from rule) i is = absurd is
 
--- nothing is wrong where the interface of the cut was read
-pub nothing_wrong : (cut : List ℕ) (ds : Decls) (p : Program) (i : Interface) → outcome ds ≡ limits.Typed p → IsInterface cut (annotations ds p) (Ok i) → fault_of cut ds ≡ None
-nothing_wrong cut ds p i same is = ap (fault_of_types cut ds) same ∙ named cut (annotations ds p) i is
+-- where the interface of the cut was read, nothing else can be wrong than that the source is too large
+pub read : (cut : List ℕ) (ds : Decls) (p : Program) (i : Interface) → outcome ds ≡ limits.Typed p → IsInterface cut (annotations ds p) (Ok i) → fault_of cut ds ≡ too_large ds
+read cut ds p i same is = ap (fault_of_types cut ds) same ∙ named cut ds (annotations ds p) i is
+
+-- ---- code
+
+pub by_size : (bytes cut : List ℕ) (ds : Decls) (error : SourceError) → IsSource bytes ds → fault_of cut ds ≡ too_large ds → IsTooLarge ds error → IsRefused bytes cut error
+by_size bytes cut ds (errors.Fault f) source same is = refused (errors.Fault f) ds source (same ∙ is)
+by_size bytes cut ds errors.NoSuchCut source same is = refused errors.NoSuchCut ds source (same ∙ is)
+by_size bytes cut ds (errors.Limit l) source same is = refused (errors.Limit l) ds source (same ∙ is)
+by_size bytes cut ds errors.Memory source same is = tt

@@ -1,5 +1,5 @@
 -- What an answer to the bytes of a source and the name of a cut says.
-use Rattle.std.specs.Prelude.{◌≡◌, ℕ, List, Result, Ok, Err}
+use Rattle.std.specs.Prelude.{◌≡◌, ℕ, List, Some, Result, Ok, Err}
 use Rattle.c_lexer.specs.declared.token.Token.{Token}
 use Rattle.c_syntax.specs.Nodes.{Nodes}
 use Rattle.c_syntax.specs.Stands.{Holds}
@@ -7,16 +7,24 @@ use Rattle.c_syntax.specs.Syntax.{Decls}
 use Rattle.c_walks.specs.Numbers.{FitsDecls}
 use Rattle.c_typing.specs.Limits.{Outcome, Typed, outcome}
 use Rattle.c_typing.specs.Sources.{Program, tags_of}
+use Rattle.c_code.specs.Machine.{Flat}
+use Rattle.c_meaning.specs.Context.{Source}
+use Rattle.c_placement.specs.Laws.{MakesTheMarks}
+use Rattle.c_typed_program.specs.Declarations.{Declared}
 use Rattle.c_typed_program.specs.Programs.{IsProgram}
+use Rattle.c_typed_program.specs.declared.text.TextLiteral.{TextLiteral}
+use Rattle.c_lower.specs.Lowered.{IsSourceOf, lowered}
+use Rattle.c_lower.specs.Named.{NamesNoMore}
 use Rattle.cut_meaning.specs.Cuts.{annotations}
 use Rattle.c_types.specs.declared.source.TypedSource.{TypedSource}
 use Rattle.c_types.specs.Sources.{IsTypedAs}
 use Rattle.c_types.specs.Texts.{texts_among}
+use Rattle.annot_reader.specs.Interface.{Interface}
 use Rattle.annot_reader.specs.Interfaces.{IsInterface}
 use Rattle.front_end.specs.declared.error.SourceError.{SourceError}
 use Rattle.front_end.specs.declared.error.SourceError.TheVariants.{Memory}
 use Rattle.front_end.specs.declared.source.CheckedSource.{CheckedSource}
-use Rattle.front_end.specs.Sources.{IsRight, IsWrong}
+use Rattle.front_end.specs.Sources.{IsRight, IsWrong, too_large}
 
 -- the tree is that of these declarations, which keep all rules and limits of types, and this is what they are, with the strings among
 -- the tokens
@@ -28,9 +36,15 @@ pub record IsTyped (N : Nodes) (ts : List Token) (ds : Decls) (s : TypedSource) 
   pub is : IsTypedAs (tags_of ds) program s
   pub texts : s.texts ≡ texts_among ts
 
--- the typed program, its strings and the interface of the cut are what these declarations and tokens say
+-- the flat code of a program: it makes exactly the marks of the source, wherever its objects lie, and names no more than the source does
+pub record IsCode (p : Declared) (c : Flat) : Type 0 where
+  pub lowered_is : c ≡ lowered p
+  pub marks : (s : Source) → IsSourceOf p s → MakesTheMarks s c
+  pub names : NamesNoMore p c
+
+-- the typed program, its strings, the interface of the cut and the code are what these declarations and tokens say
 abbrev pub SaysOf : (cut : List ℕ) → List Token → Decls → Outcome → CheckedSource → Type 0
-SaysOf cut ts ds (Typed p) c = IsProgram c.program p × (c.program.texts ≡ texts_among ts) × IsInterface cut (annotations ds p) (Ok c.interface)
+SaysOf cut ts ds (Typed p) c = IsProgram c.program p × (c.program.texts ≡ texts_among ts) × IsInterface cut (annotations ds p) (Ok c.interface) × IsCode c.program c.code
 SaysOf cut ts ds o c = ⊥
 
 -- nothing is wrong with the source that the bytes are, and this is what it says
@@ -42,6 +56,16 @@ pub record IsAccepted (bytes cut : List ℕ) (c : CheckedSource) : Type 0 where
 abbrev pub IsRefused : (bytes cut : List ℕ) → SourceError → Type 0
 IsRefused bytes cut Memory = Unit {0}
 IsRefused bytes cut error = IsWrong bytes cut error
+
+-- this is too much of a source; of memory nothing is said
+abbrev pub IsTooLarge : Decls → SourceError → Type 0
+IsTooLarge ds Memory = Unit {0}
+IsTooLarge ds error = too_large ds ≡ Some error
+
+-- the program with these strings, and the interface of the cut, are what the source says, or its annotations are wrong in this way
+abbrev pub IsRead : (bytes cut : List ℕ) → Decls → Program → List TextLiteral → Result (Declared × Interface) SourceError → Type 0
+IsRead bytes cut ds p texts (Ok found) = IsProgram found.0 p × (found.0.texts ≡ texts) × IsInterface cut (annotations ds p) (Ok found.1)
+IsRead bytes cut ds p texts (Err error) = IsRefused bytes cut error
 
 -- the source is accepted, or wrong in this way
 abbrev pub IsChecked : (bytes cut : List ℕ) → Result CheckedSource SourceError → Type 0

@@ -10,6 +10,9 @@ use Rattle.annot_reader.specs.declared.error.InterfaceError.{InterfaceError}
 use Rattle.annot_reader.specs.declared.error.InterfaceError.TheVariants as reading
 use Rattle.front_end.specs.declared.error.SourceError.{SourceError}
 use Rattle.front_end.specs.declared.error.SourceError.TheVariants.{Fault, NoSuchCut, Limit, Memory}
+use Rattle.c_lower.specs.declared.error.LowerError.{LowerError}
+use Rattle.c_lower.specs.declared.error.LowerError.TheVariants as lowering
+use Rattle.front_end.specs.declared.error.SourceLimit.TheVariants.{Types, Nodes, Values}
 use Rattle.front_end.specs.declared.error.SourceRule.{SourceRule}
 use Rattle.front_end.specs.declared.error.SourceRule.TheVariants as rules
 
@@ -31,10 +34,15 @@ by_grammar parsing.Memory = Memory
 
 abbrev pub by_types : CheckError → SourceError
 by_types (typing.Rule at rule) = found (rules.Type rule) at
-by_types (typing.Limit which) = Limit which
+by_types (typing.Limit which) = Limit (Types which)
 by_types typing.Memory = Memory
 
 abbrev pub by_annotations : InterfaceError → SourceError
 by_annotations (reading.Rule at rule) = found (rules.Annotation rule) at
 by_annotations reading.NoSuchCut = NoSuchCut
 by_annotations reading.Memory = Memory
+
+abbrev pub by_code : LowerError → SourceError
+by_code lowering.Long = Limit Nodes
+by_code (lowering.Wide function) = Limit Values
+by_code lowering.Memory = Memory

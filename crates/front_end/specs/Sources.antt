@@ -1,11 +1,15 @@
 -- What the bytes of a source and the name of a cut say: that the source is accepted, or what is wrong with it.
-use Rattle.std.specs.Prelude.{◌≡◌, ℕ, Bool, true, false, List, Option, Some, None}
+use Rattle.std.specs.Prelude.{◌≡◌, ℕ, Bool, true, false, ◌||◌, nat_lt, if◌then◌else◌, List, [], ◌∷◌, Option, Some, None}
 use Rattle.c_lexer.specs.declared.token.Token.{Token}
 use Rattle.c_lexer.specs.declared.error.LexError.{LexError}
 use Rattle.c_lexer.specs.Lexing as lexing
 use Rattle.c_syntax.specs.Sources.{Spells}
 use Rattle.c_syntax.specs.Syntax.{Decls}
 use Rattle.c_depth.specs.Deep.{IsDeepAt, IsShallow}
+use Rattle.c_code.specs.Valid.{most_values}
+use Rattle.c_nodes.specs.Counts.{source_nodes}
+use Rattle.c_waits.specs.Functions.{function_waits}
+use Rattle.c_lower.specs.Waits.{most_nodes}
 use Rattle.c_typing.specs.Checked.{Checked, Fine, Large, Broken}
 use Rattle.c_typing.specs.Limits as typing
 use Rattle.c_typing.specs.Limits.{outcome}
@@ -15,6 +19,7 @@ use Rattle.c_types.specs.declared.error.Which.{Which}
 use Rattle.c_types.specs.declared.error.Which.TheVariants as numbers
 use Rattle.front_end.specs.declared.error.SourceError.{SourceError}
 use Rattle.front_end.specs.declared.error.SourceError.TheVariants.{NoSuchCut, Limit}
+use Rattle.front_end.specs.declared.error.SourceLimit.TheVariants.{Types, Nodes, Values}
 use Rattle.front_end.specs.declared.error.SourceRule.TheVariants as rules
 use Rattle.front_end.specs.Errors.{by_tokens, found}
 
@@ -33,21 +38,33 @@ which_of typing.Object = numbers.Object
 which_of typing.Globals = numbers.Globals
 which_of typing.Frame = numbers.Frame
 
-abbrev pub unless_named : Bool → Option SourceError
-unless_named true = None
-unless_named false = Some NoSuchCut
+-- more than 64 values wait in one of the functions that have these numbers
+abbrev pub is_wide : List ℕ → Bool
+is_wide [] = false
+is_wide (n ∷ ns) = nat_lt most_values n || is_wide ns
 
-abbrev pub fault_of_annotations : (cut : List ℕ) → Checked Annotated → Option SourceError
-fault_of_annotations cut (Fine a) = unless_named (is_named cut a)
-fault_of_annotations cut (Large a) = unless_named (is_named cut a)
-fault_of_annotations cut (Broken from rule) = Some (found (rules.Annotation rule) from)
+abbrev pub unless_large : (nodes : ℕ) → (waits : List ℕ) → Option SourceError
+unless_large nodes waits = if nat_lt most_nodes nodes then Some (Limit Nodes) else if is_wide waits then Some (Limit Values) else None
+
+-- what there is too much of to make flat code of a source
+abbrev pub too_large : Decls → Option SourceError
+too_large ds = unless_large (source_nodes ds) (function_waits ds)
+
+abbrev pub unless_named : Decls → Bool → Option SourceError
+unless_named ds true = too_large ds
+unless_named ds false = Some NoSuchCut
+
+abbrev pub fault_of_annotations : (cut : List ℕ) → Decls → Checked Annotated → Option SourceError
+fault_of_annotations cut ds (Fine a) = unless_named ds (is_named cut a)
+fault_of_annotations cut ds (Large a) = unless_named ds (is_named cut a)
+fault_of_annotations cut ds (Broken from rule) = Some (found (rules.Annotation rule) from)
 
 abbrev pub fault_of_types : (cut : List ℕ) → Decls → typing.Outcome → Option SourceError
 fault_of_types cut ds (typing.Rule from rule) = Some (found (rules.Type rule) from)
-fault_of_types cut ds (typing.Limit which) = Some (Limit (which_of which))
-fault_of_types cut ds (typing.Typed p) = fault_of_annotations cut (annotations ds p)
+fault_of_types cut ds (typing.Limit which) = Some (Limit (Types (which_of which)))
+fault_of_types cut ds (typing.Typed p) = fault_of_annotations cut ds (annotations ds p)
 
--- what is wrong with a source that has a tree: its types, its limits, its annotations, or that none names the cut
+-- what is wrong with a source that has a tree: its types, their limits, its annotations, that none names the cut, or that it is too large
 abbrev pub fault_of : (cut : List ℕ) → Decls → Option SourceError
 fault_of cut ds = fault_of_types cut ds (outcome ds)
 

@@ -1,12 +1,15 @@
 //! Why a source isn't accepted.
 
 ghost use Rattle.std.specs.Prelude.{◌≡◌};
-ghost use Rattle.front_end.specs.Errors.{by_annotations, by_grammar, by_tokens, by_types, found};
+ghost use Rattle.front_end.specs.declared.error.SourceError.TheVariants.{Memory as NoMemory};
+ghost use Rattle.front_end.specs.Errors.{by_annotations, by_code, by_grammar, by_tokens, by_types, found};
 
 use annot_reader::InterfaceError;
 use c_lexer::LexError;
+use c_lower::LowerError;
 use c_parser::ParseError;
 use c_types::{CheckError, Which};
+use std::alloc::AllocError;
 use thiserror::Error;
 
 /// A rule that a source breaks: of its tokens, its grammar, its types or its annotations.
@@ -37,8 +40,19 @@ pub struct SourceFault {
     pub at: u32,
 }
 
+/// A number that a source may not go past.
+#[derive(Clone, Copy, Debug, PartialEq, Eq)]
+pub enum SourceLimit {
+    /// One of those that its types tell.
+    Types(Which),
+    /// 131,072 nodes of its tree.
+    Nodes,
+    /// 64 values that wait in a function, in what is evaluated or not.
+    Values,
+}
+
 /// Why a source isn't accepted. The first of these that stands is answered, in the order in which they are listed here and in
-/// `SourceRule`, but the limits come before the annotations.
+/// `SourceRule`, but the limits of types come before the annotations, and nodes and values last.
 #[derive(Clone, Copy, Debug, PartialEq, Eq, Error)]
 pub enum SourceError {
     /// It breaks this rule.
@@ -49,7 +63,7 @@ pub enum SourceError {
     NoSuchCut,
     /// It goes past this number.
     #[error("the source is too large: {0:?}")]
-    Limit(Which),
+    Limit(SourceLimit),
     /// Want of memory.
     #[error("out of memory")]
     Memory,
@@ -93,7 +107,7 @@ impl From<CheckError> for SourceError {
     fn from(error: CheckError) -> Self {
         match error {
             CheckError::Rule(at, rule) => broken(SourceRule::Type(rule), at),
-            CheckError::Limit(which) => SourceError::Limit(which),
+            CheckError::Limit(which) => SourceError::Limit(SourceLimit::Types(which)),
             CheckError::Memory => SourceError::Memory,
         }
     }
@@ -108,5 +122,25 @@ impl From<InterfaceError> for SourceError {
             InterfaceError::NoSuchCut => SourceError::NoSuchCut,
             InterfaceError::Memory => SourceError::Memory,
         }
+    }
+}
+
+impl From<LowerError> for SourceError {
+    ghost from_gives = { λ x e. e ≡ by_code x };
+
+    fn from(error: LowerError) -> Self {
+        match error {
+            LowerError::Long => SourceError::Limit(SourceLimit::Nodes),
+            LowerError::Wide(_) => SourceError::Limit(SourceLimit::Values),
+            LowerError::Memory => SourceError::Memory,
+        }
+    }
+}
+
+impl From<AllocError> for SourceError {
+    ghost from_gives = { λ _ e. e ≡ NoMemory };
+
+    fn from(_: AllocError) -> Self {
+        SourceError::Memory
     }
 }

@@ -1,8 +1,9 @@
-//! A source as all commands take it: read as tokens, by its grammar, its types and its annotations.
+//! A source as all commands take it: read as tokens, by its grammar, its types and its annotations, with its flat code.
 #![tactic(auto)]
 
+mod code;
 mod error;
 mod source;
 
-pub use error::{SourceError, SourceFault, SourceRule};
+pub use error::{SourceError, SourceFault, SourceLimit, SourceRule};
 pub use source::{CheckedSource, check_source};

@@ -8,12 +8,14 @@ ghost use Rattle.c_syntax.specs.Syntax.{Decls};
 ghost use Rattle.c_parser.specs.Parsed.{IsParsed};
 ghost use Rattle.c_walks.specs.Numbers.{FitsDecls};
 ghost use Rattle.c_types.specs.Answers.{IsSource as IsFit};
-ghost use Rattle.front_end.specs.Answers.{IsChecked, IsRefused, IsTyped};
+ghost use Rattle.front_end.specs.Answers.{IsChecked, IsRead, IsRefused, IsTyped};
 ghost use Rattle.front_end.specs.Sources.{IsSource};
 
+use crate::code::code_of;
 use crate::error::SourceError;
 use annot_reader::Iface;
 use annot_types::interface_of;
+use c_code::Code;
 use c_lexer::{Token, lex};
 use c_parser::parse;
 use c_syntax::Tree;
@@ -22,11 +24,12 @@ use c_types::{TypedSource, check_source as check_types, sources_stay_typed};
 use c_walks::numbers_fit;
 use std::alloc::Global;
 
-/// A source that is accepted: its typed program, and the interface of the cut.
+/// A source that is accepted: its typed program, the interface of the cut, and its flat code.
 #[derive(Drop)]
 pub struct CheckedSource {
     pub program: TypedProgram,
     pub interface: Iface,
+    pub code: Code,
 }
 
 // The tokens that the bytes are.
@@ -64,15 +67,15 @@ fn typed(alloc: Global, tokens: &[Token], tree: &Tree) -> Result<TypedSource, So
     }
 }
 
-// The typed source with the interface of the cut.
+// The typed program with the interface of the cut.
 fn with_interface(
     alloc: Global,
     source: TypedSource,
     tree: &Tree,
     cut: &[u8],
-) -> Result<CheckedSource, SourceError>
+) -> Result<(TypedProgram, Iface), SourceError>
     requires { (ts : List Lexed) × (ds : Decls) × IsTyped tree.now ts ds source }
-    ensures { (bytes : List ℕ) (ds : Decls) → (s : IsSource bytes ds) → IsTyped tree.now s.tokens ds source → IsChecked bytes cut.now result }
+    ensures { (bytes : List ℕ) (ds : Decls) → (s : IsSource bytes ds) → (t : IsTyped tree.now s.tokens ds source) → IsRead bytes cut.now ds t.program source.texts result }
 {
     let TypedSource {
         env,
@@ -91,16 +94,14 @@ fn with_interface(
         globals,
         texts,
     };
-    Ok(CheckedSource {
-        program: source.into_program(),
-        interface,
-    })
+    Ok((source.into_program(), interface))
 }
 
-/// The source that these bytes are, at most 1 MiB, with the interface of the cut.
+/// The source that these bytes are, at most 1 MiB, with the interface of the cut and its flat code.
 ///
-/// `Fault` names a rule that the source breaks, with the offset where; `Limit` the first number that it goes past, where it breaks no rule
-/// of types; `NoSuchCut` where all rules hold and no declaration names the cut; `Memory` where there is no memory.
+/// `Fault` names a rule that the source breaks, with the offset where; `Limit` the first number of its types that it goes past, where it
+/// breaks no rule of types; `NoSuchCut` where all rules hold and no declaration names the cut; then `Limit` where it has more than 131,072
+/// nodes, or more than 64 values wait in one of its functions; `Memory` where there is no memory.
 pub fn check_source(alloc: Global, bytes: &[u8], cut: &[u8]) -> Result<CheckedSource, SourceError>
     requires { length bytes.now ≤ 1048576 }
     // The source is accepted where nothing is wrong with it; else this is.
@@ -111,5 +112,11 @@ pub fn check_source(alloc: Global, bytes: &[u8], cut: &[u8]) -> Result<CheckedSo
     numbers_fit();
     let source = typed(alloc, &tokens, &tree)?;
     drop(tokens);
-    with_interface(alloc, source, &tree, cut)
+    let (program, interface) = with_interface(alloc, source, &tree, cut)?;
+    let code = code_of(alloc, &tree, &program)?;
+    Ok(CheckedSource {
+        program,
+        interface,
+        code,
+    })
 }

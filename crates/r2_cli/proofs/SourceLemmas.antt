@@ -1,5 +1,5 @@
 -- What `check` leaves, from what reading the source and printing say.
-use Rattle.std.proofs.Common.{◌≡◌, ◌≢◌, ◌↔◌, ◌++◌, IfErr, inl, ℕ, List, true, false, Option, Result, Err, sym, ◌∙◌, ap, refl, subst, codes}
+use Rattle.std.proofs.Common.{◌≡◌, ◌++◌, IfErr, inl, ℕ, List, true, false, Option, Result, sym, ◌∙◌, ap, refl, codes}
 use Rattle.r2_base.specs.declared.fault.Fault.{Fault}
 use Rattle.r2_base.specs.Sinks.{TellsGrowth}
 use Rattle.r2_base.specs.Causes.{IsWriteCause}

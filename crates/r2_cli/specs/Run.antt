@@ -11,7 +11,7 @@ use Rattle.r2_cli.specs.Written.{Adds, AddsPrefix}
 use Rattle.r2_cli.specs.Order.{IsOrder}
 use Rattle.r2_cli.specs.Check.{IsCheck}
 use Rattle.r2_cli.specs.Source.{source_words, limit_words, no_cut_words}
-use Rattle.c_types.specs.declared.error.Which.{Which}
+use Rattle.front_end.specs.declared.error.SourceLimit.{SourceLimit}
 use Rattle.front_end.specs.declared.error.SourceRule.{SourceRule}
 use Rattle.front_end.specs.declared.error.SourceRule.TheVariants.{Token, Deep}
 use Rattle.r2_cli.specs.OrderText.{name_text}
@@ -108,7 +108,7 @@ pub data IsLine (words : List (List ℕ)) : Status → List ℕ → Type 0 where
   of_no_file : (name : List ℕ) → IsInput words name → IsLine words ReadFault (line_of (codes "no file " ++ name))
   of_write_fault : IsLine words WriteFault (line_of (codes "write fault"))
   of_source_limit : IsOfSource words → IsLine words Limit (line_of (codes "limit source 1048576"))
-  of_large : (which : Which) → IsOfSource words → IsLine words Limit (line_of (limit_words which))
+  of_large : (limit : SourceLimit) → IsOfSource words → IsLine words Limit (line_of (limit_words limit))
   of_log_limit : IsOfLog words → IsLine words Limit (line_of (codes "limit log 67108864"))
   of_no_memory : IsLine words NoMemory (line_of (codes "no memory"))
 

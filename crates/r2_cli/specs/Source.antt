@@ -1,9 +1,10 @@
 -- The words of what is wrong with a source.
 use Rattle.std.specs.Prelude.{ℕ, List, ◌++◌, codes, decimal}
-use Rattle.c_types.specs.declared.error.Which.{Which}
 use Rattle.c_types.specs.declared.error.Which.TheVariants as numbers
 use Rattle.front_end.specs.declared.error.SourceError.{SourceError}
 use Rattle.front_end.specs.declared.error.SourceError.TheVariants as errors
+use Rattle.front_end.specs.declared.error.SourceLimit.{SourceLimit}
+use Rattle.front_end.specs.declared.error.SourceLimit.TheVariants.{Types, Nodes, Values}
 use Rattle.front_end.specs.declared.error.SourceRule.{SourceRule}
 use Rattle.front_end.specs.declared.error.SourceRule.TheVariants as rules
 use Rattle.r2_cli.specs.declared.status.Status.TheVariants.{Source, Limit, NoMemory}
@@ -24,13 +25,15 @@ abbrev pub source_words : SourceRule → ℕ → List ℕ
 source_words rule n = codes "source " ++ decimal n ++ codes " " ++ rule_words rule
 
 -- the words of a number that a source goes past, with the number
-abbrev pub limit_words : Which → List ℕ
-limit_words numbers.Functions = codes "limit functions 1000"
-limit_words numbers.Params = codes "limit params 8"
-limit_words numbers.Members = codes "limit members 64"
-limit_words numbers.Object = codes "limit object 1048576"
-limit_words numbers.Globals = codes "limit globals 1048576"
-limit_words numbers.Frame = codes "limit frame 32768"
+abbrev pub limit_words : SourceLimit → List ℕ
+limit_words (Types numbers.Functions) = codes "limit functions 1000"
+limit_words (Types numbers.Params) = codes "limit params 8"
+limit_words (Types numbers.Members) = codes "limit members 64"
+limit_words (Types numbers.Object) = codes "limit object 1048576"
+limit_words (Types numbers.Globals) = codes "limit globals 1048576"
+limit_words (Types numbers.Frame) = codes "limit frame 32768"
+limit_words Nodes = codes "limit code 131072"
+limit_words Values = codes "limit values 64"
 
 -- the words that say that no declaration names the cut
 abbrev pub no_cut_words : List ℕ → List ℕ
@@ -40,5 +43,5 @@ no_cut_words cut = codes "no cut " ++ cut
 abbrev pub refused_for : (cut : List ℕ) → SourceError → Outcome
 refused_for cut (errors.Fault fault) = refusal Source (source_words fault.rule fault.at)
 refused_for cut errors.NoSuchCut = refusal Source (no_cut_words cut)
-refused_for cut (errors.Limit which) = refusal Limit (limit_words which)
+refused_for cut (errors.Limit limit) = refusal Limit (limit_words limit)
 refused_for cut errors.Memory = refusal NoMemory (codes "no memory")

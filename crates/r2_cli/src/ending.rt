@@ -8,8 +8,7 @@ ghost use Rattle.r2_cli.specs.OrderText.{name_text};
 use crate::order_text::{put_name, put_number};
 use crate::source_fault::{limit_words, put_source_fault};
 use crate::status::Status;
-use c_types::Which;
-use front_end::SourceFault;
+use front_end::{SourceFault, SourceLimit};
 use log_closure::OrderError;
 use logical_clock::EventName;
 use r2_base::Fault;
@@ -36,7 +35,7 @@ pub enum Ending<'a> {
     /// The source is too long.
     SourceLimit,
     /// The number that the source goes past.
-    TooLarge(Which),
+    TooLarge(SourceLimit),
     /// The log is too long.
     LogLimit,
     NoMemory,
@@ -97,7 +96,7 @@ impl Ending<'_> {
             Ending::NoFile(name) => put_named(line, "no file ", name),
             Ending::WriteFault => line.extend_from_slice(b"write fault"),
             Ending::SourceLimit => line.extend_from_slice(b"limit source 1048576"),
-            Ending::TooLarge(which) => line.extend_from_slice(limit_words(which).as_bytes()),
+            Ending::TooLarge(limit) => line.extend_from_slice(limit_words(limit).as_bytes()),
             Ending::LogLimit => line.extend_from_slice(b"limit log 67108864"),
             Ending::NoMemory => line.extend_from_slice(b"no memory"),
         }

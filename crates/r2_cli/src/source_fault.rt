@@ -5,7 +5,7 @@ ghost use Rattle.r2_cli.specs.Source.{limit_words, rule_words, source_words};
 
 use crate::order_text::put_number;
 use c_types::Which;
-use front_end::{SourceFault, SourceRule};
+use front_end::{SourceFault, SourceLimit, SourceRule};
 use std::alloc::AllocError;
 
 /// Adds `rule NUMBER`.
@@ -51,15 +51,17 @@ pub fn put_source_fault(line: &mut Vec<u8>, fault: SourceFault) -> Result<(), Al
 }
 
 /// The words `limit WORD N` for a number that a source goes past.
-pub fn limit_words(which: Which) -> &'static str
-    ensures { result.now ≡ limit_words which }
+pub fn limit_words(limit: SourceLimit) -> &'static str
+    ensures { result.now ≡ limit_words limit }
 {
-    match which {
-        Which::Functions => "limit functions 1000",
-        Which::Params => "limit params 8",
-        Which::Members => "limit members 64",
-        Which::Object => "limit object 1048576",
-        Which::Globals => "limit globals 1048576",
-        Which::Frame => "limit frame 32768",
+    match limit {
+        SourceLimit::Types(Which::Functions) => "limit functions 1000",
+        SourceLimit::Types(Which::Params) => "limit params 8",
+        SourceLimit::Types(Which::Members) => "limit members 64",
+        SourceLimit::Types(Which::Object) => "limit object 1048576",
+        SourceLimit::Types(Which::Globals) => "limit globals 1048576",
+        SourceLimit::Types(Which::Frame) => "limit frame 32768",
+        SourceLimit::Nodes => "limit code 131072",
+        SourceLimit::Values => "limit values 64",
     }
 }

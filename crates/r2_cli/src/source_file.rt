@@ -25,7 +25,7 @@ fn refused<'a>(cut: &'a str, error: SourceError) -> Ending<'a>
     match error {
         SourceError::Fault(fault) => Ending::Source(fault),
         SourceError::NoSuchCut => Ending::NoCut(cut),
-        SourceError::Limit(which) => Ending::TooLarge(which),
+        SourceError::Limit(limit) => Ending::TooLarge(limit),
         SourceError::Memory => Ending::NoMemory,
     }
 }
@@ -42,8 +42,8 @@ fn source_of<'a>(alloc: Global, bytes: Vec<u8>, cut: &'a str) -> Result<CheckedS
     }
 }
 
-/// The source that the file holds, or why it is refused: its reading, its size, its tokens, its grammar, its types, its limits, its
-/// annotations and its cut, in this order.
+/// The source that the file holds, or why it is refused: its reading, its size, its tokens, its grammar, its types, their limits, its
+/// annotations, its cut, and the limits of flat code, in this order.
 pub fn read_source<'a, F: Files>(
     alloc: Global,
     files: &mut F,

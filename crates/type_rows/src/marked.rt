@@ -1,7 +1,7 @@
 //! Sources in which a mark `@` stands where they break a rule.
 
 use c_types::Which;
-use front_end::{SourceError, SourceRule, check_source};
+use front_end::{SourceError, SourceLimit, SourceRule, check_source};
 use std::alloc::{AllocError, Global};
 
 /// A source has no more bytes.
@@ -25,12 +25,13 @@ pub fn judge(alloc: Global, source: &[u8]) -> Judged {
     }
     match check_source(alloc, source, b"c") {
         Ok(_) | Err(SourceError::NoSuchCut) => Judged::Typed,
-        Err(SourceError::Limit(which)) => Judged::Limit(which),
+        Err(SourceError::Limit(SourceLimit::Types(which))) => Judged::Limit(which),
         Err(SourceError::Memory) => Judged::Memory,
         Err(SourceError::Fault(fault)) => match fault.rule {
             SourceRule::Type(rule) => Judged::Rule(fault.at, rule),
             _ => Judged::Other,
         },
+        Err(SourceError::Limit(SourceLimit::Nodes | SourceLimit::Values)) => Judged::Other,
     }
 }
 

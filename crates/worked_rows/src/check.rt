@@ -1,5 +1,5 @@
 use crate::runs::{Left, check_cut, check_of, front, run_words};
-use crate::sources::{POOL, signs_before_zero, zero_in_brackets};
+use crate::sources::{POOL, empty_statements, signs_before_zero, waiting_ones, zero_in_brackets};
 use r2_base::{MemFiles, MemSink};
 use r2_cli::Status;
 use std::alloc::{AllocError, Global};
@@ -122,6 +122,38 @@ fn a_source_is_refused_by_its_types_its_limits_its_annotations_and_its_cut(
         ),
     ] {
         let left = check_cut(alloc, source.as_bytes(), "c")?;
+        assert_eq!(rt; left.status, status);
+        assert_eq!(rt; left.out.as_slice(), b"".as_slice());
+        assert_eq!(rt; left.err.as_slice(), err.as_bytes());
+    }
+    Ok(())
+}
+
+#[test]
+fn a_source_that_is_too_large_for_flat_code_is_refused_last(
+    rt: HostRuntime,
+) -> Result<(), AllocError> {
+    let alloc = rt.alloc();
+    let most_nodes = empty_statements(alloc, 131_072 - 7)?;
+    assert_eq!(rt;
+        check_cut(alloc, &most_nodes, "c")?.out.as_slice(),
+        b"typed\n".as_slice()
+    );
+    let most_values = waiting_ones(alloc, 64)?;
+    assert_eq!(rt;
+        check_cut(alloc, &most_values, "c")?.out.as_slice(),
+        b"typed\n".as_slice()
+    );
+    let nodes = empty_statements(alloc, 131_073 - 7)?;
+    let values = waiting_ones(alloc, 65)?;
+    for (source, cut, status, err) in [
+        (&nodes, "c", Status::Limit, "r2: limit code 131072\n"),
+        (&values, "c", Status::Limit, "r2: limit values 64\n"),
+        // the cut comes before
+        (&nodes, "d", Status::Source, "r2: no cut d\n"),
+        (&values, "d", Status::Source, "r2: no cut d\n"),
+    ] {
+        let left = check_cut(alloc, source, cut)?;
         assert_eq!(rt; left.status, status);
         assert_eq!(rt; left.out.as_slice(), b"".as_slice());
         assert_eq!(rt; left.err.as_slice(), err.as_bytes());

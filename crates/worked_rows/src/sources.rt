@@ -124,6 +124,31 @@ pub fn zero_in_brackets(alloc: Global, count: usize) -> Result<Vec<u8>, AllocErr
     Ok(source)
 }
 
+/// A source with the cut `c`, in which `main` has so many empty statements before its `return`. It has seven nodes more.
+pub fn empty_statements(alloc: Global, count: usize) -> Result<Vec<u8>, AllocError> {
+    around(
+        alloc,
+        "[cut(c)] void e(void); int main(void) { ",
+        b';',
+        count,
+        " return 0; }",
+    )
+}
+
+/// A source with the cut `c`, whose `main` gives a sum of so many ones, added from the right: each waits for those behind it.
+pub fn waiting_ones(alloc: Global, count: usize) -> Result<Vec<u8>, AllocError> {
+    let mut source = Vec::from_slice(alloc, b"[cut(c)] void e(void); int main(void) { return ")?;
+    for _ in 1..count {
+        source.extend_from_slice(b"1 + (")?;
+    }
+    source.push(b'1')?;
+    for _ in 1..count {
+        source.push(b')')?;
+    }
+    source.extend_from_slice(b"; }")?;
+    Ok(source)
+}
+
 /// One text, so many times a byte, and another text.
 fn around(
     alloc: Global,

@@ -4,7 +4,8 @@ use Rattle.std.proofs.lemmas.Result.{err_from_is_err_and}
 use Rattle.c_lexer.specs.Lexing.{IsTokens}
 use Rattle.c_parser.specs.Parsed.{IsParsed}
 use Rattle.front_end.specs.Answers.{IsChecked, IsTyped}
-use Rattle.front_end.proofs.Accepting.{source_of}
+use Rattle.front_end.proofs.Accepting.{accepted, source_of}
+use Rattle.front_end.proofs.Refusals.{by_size, read}
 use Rattle.front_end.proofs.source.check_source.Goals as goal
 
 pub returns-in_err-tokens : goal.returns-in_err-tokens
@@ -26,6 +27,51 @@ returns-in_err-source c =
     subst (IsChecked c.args.bytes.now c.args.cut.now) (sym (q.1 ∙ ap Err q.2))
     (c.in_err-source.ensures.refused c.args.bytes.now c.args.cut.now p.0 p.2 (source_of c.args.bytes.now c.deref.result.now c.in_ok-tree.tree lexed p))
 
+pub returns-in_err-program : goal.returns-in_err-program
+returns-in_err-program c =
+    let ts = c.in_ok-tokens.tokens.items in
+    let N = c.in_ok-tree.tree in
+    let bytes = c.args.bytes.now in
+    let lexed = c.in_ok-tokens.ensures.tokens in
+    let p = subst (λ (v : List Token). IsParsed v N) c.deref.ensures.value c.in_ok-tree.ensures.tree in
+    let source = source_of bytes ts N lexed p in
+    let t =
+    subst (λ (v : List Token). IsTyped N v p.0 c.in_ok-source.source) c.deref-2.ensures.value (c.in_ok-source.ensures.typed p.0 p.2 (c.numbers_fit.ensures bytes ts p.0 lexed p.1))
+    in
+    let q = err_from_is_err_and c.from_residual-in_err-program.result c.from_residual-in_err-program.ensures.1 in
+    subst (IsChecked bytes c.args.cut.now) (sym (q.1 ∙ ap Err q.2)) (c.in_err-program.ensures bytes p.0 source t)
+
+pub code_of-requires : goal.code_of-requires
+code_of-requires c =
+    let ts = c.in_ok-tokens.tokens.items in
+    let N = c.in_ok-tree.tree in
+    let bytes = c.args.bytes.now in
+    let lexed = c.in_ok-tokens.ensures.tokens in
+    let p = subst (λ (v : List Token). IsParsed v N) c.deref.ensures.value c.in_ok-tree.ensures.tree in
+    let source = source_of bytes ts N lexed p in
+    let t =
+    subst (λ (v : List Token). IsTyped N v p.0 c.in_ok-source.source) c.deref-2.ensures.value (c.in_ok-source.ensures.typed p.0 p.2 (c.numbers_fit.ensures bytes ts p.0 lexed p.1))
+    in
+    let reads = c.in_ok-program.ensures bytes p.0 source t in
+    (p.0, t.program, t.holds, t.typed, reads.0)
+
+pub returns-in_err-code : goal.returns-in_err-code
+returns-in_err-code c =
+    let ts = c.in_ok-tokens.tokens.items in
+    let N = c.in_ok-tree.tree in
+    let bytes = c.args.bytes.now in
+    let lexed = c.in_ok-tokens.ensures.tokens in
+    let p = subst (λ (v : List Token). IsParsed v N) c.deref.ensures.value c.in_ok-tree.ensures.tree in
+    let source = source_of bytes ts N lexed p in
+    let t =
+    subst (λ (v : List Token). IsTyped N v p.0 c.in_ok-source.source) c.deref-2.ensures.value (c.in_ok-source.ensures.typed p.0 p.2 (c.numbers_fit.ensures bytes ts p.0 lexed p.1))
+    in
+    let reads = c.in_ok-program.ensures bytes p.0 source t in
+    let q = err_from_is_err_and c.from_residual-in_err-code.result c.from_residual-in_err-code.ensures.1 in
+    let cut = c.args.cut.now in
+    subst (IsChecked bytes cut) (sym (q.1 ∙ ap Err q.2))
+    (by_size bytes cut p.0 c.in_err-code.field-0.0 source (read cut p.0 t.program c.in_ok-program.interface t.typed reads.2) (c.in_err-code.ensures.refused p.0 t.program t.holds t.typed reads.0))
+
 pub returns : goal.returns
 returns c =
     let ts = c.in_ok-tokens.tokens.items in
@@ -33,5 +79,10 @@ returns c =
     let bytes = c.args.bytes.now in
     let lexed = c.in_ok-tokens.ensures.tokens in
     let p = subst (λ (v : List Token). IsParsed v N) c.deref.ensures.value c.in_ok-tree.ensures.tree in
-    c.with_interface.ensures bytes p.0 (source_of bytes ts N lexed p)
-    (subst (λ (v : List Token). IsTyped N v p.0 c.in_ok-source.source) c.deref-2.ensures.value (c.in_ok-source.ensures.typed p.0 p.2 (c.numbers_fit.ensures bytes ts p.0 lexed p.1)))
+    let source = source_of bytes ts N lexed p in
+    let t =
+    subst (λ (v : List Token). IsTyped N v p.0 c.in_ok-source.source) c.deref-2.ensures.value (c.in_ok-source.ensures.typed p.0 p.2 (c.numbers_fit.ensures bytes ts p.0 lexed p.1))
+    in
+    let reads = c.in_ok-program.ensures bytes p.0 source t in
+    accepted bytes c.args.cut.now N p.0 c.in_ok-source.source (record { program = c.in_ok-program.program; interface = c.in_ok-program.interface; code = c.in_ok-code.code }) source t
+    reads.0 reads.1 reads.2 (c.in_ok-code.ensures.small p.0 t.program t.holds t.typed reads.0) c.in_ok-code.ensures.code

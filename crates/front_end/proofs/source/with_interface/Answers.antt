@@ -3,7 +3,7 @@ use Rattle.c_typing.specs.Sources.{tags_of}
 use Rattle.c_typed_program.specs.declared.function.Function.{Function}
 use Rattle.annot_types.specs.Sources.{IsTypedSource}
 use Rattle.front_end.specs.Answers.{IsRefused}
-use Rattle.front_end.proofs.Accepting.{accepted, typed_source}
+use Rattle.front_end.proofs.Accepting.{typed_source}
 use Rattle.front_end.proofs.Refusals.{by_reading}
 use Rattle.front_end.proofs.source.with_interface.Goals as goal
 
@@ -25,5 +25,4 @@ returns c = λ bytes ds source t.
     let s = c.args.source in
     let readable = subst (λ (fs : List Function). IsTypedSource N s.env fs ds t.program) (sym c.as_slice.ensures.items) (typed_source N source.tokens ds s t) in
     let stays = c.sources_stay_typed.ensures s c.in-Ok.found.0 (tags_of ds) t.program t.is c.in-Ok.ensures.kept in
-    accepted bytes c.args.cut.now N ds s (record { program = c.into_program.result; interface = c.in-Ok.found.1 }) source t
-    (c.into_program.ensures.program (tags_of ds) t.program stays) c.into_program.ensures.texts (c.in-Ok.ensures.interface ds t.program readable)
+    (c.into_program.ensures.program (tags_of ds) t.program stays, c.into_program.ensures.texts, c.in-Ok.ensures.interface ds t.program readable)
