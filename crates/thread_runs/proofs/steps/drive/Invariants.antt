@@ -1,0 +1,6 @@
+use Rattle.c_machine.specs.Positions.{laid}
+use Rattle.c_machine.specs.Moves.{IsInside}
+use Rattle.thread_runs.proofs.steps.drive.Given as goal
+
+abbrev pub invariant-loop : goal.invariant-loop
+invariant-loop l = IsInside (laid l.scene.code l.scene.placed) l.thread.config
