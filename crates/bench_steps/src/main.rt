@@ -1,9 +1,11 @@
-//! A program to be timed: the same accesses over the memory of a run, and over plain bytes.
+//! A program to be timed: the same accesses over the memory of a run, and over plain bytes; and a loop under a thread.
 //!
-//! With the word `spaces` or `plain` it does one of the two. It prints the last number stored, which is the same.
+//! With the word `spaces`, `plain` or `thread` it does one of the three. Of the first two it prints the last number stored, which is
+//! the same; of the third the number of marks, and what its `main` gives.
 #![tactic(auto)]
 
 mod accesses;
+mod thread;
 
 use accesses::{SIZE, over_bytes, over_spaces};
 use anyhow::Context;
@@ -12,6 +14,7 @@ use places::{Flags, Placed, Places};
 use space_memory::Spaces;
 use std::alloc::Global;
 use std::env;
+use thread::over_thread;
 
 /// The last number stored over the memory of a run: a block above the cut.
 fn spaces(alloc: Global) -> anyhow::Result<u64> {
@@ -35,12 +38,16 @@ fn plain(alloc: Global) -> anyhow::Result<u64> {
 
 fn main(rt: HostRuntime) -> anyhow::Result<()> {
     let word = env::args(&rt)?.nth(1);
-    let word = word.as_deref().unwrap_or("both");
-    if word != "plain" {
+    let word = word.as_deref().unwrap_or("all");
+    if word == "spaces" || word == "all" {
         println!(rt; "spaces {}", spaces(rt.alloc())?)?;
     }
-    if word != "spaces" {
+    if word == "plain" || word == "all" {
         println!(rt; "plain {}", plain(rt.alloc())?)?;
+    }
+    if word == "thread" || word == "all" {
+        let (marks, result) = over_thread(rt.alloc())?;
+        println!(rt; "thread {marks} {result}")?;
     }
     Ok(())
 }

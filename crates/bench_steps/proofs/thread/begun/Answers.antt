@@ -1,0 +1,13 @@
+use Rattle.std.proofs.Common.{◌≡◌, false, refl, sym, ap, subst}
+use Rattle.marks.specs.declared.side.Side.TheVariants.{Replay}
+use Rattle.c_code.specs.Machine.{Done}
+use Rattle.c_machine.specs.Moves.{IsCallOf, MayBegin}
+use Rattle.c_machine.specs.Positions.{laid}
+use Rattle.bench_steps.proofs.thread.begun.Goals as goal
+
+pub begin-requires-clause-may : goal.begin-requires-clause-may
+begin-requires-clause-may c =
+    let l = laid c.args.code.now c.args.placed.now in
+    let new : c.in_ok-thread.thread.config ≡ Done 0 = ap (λ t. t.config) c.in_ok-thread.ensures.new in
+    let call : IsCallOf l c.args.func c.args.args.now = c.if-is_call_of.ensures.yes c.args.placed.now refl in
+    subst (λ d. MayBegin l d c.args.func c.args.args.now Replay false) (sym new) call
