@@ -17,3 +17,5 @@ mod Program
 pub mod Counts
 pub mod Firsts
 pub mod Returning
+pub mod Words
+pub mod Signs

@@ -8,3 +8,4 @@ pub mod Readers
 pub mod Answers
 pub mod Makes
 pub mod Callers
+pub mod Operators

@@ -12,12 +12,12 @@ pub(crate) enum Called {
     Nothing,
 }
 
-pub(crate) fn called_by(instr: Instr) -> Called
-    ensures { IsCalled instr result }
+pub(crate) fn called_by(instr: &Instr) -> Called
+    ensures { IsCalled instr.now result }
 {
     match instr {
-        Instr::Call(func, n) => Called::ByNumber(func, n),
-        Instr::CallPointer(sig, n) => Called::ByPointer(sig, n),
+        Instr::Call(func, n) => Called::ByNumber(*func, *n),
+        Instr::CallPointer(sig, n) => Called::ByPointer(*sig, *n),
         Instr::Push(_) => Called::Nothing,
         Instr::Load(_, _) => Called::Nothing,
         Instr::LoadKeep(_, _) => Called::Nothing,

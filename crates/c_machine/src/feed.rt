@@ -13,11 +13,12 @@ ghost use Rattle.c_machine.specs.Wants.{told};
 ghost use Rattle.c_machine.specs.Moves.{fed, heard};
 
 use crate::effect::{at_place, next};
+use crate::operators::convert;
 use crate::position::Position;
 use crate::state::{Entry, State};
 use crate::tops::{first_at, frame_size, has_args, is_pool, result_shape};
 use crate::wants::Answer;
-use c_code::{Activation, Call, Code, Instr, Placed, Waiting, convert};
+use c_code::{Activation, Call, Code, Instr, Placed, Waiting};
 use r2_num::IntKind;
 
 impl Position {
@@ -33,7 +34,7 @@ impl Position {
             State::Going(a) => {
                 let instrs = code.instrs();
                 if (a.at as usize) < instrs.len() {
-                    self.take_at(instrs[a.at as usize], a, answer);
+                    self.take_at(&instrs[a.at as usize], a, answer);
                 } else {
                     self.state = State::Lost;
                 }
@@ -47,22 +48,22 @@ impl Position {
     }
 
     // The same at an instruction.
-    fn take_at(&mut self, instr: Instr, a: Activation, answer: Answer)
+    fn take_at(&mut self, instr: &Instr, a: Activation, answer: Answer)
         requires room { length (held self.old.values) < room_of self.old.values }
         requires place { a.at + 1 < 2 ^ 32 }
-        ensures fed { (code : Flat) (placed : Places) → config self.new ≡ heard (laid code placed) (act (laid code placed) (Some instr) a (held self.old.values) (held self.old.waits)) (told answer) }
+        ensures fed { (code : Flat) (placed : Places) → config self.new ≡ heard (laid code placed) (act (laid code placed) (Some instr.now) a (held self.old.values) (held self.old.waits)) (told answer) }
         ensures values { room_of self.new.values ≡ room_of self.old.values }
         ensures waits { room_of self.new.waits ≡ room_of self.old.waits }
     {
         match instr {
-            Instr::Load(kind, _) => self.take_load(kind, a, answer),
-            Instr::LoadKeep(kind, _) => self.take_load_keep(kind, a, answer),
-            Instr::Store(kind, _) => self.take_store(kind, a, answer),
-            Instr::StoreLocal(kind, offset) => self.take_store_local(kind, offset, a, answer),
-            Instr::StoreStep(kind, by, old, _) => self.take_store_step(kind, by, old, a, answer),
-            Instr::Call(func, n) => self.take_pool(func, n, a, answer),
+            Instr::Load(kind, _) => self.take_load(*kind, a, answer),
+            Instr::LoadKeep(kind, _) => self.take_load_keep(*kind, a, answer),
+            Instr::Store(kind, _) => self.take_store(*kind, a, answer),
+            Instr::StoreLocal(kind, offset) => self.take_store_local(*kind, *offset, a, answer),
+            Instr::StoreStep(kind, by, old, _) => self.take_store_step(*kind, *by, *old, a, answer),
+            Instr::Call(func, n) => self.take_pool(*func, *n, a, answer),
             Instr::Turn => self.state = State::Going(next(a)),
-            Instr::GoBack(n) => self.state = State::Going(at_place(a, a.at.saturating_sub(n))),
+            Instr::GoBack(n) => self.state = State::Going(at_place(a, a.at.saturating_sub(*n))),
             Instr::Finish => match self.values.pop() {
                 Some(value) => self.give(value),
                 None => self.state = State::Lost,
@@ -88,9 +89,9 @@ impl Position {
         ensures waits { room_of self.new.waits ≡ room_of self.old.waits }
     {
         match answer {
-            Answer::Value(value) => match self.values.pop() {
+            Answer::Value(value) => match self.values.top() {
                 Some(_) => {
-                    self.values.push(convert(kind, value));
+                    self.values.replace_top(convert(kind, value));
                     self.state = State::Going(next(a));
                 }
                 None => self.state = State::Lost,
@@ -131,8 +132,7 @@ impl Position {
     {
         match self.values.top_two() {
             Some((value, _)) => {
-                self.values.drop_top(2);
-                self.values.push(value);
+                self.values.replace_two(value);
                 self.state = State::Going(next(a));
             }
             None => self.state = State::Lost,
@@ -162,12 +162,12 @@ impl Position {
     {
         match self.values.top_two() {
             Some((value, _)) => {
-                self.values.drop_top(2);
-                if old {
-                    self.values.push(value);
+                let kept = if old {
+                    value
                 } else {
-                    self.values.push(convert(kind, value.wrapping_add(by)));
-                }
+                    convert(kind, value.wrapping_add(by))
+                };
+                self.values.replace_two(kept);
                 self.state = State::Going(next(a));
             }
             None => self.state = State::Lost,

@@ -9,6 +9,7 @@ mod feed;
 mod laws;
 mod look;
 mod opens;
+mod operators;
 mod position;
 mod readers;
 mod settle;

@@ -15,11 +15,12 @@ ghost use Rattle.c_machine.specs.Positions.{laid, config};
 ghost use Rattle.c_machine.specs.Wants.{shown};
 
 use crate::effect::in_frame;
+use crate::operators::convert;
 use crate::position::Position;
 use crate::state::State;
 use crate::tops::{below_args, callee, frame_size, has_args, is_pool};
 use crate::wants::Want;
-use c_code::{Activation, Call, Code, Combine, Instr, Placed, Waiting, convert};
+use c_code::{Activation, Call, Code, Combine, Instr, Placed, Waiting};
 use marks::FaultKind;
 use r2_num::IntKind;
 
@@ -29,11 +30,11 @@ impl Position {
         requires valid { IsValid code.now }
         ensures { result ≡ shown (laid code.now placed.now) (action (laid code.now placed.now) (config self.now)) }
     {
-        match self.state {
+        match &self.state {
             State::Going(a) => {
                 let instrs = code.instrs();
                 if (a.at as usize) < instrs.len() {
-                    self.look_at(instrs[a.at as usize], a, code)
+                    self.look_at(&instrs[a.at as usize], a, code)
                 } else {
                     None
                 }
@@ -49,26 +50,26 @@ impl Position {
                 func: entry.func,
                 size: frame_size(code, entry.func),
             }),
-            State::Closing(value, waiting) => self.look_closing(value, waiting),
-            State::Done(result) => Some(Want::Ended { result }),
+            State::Closing(value, waiting) => self.look_closing(*value, *waiting),
+            State::Done(result) => Some(Want::Ended { result: *result }),
             State::Lost => None,
         }
     }
 
     // The same at an instruction.
-    fn look_at(&self, instr: Instr, a: Activation, code: &Code) -> Option<Want>
+    fn look_at(&self, instr: &Instr, a: &Activation, code: &Code) -> Option<Want>
         requires valid { IsValid code.now }
-        ensures { (placed : Places) → result ≡ shown (laid code.now placed) (act (laid code.now placed) (Some instr) a (held self.now.values) (held self.now.waits)) }
+        ensures { (placed : Places) → result ≡ shown (laid code.now placed) (act (laid code.now placed) (Some instr.now) a.now (held self.now.values) (held self.now.waits)) }
     {
         match instr {
-            Instr::Load(kind, _) => self.look_load(kind),
-            Instr::LoadKeep(kind, _) => self.look_load(kind),
-            Instr::Store(kind, _) => self.look_store(kind),
-            Instr::StoreLocal(kind, offset) => self.look_store_local(kind, offset, a),
-            Instr::StoreStep(kind, by, _, _) => self.look_store_step(kind, by),
-            Instr::Combine(how) => self.look_combine(how),
-            Instr::Call(func, n) => self.look_pool(func, n, a),
-            Instr::CallPointer(sig, n) => self.look_pointer(sig, n, code),
+            Instr::Load(kind, _) => self.look_load(*kind),
+            Instr::LoadKeep(kind, _) => self.look_load(*kind),
+            Instr::Store(kind, _) => self.look_store(*kind),
+            Instr::StoreLocal(kind, offset) => self.look_store_local(*kind, *offset, a),
+            Instr::StoreStep(kind, by, _, _) => self.look_store_step(*kind, *by),
+            Instr::Combine(how) => self.look_combine(*how),
+            Instr::Call(func, n) => self.look_pool(*func, *n, a),
+            Instr::CallPointer(sig, n) => self.look_pointer(*sig, *n, code),
             Instr::Turn => Some(Want::Turn),
             Instr::GoBack(_) => Some(Want::Turn),
             Instr::Finish => match self.values.top() {
@@ -109,8 +110,8 @@ impl Position {
         }
     }
 
-    fn look_store_local(&self, kind: IntKind, offset: u64, a: Activation) -> Option<Want>
-        ensures { (l : Laid) (ws : List Waits) → result ≡ shown l (act l (Some (instrs.StoreLocal kind offset)) a (held self.now.values) ws) }
+    fn look_store_local(&self, kind: IntKind, offset: u64, a: &Activation) -> Option<Want>
+        ensures { (l : Laid) (ws : List Waits) → result ≡ shown l (act l (Some (instrs.StoreLocal kind offset)) a.now (held self.now.values) ws) }
     {
         match self.values.top() {
             Some(value) => Some(store_want(kind, in_frame(a, offset), value)),
@@ -144,8 +145,8 @@ impl Position {
     }
 
     // An event of the pool; `None` for another call.
-    fn look_pool(&self, func: u16, n: u8, a: Activation) -> Option<Want>
-        ensures { (l : Laid) (ws : List Waits) → result ≡ shown l (act l (Some (instrs.Call func n)) a (held self.now.values) ws) }
+    fn look_pool(&self, func: u16, n: u8, a: &Activation) -> Option<Want>
+        ensures { (l : Laid) (ws : List Waits) → result ≡ shown l (act l (Some (instrs.Call func n)) a.now (held self.now.values) ws) }
     {
         if !has_args(&self.values, n) || !is_pool(a.side, func) {
             return None;
@@ -225,14 +226,10 @@ fn width(kind: IntKind) -> u8
     ensures { result ≡ bytes_of kind }
 {
     match kind {
-        IntKind::I8 => 1,
-        IntKind::U8 => 1,
-        IntKind::I16 => 2,
-        IntKind::U16 => 2,
-        IntKind::I32 => 4,
-        IntKind::U32 => 4,
-        IntKind::I64 => 8,
-        IntKind::U64 => 8,
+        IntKind::I8 | IntKind::U8 => 1,
+        IntKind::I16 | IntKind::U16 => 2,
+        IntKind::I32 | IntKind::U32 => 4,
+        IntKind::I64 | IntKind::U64 => 8,
     }
 }
 
@@ -241,13 +238,9 @@ fn low_bytes(kind: IntKind, value: u64) -> u64
     ensures { result ≡ value % 256 ^ bytes_of kind }
 {
     match kind {
-        IntKind::I8 => value % 0x100,
-        IntKind::U8 => value % 0x100,
-        IntKind::I16 => value % 0x1_0000,
-        IntKind::U16 => value % 0x1_0000,
-        IntKind::I32 => value % 0x1_0000_0000,
-        IntKind::U32 => value % 0x1_0000_0000,
-        IntKind::I64 => value,
-        IntKind::U64 => value,
+        IntKind::I8 | IntKind::U8 => value % 0x100,
+        IntKind::I16 | IntKind::U16 => value % 0x1_0000,
+        IntKind::I32 | IntKind::U32 => value % 0x1_0000_0000,
+        IntKind::I64 | IntKind::U64 => value,
     }
 }

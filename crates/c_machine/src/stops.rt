@@ -35,19 +35,19 @@ impl Position {
         if a.at as usize >= instrs.len() {
             return;
         }
-        match self.call_at(instrs[a.at as usize], a, code) {
+        match self.call_at(&instrs[a.at as usize], a, code) {
             Some(call) => self.state = State::Calling(call),
             None => {}
         }
     }
 
     // The call that the instruction makes; `None` for another one, or an event of the pool.
-    fn call_at(&self, instr: Instr, a: Activation, code: &Code) -> Option<Call>
+    fn call_at(&self, instr: &Instr, a: Activation, code: &Code) -> Option<Call>
         requires valid { IsValid code.now }
         requires place { a.at + 1 < 2 ^ 32 }
-        ensures some { IfSome result (λ call. (placed : Places) (ws : List Waiting) (c : Config) → at_call (act (laid code.now placed) (Some instr) a (held self.now.values) ws) c ≡ Under call (held self.now.values) ws) }
+        ensures some { IfSome result (λ call. (placed : Places) (ws : List Waiting) (c : Config) → at_call (act (laid code.now placed) (Some instr.now) a (held self.now.values) ws) c ≡ Under call (held self.now.values) ws) }
         ensures side { IfSome result (λ call. call.then.side ≡ a.side) }
-        ensures none { IfNone result ((placed : Places) (ws : List Waiting) (c : Config) → at_call (act (laid code.now placed) (Some instr) a (held self.now.values) ws) c ≡ c) }
+        ensures none { IfNone result ((placed : Places) (ws : List Waiting) (c : Config) → at_call (act (laid code.now placed) (Some instr.now) a (held self.now.values) ws) c ≡ c) }
     {
         match called_by(instr) {
             Called::ByNumber(func, n) => self.call_of(func, n, a),

@@ -52,6 +52,26 @@ impl<T: Copy + Drop> Stack<T> {
         self.items.pop()
     }
 
+    /// Puts a value in the place of the topmost one.
+    pub fn replace_top(&mut self, value: T)
+        requires some { 0 < length (held self.old) }
+        ensures replaced { held self.new ≡ value ∷ drop 1 (held self.old) }
+        ensures room { room_of self.new ≡ room_of self.old }
+    {
+        let _gone = self.pop();
+        self.push(value);
+    }
+
+    /// Puts a value in the place of the two topmost ones.
+    pub fn replace_two(&mut self, value: T)
+        requires two { 1 < length (held self.old) }
+        ensures replaced { held self.new ≡ value ∷ drop 2 (held self.old) }
+        ensures room { room_of self.new ≡ room_of self.old }
+    {
+        let _gone = self.pop();
+        self.replace_top(value);
+    }
+
     /// The topmost value; `None` where there is none.
     pub fn top(&self) -> Option<T>
         ensures some { IfSome result (λ value. (below : List T) × (held self.now ≡ value ∷ below)) }

@@ -9,7 +9,11 @@ fn the_last_value_comes_first(rt: HostRuntime) -> Result<(), Fail> {
     stack.push(7);
     assert_eq!(rt; stack.top_slice(2), [6, 7].as_slice());
     assert_eq!(rt; stack.top_two(), Some((7, 6)));
-    stack.drop_top(2);
+    stack.replace_top(9);
+    assert_eq!(rt; stack.top_slice(3), [5, 6, 9].as_slice());
+    stack.replace_two(4);
+    assert_eq!(rt; stack.top_two(), Some((4, 5)));
+    stack.drop_top(1);
     assert_eq!(rt; stack.pop(), Some(5));
     assert!(rt; stack.is_empty());
     assert_eq!(rt; stack.len(), 0);

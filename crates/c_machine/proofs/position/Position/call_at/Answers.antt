@@ -16,7 +16,7 @@ returns-in-ByNumber-clause-some c =
     let n = c.in-ByNumber.n in
     if_some c.call_of.result
     (λ call. (l : Laid) (ws : List Waiting) (d : Config) → at_call (act l (Some (ByNumber f n)) c.args.a vs ws) d ≡ Under call vs ws)
-    (λ call. (placed : Places) (ws : List Waiting) (d : Config) → at_call (act (laid c.args.code.now placed) (Some c.args.instr) c.args.a vs ws) d ≡ Under call vs ws)
+    (λ call. (placed : Places) (ws : List Waiting) (d : Config) → at_call (act (laid c.args.code.now placed) (Some c.args.instr.now) c.args.a vs ws) d ≡ Under call vs ws)
     (λ call h placed ws d. ap (λ i. at_call (act (laid c.args.code.now placed) (Some i) c.args.a vs ws) d) c.in-ByNumber.ensures ∙ h (laid c.args.code.now placed) ws d)
     c.call_of.ensures.some
 
@@ -27,6 +27,6 @@ returns-in-ByNumber-clause-none c =
     let n = c.in-ByNumber.n in
     if_none c.call_of.result
     ((l : Laid) (ws : List Waiting) (d : Config) → at_call (act l (Some (ByNumber f n)) c.args.a vs ws) d ≡ d)
-    ((placed : Places) (ws : List Waiting) (d : Config) → at_call (act (laid c.args.code.now placed) (Some c.args.instr) c.args.a vs ws) d ≡ d)
+    ((placed : Places) (ws : List Waiting) (d : Config) → at_call (act (laid c.args.code.now placed) (Some c.args.instr.now) c.args.a vs ws) d ≡ d)
     (λ h placed ws d. ap (λ i. at_call (act (laid c.args.code.now placed) (Some i) c.args.a vs ws) d) c.in-ByNumber.ensures ∙ h (laid c.args.code.now placed) ws d)
     c.call_of.ensures.none
