@@ -1,7 +1,7 @@
 //! Numbers that a source may not go past, at their edges.
 
-use crate::marked::{Judged, judge_marked};
 use c_types::Which;
+use marked_sources::{Judged, judge_marked};
 use std::alloc::{AllocError, Global};
 use std::test::Fail;
 

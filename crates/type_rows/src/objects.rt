@@ -1,6 +1,6 @@
 //! Rules of members, subscripts, indirection and sizes (C11 6.5.2, 6.5.3).
 
-use crate::marked::{Judged, broken, judge_marked};
+use marked_sources::{Judged, broken, judge_marked};
 use std::test::Fail;
 
 #[test]

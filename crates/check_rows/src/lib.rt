@@ -1,0 +1,5 @@
+//! Worked examples of the command `check`.
+#![tactic(auto)]
+
+#[cfg(test)]
+mod check;

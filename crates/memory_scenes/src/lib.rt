@@ -1,0 +1,8 @@
+//! The memory of a run as tables of worked examples begin with it, and what its calls leave for a return.
+#![tactic(auto)]
+
+mod calls;
+mod scene;
+
+pub use calls::{NotRefused, hand_down, prepare, refusal};
+pub use scene::{memory, range};

@@ -1,0 +1,5 @@
+//! Worked examples of the command `order`.
+#![tactic(auto)]
+
+#[cfg(test)]
+mod order;
