@@ -1,16 +1,17 @@
 -- There is a height before each instruction, and no other.
-use Rattle.std.proofs.Common.{◌≡◌, ℕ, suc, ◌+◌, Bool, true, false, List, [], ◌∷◌, ◌++◌, length, length-append, None, refl, sym, ap, ◌∙◌, arith}
+use Rattle.std.proofs.Common.{◌≡◌, ℕ, suc, ◌+◌, Bool, true, false, List, [], ◌∷◌, ◌++◌, length, length-append, refl, ap, arith}
+use Rattle.r2_num.specs.declared.kinds.IntKind.{IntKind}
 use Rattle.r2_num.specs.declared.kinds.IntKind.TheVariants.{I64, U64}
 use Rattle.c_code.specs.declared.instr.Change.TheVariants as change
 use Rattle.c_code.specs.declared.instr.Combine.TheVariants as combine
 use Rattle.c_code.specs.declared.instr.Instr.{Instr}
 use Rattle.c_code.specs.declared.instr.Instr.TheVariants as instr
-use Rattle.c_code.specs.declared.instr.Push.TheVariants.{Number, Local}
-use Rattle.c_type_model.specs.Types.{CType}
+use Rattle.c_code.specs.declared.instr.Push.TheVariants.{Number}
 use Rattle.c_typing.specs.TypedTree as typed
 use Rattle.c_typing.specs.TypedTree.{Object, Value, Values, Callee, Sum, PointerPlus, PlusPointer, PointerMinus, Way, Up, Down, GlobalObject, LocalObject, TextObject, Pointed, Element, MemberOf, Constant, FunctionAddress, ReadOf, AddressOf, Convert, Negate, Complement, Arithmetic, PointerSum, PointerDifference, PointerComparison, Not, Both, Either, Choice, Sequence, Assigned, Changed, Moved, Stepped, CallOf, NoValues, MoreValues, SourceFunction, BuiltinFunction, Through, MaybeValue, NoValue, OneValue, Statement, Statements, Block, Evaluate, Initialise, If, IfElse, While, Do, For, Break, Continue, Return, NoStatements, MoreStatements, object_type}
 use Rattle.c_meaning.specs.Context.{kind_of, member_offset, size_of}
 use Rattle.c_meaning.specs.Values.{is_read, origin}
+use Rattle.c_placement.specs.Conversions.{converts, reconverts}
 use Rattle.c_placement.specs.Placement.{count, keeps_old, loads, offset_of, step_by, stores}
 use Rattle.c_placement.specs.Code.{Making, body_code, call_code, callee_code, convert_code, last_code, load_code, move_code, object_code, one, return_code, statement_code, statements_code, sum_code, test_code, value_code, values_code}
 use Rattle.c_placement.specs.Heights.{body_heights, callee_heights, if_true, move_heights, object_heights, return_heights, statement_heights, statements_heights, sum_heights, test_heights, under_args, value_heights, values_heights}
@@ -37,9 +38,9 @@ module _ (x : Making) where
   load_len true o h = refl
   load_len false o h = refl
 
-  convert_len : (b : Bool) (t : CType) (h : ℕ) → length (if_true b h) ≡ length (convert_code b t)
-  convert_len true t h = refl
-  convert_len false t h = refl
+  convert_len : (b : Bool) (k : IntKind) (h : ℕ) → length (if_true b h) ≡ length (convert_code b k)
+  convert_len true k h = refl
+  convert_len false k h = refl
 
   call_len : (f : Callee) (n k : ℕ) → length (k ∷ []) ≡ length (call_code f x n)
   call_len (SourceFunction number) n k = refl
@@ -66,7 +67,7 @@ module _ (x : Making) where
     value_len (FunctionAddress number t) h = refl
     value_len (ReadOf o) h = len_app (object_heights o h) (if_true (is_read (object_type o)) (h + 1)) (object_code o x) (load_code (is_read (object_type o)) o) (object_len o h) (load_len (is_read (object_type o)) o (h + 1))
     value_len (AddressOf o t) h = object_len o h
-    value_len (Convert t v) h = len_app (value_heights v h) (if_true (is_read t) (h + 1)) (value_code v x) (convert_code (is_read t) t) (value_len v h) (convert_len (is_read t) t (h + 1))
+    value_len (Convert t v) h = len_app (value_heights v h) (if_true (converts t v) (h + 1)) (value_code v x) (convert_code (converts t v) (kind_of t)) (value_len v h) (convert_len (converts t v) (kind_of t) (h + 1))
     value_len (Negate k v) h = len_app (value_heights v h) ((h + 1) ∷ []) (value_code v x) (one (instr.Change (change.Negate k))) (value_len v h) refl
     value_len (Complement k v) h = len_app (value_heights v h) ((h + 1) ∷ []) (value_code v x) (one (instr.Change (change.Complement k))) (value_len v h) refl
     value_len (Arithmetic op k a b) h = pair_len (value_code a x) (value_code b x) (value_heights a h) (value_heights b (h + 1)) (instr.Combine (combine.Arith op k)) (h + 2) (value_len a h) (value_len b (h + 1))
@@ -83,9 +84,18 @@ module _ (x : Making) where
     value_len (Sequence a b) h = len_app (value_heights a h) ((h + 1) ∷ value_heights b h) (value_code a x) (instr.Drop ∷ value_code b x) (value_len a h) (ap suc (value_len b h))
     value_len (Assigned o v) h = pair_len (object_code o x) (value_code v x) (object_heights o h) (value_heights v (h + 1)) (stores o) (h + 2) (object_len o h) (value_len v (h + 1))
     value_len (Changed o op k v) h =
-        let end = instr.Combine (combine.Arith op k) ∷ (instr.Change (change.Convert (kind_of (object_type o))) ∷ one (stores o)) in
-        len_app (object_heights o h) ((h + 1) ∷ ((h + 2) ∷ (value_heights v (h + 2) ++ ((h + 3) ∷ ((h + 2) ∷ ((h + 2) ∷ [])))))) (object_code o x) (loads o ∷ (instr.Change (change.Convert k) ∷ (value_code v x ++ end))) (object_len o h)
-        (ap suc (ap suc (len_app (value_heights v (h + 2)) ((h + 3) ∷ ((h + 2) ∷ ((h + 2) ∷ []))) (value_code v x) end (value_len v (h + 2)) refl)))
+        let own = kind_of (object_type o) in
+        let first = convert_code (reconverts own k) k in
+        let second = convert_code (reconverts k own) own in
+        let last = second ++ one (stores o) in
+        let end = instr.Combine (combine.Arith op k) ∷ last in
+        let inner = value_code v x ++ end in
+        let last_heights = if_true (reconverts k own) (h + 2) ++ ((h + 2) ∷ []) in
+        let inner_heights = value_heights v (h + 2) ++ ((h + 3) ∷ last_heights) in
+        len_app (object_heights o h) ((h + 1) ∷ (if_true (reconverts own k) (h + 2) ++ inner_heights)) (object_code o x) (loads o ∷ (first ++ inner)) (object_len o h)
+        (ap suc (len_app (if_true (reconverts own k) (h + 2)) inner_heights first inner (convert_len (reconverts own k) k (h + 2))
+        (len_app (value_heights v (h + 2)) ((h + 3) ∷ last_heights) (value_code v x) end (value_len v (h + 2))
+        (ap suc (len_app (if_true (reconverts k own) (h + 2)) ((h + 2) ∷ []) second (one (stores o)) (convert_len (reconverts k own) own (h + 2)) refl)))))
     value_len (Moved o w i size) h =
         len_app (object_heights o h) ((h + 1) ∷ (value_heights i (h + 2) ++ (move_heights w (h + 3) ++ ((h + 2) ∷ [])))) (object_code o x) (loads o ∷ (value_code i x ++ (move_code w size ++ one (stores o)))) (object_len o h)
         (ap suc (len_app (value_heights i (h + 2)) (move_heights w (h + 3) ++ ((h + 2) ∷ [])) (value_code i x) (move_code w size ++ one (stores o)) (value_len i (h + 2)) (len_app (move_heights w (h + 3)) ((h + 2) ∷ []) (move_code w size) (one (stores o)) (move_len w size (h + 3)) refl)))

@@ -1,13 +1,15 @@
 -- The code of a construct names nothing but what the construct does.
-use Rattle.std.proofs.Common.{◌≡◌, ℕ, zero, suc, ◌+◌, Bool, true, false, cond, List, [], ◌∷◌, ◌++◌, length, Option, Some, None, refl, sym, ap, ◌∙◌, subst}
+use Rattle.std.proofs.Common.{◌≡◌, ℕ, zero, suc, ◌+◌, Bool, true, false, cond, List, [], ◌∷◌, ◌++◌, length, Option, Some, None, subst}
 use Rattle.std.specs.Prelude.{slice_get}
 use Rattle.std.specs.List.{AllByRecursion, Contains}
+use Rattle.r2_num.specs.declared.kinds.IntKind.{IntKind}
 use Rattle.c_code.specs.declared.instr.Instr.{Instr}
 use Rattle.c_code.specs.declared.instr.Instr.TheVariants as instr
-use Rattle.c_type_model.specs.Types.{CType}
 use Rattle.c_typing.specs.TypedTree as typed
 use Rattle.c_typing.specs.TypedTree.{Object, Value, Values, Callee, Sum, PointerPlus, PlusPointer, PointerMinus, Way, Up, Down, GlobalObject, LocalObject, TextObject, Pointed, Element, MemberOf, Constant, FunctionAddress, ReadOf, AddressOf, Convert, Negate, Complement, Arithmetic, PointerSum, PointerDifference, PointerComparison, Not, Both, Either, Choice, Sequence, Assigned, Changed, Moved, Stepped, CallOf, NoValues, MoreValues, SourceFunction, BuiltinFunction, Through, MaybeValue, NoValue, OneValue, Statement, Statements, Block, Evaluate, Initialise, If, IfElse, While, Do, For, Break, Continue, Return, NoStatements, MoreStatements, object_type}
+use Rattle.c_meaning.specs.Context.{kind_of}
 use Rattle.c_meaning.specs.Values.{array_origin, decayed, is_read, origin}
+use Rattle.c_placement.specs.Conversions.{converts, reconverts}
 use Rattle.c_placement.specs.Placement.{count}
 use Rattle.c_placement.specs.Code.{Making, body_code, call_code, callee_code, convert_code, last_code, load_code, move_code, object_code, one, return_code, statement_code, statements_code, sum_code, test_code, value_code, values_code}
 use Rattle.c_lower.specs.Named.{Among, Name, callee_names, instr_names, maybe_names, object_names, origin_names, statement_names, statements_names, value_names, values_names}
@@ -75,9 +77,9 @@ module _ (ns : List Name) where
     load_fine true o h = (origin_fine o h, tt)
     load_fine false o h = tt
 
-    convert_fine : (b : Bool) (t : CType) → Fine (convert_code b t)
-    convert_fine true t = (tt, tt)
-    convert_fine false t = tt
+    convert_fine : (b : Bool) (k : IntKind) → Fine (convert_code b k)
+    convert_fine true k = (tt, tt)
+    convert_fine false k = tt
 
     move_fine : (w : Way) (size : ℕ) → Fine (move_code w size)
     move_fine Up size = (tt, tt)
@@ -107,7 +109,7 @@ module _ (ns : List Name) where
       value_fine (FunctionAddress number t) h = (tt, tt)
       value_fine (ReadOf o) h = cat (object_code o x) _ (object_fine o h) (load_fine (is_read (object_type o)) o h)
       value_fine (AddressOf o t) h = object_fine o h
-      value_fine (Convert t v) h = cat (value_code v x) _ (value_fine v h) (convert_fine (is_read t) t)
+      value_fine (Convert t v) h = cat (value_code v x) _ (value_fine v h) (convert_fine (converts t v) (kind_of t))
       value_fine (Negate k v) h = cat (value_code v x) _ (value_fine v h) (tt, tt)
       value_fine (Complement k v) h = cat (value_code v x) _ (value_fine v h) (tt, tt)
       value_fine (Arithmetic op k a b) h = cat (value_code a x) _ (value_fine a (left (value_names ts a) (value_names ts b) h)) (cat (value_code b x) _ (value_fine b (right (value_names ts a) (value_names ts b) h)) (tt, tt))
@@ -127,8 +129,12 @@ module _ (ns : List Name) where
           cat (object_code o x) _ (object_fine o object) (cat (value_code v x) _ (value_fine v (right (object_names ts o) (value_names ts v) h)) (origin_fine o object, tt))
       value_fine (Changed o op k v) h =
           let object = left (object_names ts o) (value_names ts v) h in
-          cat (object_code o x) _ (object_fine o object)
-          (origin_fine o object, (tt, cat (value_code v x) _ (value_fine v (right (object_names ts o) (value_names ts v) h)) (tt, (tt, (origin_fine o object, tt)))))
+          let own = kind_of (object_type o) in
+          cat (object_code o x) _ (object_fine o object) (
+            origin_fine o object,
+            cat (convert_code (reconverts own k) k) _ (convert_fine (reconverts own k) k)
+                (cat (value_code v x) _ (value_fine v (right (object_names ts o) (value_names ts v) h)) (tt, cat (convert_code (reconverts k own) own) _ (convert_fine (reconverts k own) own) (origin_fine o object, tt))),
+          )
       value_fine (Moved o w i size) h =
           let object = left (object_names ts o) (value_names ts i) h in
           cat (object_code o x) _ (object_fine o object)

@@ -1,21 +1,18 @@
 -- The code of a function is the same wherever it and all objects lie.
-use Rattle.std.proofs.Common.{◌≡◌, ℕ, ◌+◌, List, [], ◌∷◌, ◌++◌, length, None, refl, sym, ap, ◌∙◌}
+use Rattle.std.proofs.Common.{◌≡◌, ℕ, ◌+◌, List, ◌∷◌, ◌++◌, length, refl, ap, ◌∙◌}
 use Rattle.places.specs.declared.placed.Placed.{Placed}
 use Rattle.c_code.specs.declared.instr.Change.TheVariants as change
-use Rattle.c_code.specs.declared.instr.Combine.TheVariants as combine
 use Rattle.c_code.specs.declared.instr.Instr.{Instr}
 use Rattle.c_code.specs.declared.instr.Instr.TheVariants as instr
-use Rattle.c_code.specs.declared.instr.Push.TheVariants.{Number, Local}
 use Rattle.c_code.specs.Machine.{Flat}
-use Rattle.r2_num.specs.declared.kinds.IntKind.TheVariants.{I64}
 use Rattle.c_scopes.specs.Scopes.{Scope}
 use Rattle.c_type_model.specs.Types.{CType}
 use Rattle.c_typing.specs.Environment.{Meaning}
 use Rattle.c_typing.specs.TypedTree.{Object, Value, Values, Callee, Sum, PointerPlus, PlusPointer, PointerMinus, GlobalObject, LocalObject, TextObject, Pointed, Element, MemberOf, Constant, FunctionAddress, ReadOf, AddressOf, Convert, Negate, Complement, Arithmetic, PointerSum, PointerDifference, PointerComparison, Not, Both, Either, Choice, Sequence, Assigned, Changed, Moved, Stepped, CallOf, NoValues, MoreValues, SourceFunction, BuiltinFunction, Through, MaybeValue, NoValue, OneValue, Statement, Statements, Block, Evaluate, Initialise, If, IfElse, While, Do, For, Break, Continue, Return, NoStatements, MoreStatements, object_type}
-use Rattle.c_meaning.specs.Context.{Source, kind_of}
-use Rattle.c_meaning.specs.Values.{is_read}
-use Rattle.c_placement.specs.Placement.{Against, count, loads, offset_of, stores}
-use Rattle.c_placement.specs.Code.{Making, body_code, call_code, callee_code, convert_code, last_code, load_code, move_code, object_code, one, return_code, statement_code, statements_code, sum_code, test_code, value_code, values_code}
+use Rattle.c_meaning.specs.Context.{kind_of}
+use Rattle.c_placement.specs.Conversions.{reconverts}
+use Rattle.c_placement.specs.Placement.{count, loads}
+use Rattle.c_placement.specs.Code.{Making, body_code, call_code, callee_code, convert_code, last_code, object_code, one, return_code, statement_code, statements_code, sum_code, test_code, value_code, values_code}
 use Rattle.c_typing.specs.TypedTree as typed
 use Rattle.c_typed_program.specs.Declarations.{Declared}
 use Rattle.c_typed_program.specs.Programs.{program_in, texts_in}
@@ -73,7 +70,7 @@ module _ (p : Declared) (offsets : List ℕ) (sig : CType → ℕ) (names other 
         ∙ ap (λ l. instr.SkipIfZero (length (value_code a y) + 1) ∷ (value_code a y ++ (instr.GoOn (length l) ∷ l))) (value_same b))
     value_same (Sequence a b) = cat (value_same a) (ap (λ l. instr.Drop ∷ l) (value_same b))
     value_same (Assigned o v) = cat (object_same o) (cat (value_same v) refl)
-    value_same (Changed o op k v) = cat (object_same o) (ap (λ l. loads o ∷ (instr.Change (change.Convert k) ∷ l)) (cat (value_same v) refl))
+    value_same (Changed o op k v) = cat (object_same o) (ap (λ l. loads o ∷ (convert_code (reconverts (kind_of (object_type o)) k) k ++ l)) (cat (value_same v) refl))
     value_same (Moved o w i size) = cat (object_same o) (ap (λ l. loads o ∷ l) (cat (value_same i) refl))
     value_same (Stepped o w g size) = cat (object_same o) refl
     value_same (CallOf f vs t) = cat (callee_same f) (cat (values_same vs) (call_same f (count vs)))

@@ -4,6 +4,7 @@
 mod backward;
 mod body;
 mod calls;
+mod conversions;
 mod emitter;
 mod logic;
 mod origins;

@@ -80,7 +80,7 @@ impl Emitter<'_, '_, '_> {
         self.value(code, value)
     }
 
-    // A value that is converted, if the type is scalar.
+    // A value that is converted, by an instruction where that may change it.
     #[cycle(values)]
     pub(crate) fn convert(
         &self,
@@ -92,7 +92,7 @@ impl Emitter<'_, '_, '_> {
         requires ty { ty.0 < length self.now.declared.table.types }
         ensures { OnOk result (code.new ≡ value_code (tree.Convert (type_at self.now.declared.table.types ty) (value_at self.now.declared.table value)) (making self.now) ++ code.old) }
     {
-        if self.index().is_read(ty) {
+        if self.converts(ty, value) {
             self.change(code, value, Change::Convert(self.index().kind(ty)))
         } else {
             self.value(code, value)

@@ -9,6 +9,7 @@ ghost use Rattle.c_placement.specs.Placement.{keeps_old, step_by};
 ghost use Rattle.c_lower_bodies.specs.Making.{making};
 
 use crate::backward::Backward;
+use crate::conversions::put_conversion;
 use crate::emitter::Emitter;
 use c_code::{Change, Combine, Instr};
 use c_typed_table::{Given, NodeId, Way};
@@ -81,10 +82,10 @@ impl Emitter<'_, '_, '_> {
         let own = self.object_kind(object);
         let origin = self.origin(object);
         code.put(Instr::Store(own, origin))?;
-        code.put(Instr::Change(Change::Convert(own)))?;
+        put_conversion(code, kind, own)?;
         code.put(Instr::Combine(Combine::Arith(op, kind)))?;
         self.value(code, value)?;
-        code.put(Instr::Change(Change::Convert(kind)))?;
+        put_conversion(code, own, kind)?;
         code.put(Instr::LoadKeep(own, origin))?;
         self.object(code, object)
     }

@@ -27,10 +27,12 @@ use Rattle.c_typing.specs.TypedTree.{Object, Values, Callee, Sum, PointerPlus, P
 use Rattle.c_typing.specs.TypedTree as typed
 use Rattle.c_meaning.specs.Reading.{Marks, ask, or_fault, with_any}
 use Rattle.c_meaning.specs.Context.{Source, global_address, kind_of, member_offset, order_of, size_of, text_address}
-use Rattle.c_meaning.specs.Values.{Here, address, back_by, called, converted_to, fetch, given, in_order, is_read, load, local_address, moved_by, negative, on_by, origin, stepped_by, store, summed, target, truth, value, values, width, wrap}
+use Rattle.c_meaning.specs.Values.{Here, address, back_by, called, fetch, given, in_order, is_read, load, local_address, moved_by, negative, on_by, origin, stepped_by, store, summed, target, truth, value, values, width, wrap}
 use Rattle.c_placement.specs.Places.{Has, Jumps}
 use Rattle.c_placement.specs.Placement.{Against, CallAt, CalleeAt, ConvertAt, IsSigOf, LoadAt, MoveAt, ObjectAt, SumAt, ValueAt, ValuesAt, count, keeps_old, loads, offset_of, step_by}
+use Rattle.c_placement.specs.Conversions.{converts, reconverts}
 use Rattle.c_placement.specs.Laws.{laid}
+use Rattle.c_placement.proofs.Conversions.{change_is, conversion_is}
 use Rattle.c_placement.proofs.Agree.{Agree, acting, by_ask, by_combine, by_silent, by_zero, by_lost, fewer}
 
 -- where an activation of a function runs, and what its calls make
@@ -162,10 +164,10 @@ module _ (r : Reading) (s : Source) (code : Flat) where
       (ap (next_of r l) (acting r l (instr.StoreLocal k offset) (stand p at) (v ∷ values) ws h.here))
       (λ x j lt. fewer r l j n q (Going (stand p (at + 1)) values ws) (omega arith) (subst (λ z. Agree r l n q (Going (stand p z) values ws)) (sym h.behind) c))
 
-  convert_agrees : (n : ℕ) (b : Bool) (t : CType) (go : ℕ → Marks) (p : Spot) (at to v : ℕ) (values : List ℕ) (ws : List Waiting) → ConvertAt (against_at p) b t at to → ((x : ℕ) → Agree r l n (go x) (Going (stand p to) (x ∷ values) ws))
-      → Agree r l n (go (cond b (converted (kind_of t) v) v)) (Going (stand p at) (v ∷ values) ws)
-  convert_agrees n true t go p at to v values ws h c = changes n (go (converted (kind_of t) v)) p (change.Convert (kind_of t)) at to v values ws h (c (converted (kind_of t) v))
-  convert_agrees n false t go p at to v values ws h c = subst (λ z. Agree r l n (go v) (Going (stand p z) (v ∷ values) ws)) (sym h) (c v)
+  convert_agrees : (n : ℕ) (b : Bool) (k : IntKind) (go : ℕ → Marks) (p : Spot) (at to v : ℕ) (values : List ℕ) (ws : List Waiting) → ConvertAt (against_at p) b k at to → ((x : ℕ) → Agree r l n (go x) (Going (stand p to) (x ∷ values) ws))
+      → Agree r l n (go (cond b (converted k v) v)) (Going (stand p at) (v ∷ values) ws)
+  convert_agrees n true k go p at to v values ws h c = changes n (go (converted k v)) p (change.Convert k) at to v values ws h (c (converted k v))
+  convert_agrees n false k go p at to v values ws h c = subst (λ z. Agree r l n (go v) (Going (stand p z) (v ∷ values) ws)) (sym h) (c v)
 
   -- ---- sums
 
@@ -289,7 +291,8 @@ module _ (r : Reading) (s : Source) (code : Flat) where
         object_agrees o n p at h.0 (load (here_at p) (origin o) (object_type o) go) stack ws cs h.1 (λ a. load_agrees n (is_read (object_type o)) o go p h.0 to a stack ws h.2 c)
     value_agrees (AddressOf o t) n p at to go stack ws cs h c = object_agrees o n p at to go stack ws cs h c
     value_agrees (Convert t v) n p at to go stack ws cs h c =
-        value_agrees v n p at h.0 (λ x. go (converted_to t x)) stack ws cs h.1 (λ x. convert_agrees n (is_read t) t go p h.0 to x stack ws h.2 c)
+        subst (λ q. Agree r l n q (Going (stand p at) stack ws)) (sym (conversion_is (here_at p) go t v))
+        (value_agrees v n p at h.0 (λ x. go (cond (converts t v) (converted (kind_of t) x) x)) stack ws cs h.1 (λ x. convert_agrees n (converts t v) (kind_of t) go p h.0 to x stack ws h.2 c))
     value_agrees (Negate k v) n p at to go stack ws cs h c =
         let f : ℕ → ℕ = λ x. written (wrapped k (pos 0 -ℤ read k x)) in
         value_agrees v n p at h.0 (λ x. go (f x)) stack ws cs h.1 (λ x. changes n (go (f x)) p (change.Negate k) h.0 to x stack ws h.2 (c (f x)))
@@ -332,15 +335,19 @@ module _ (r : Reading) (s : Source) (code : Flat) where
     value_agrees (Changed o op k v) n p at to go stack ws cs h c =
         let t = object_type o in
         let kept : (a : ℕ) → (ℕ → Marks) = λ a new. store (here_at p) (origin o) t a new (go new) in
-        let done : (a : ℕ) → (old : ℕ) → Marks = λ a old. value v (here_at p) (λ y. or_fault p.side (arith_of op k (converted k old) y) (λ x. kept a (converted (kind_of t) x))) in
+        let own = kind_of t in
+        let done : (a : ℕ) → (old : ℕ) → Marks = λ a old. value v (here_at p) (λ y. or_fault p.side (arith_of op k (converted k old) y) (λ x. kept a (converted own x))) in
+        let given_back : (a : ℕ) → (ℕ → Marks) = λ a x. kept a (cond (reconverts k own) (converted own x) x) in
+        let behind : (a : ℕ) → (old : ℕ) → Marks = λ a old. value v (here_at p) (λ y. or_fault p.side (arith_of op k old y) (given_back a)) in
         object_agrees o n p at h.0 (λ a. fetch (here_at p) (origin o) t (done a) a) stack ws cs h.6
         (λ a. keeps n o (done a) p h.0 h.1 a stack ws h.7 (λ w.
-        let old = converted (kind_of t) w in
-        changes n (done a old) p (change.Convert k) h.1 h.2 old (a ∷ stack) ws h.8
-        (value_agrees v n p h.2 h.3 (λ y. or_fault p.side (arith_of op k (converted k old) y) (λ x. kept a (converted (kind_of t) x))) (converted k old ∷ (a ∷ stack)) ws cs h.9
-        (λ y. combines n (λ x. kept a (converted (kind_of t) x)) p (combine.Arith op k) h.3 h.4 (converted k old) y (a ∷ stack) ws h.10
-        (λ x. changes n (kept a (converted (kind_of t) x)) p (change.Convert (kind_of t)) h.4 h.5 x (a ∷ stack) ws h.11
-        (store_agrees n (origin o) (kind_of t) (go (converted (kind_of t) x)) p h.5 to a (converted (kind_of t) x) stack ws h.12 (c (converted (kind_of t) x))))))))
+        let old = converted own w in
+        subst (λ q. Agree r l n q (Going (stand p h.1) (old ∷ (a ∷ stack)) ws)) (sym (change_is (here_at p) (kept a) op k own v (pos w)))
+        (convert_agrees n (reconverts own k) k (behind a) p h.1 h.2 old (a ∷ stack) ws h.8
+        (λ x. value_agrees v n p h.2 h.3 (λ y. or_fault p.side (arith_of op k x y) (given_back a)) (x ∷ (a ∷ stack)) ws cs h.9
+        (λ y. combines n (given_back a) p (combine.Arith op k) h.3 h.4 x y (a ∷ stack) ws h.10
+        (λ z. convert_agrees n (reconverts k own) own (kept a) p h.4 h.5 z (a ∷ stack) ws h.11
+        (λ new. store_agrees n (origin o) own (go new) p h.5 to a new stack ws h.12 (c new))))))))
     value_agrees (Moved o w i size) n p at to go stack ws cs h c =
         let t = object_type o in
         let kept : (a : ℕ) → (ℕ → Marks) = λ a new. store (here_at p) (origin o) t a new (go new) in

@@ -19,10 +19,10 @@ use Rattle.c_code.specs.Machine.{Flat, func_of}
 use Rattle.c_code.specs.Valid.{Keeps, Leads}
 use Rattle.c_code.specs.Values.{written}
 use Rattle.c_builtins.specs.Table.{number_of}
-use Rattle.c_type_model.specs.Types.{CType}
 use Rattle.c_typing.specs.TypedTree.{Object, Value, Values, Callee, Sum, PointerPlus, PlusPointer, PointerMinus, Way, Up, Down, GlobalObject, LocalObject, TextObject, Pointed, Element, MemberOf, Constant, FunctionAddress, ReadOf, AddressOf, Convert, Negate, Complement, Arithmetic, PointerSum, PointerDifference, PointerComparison, Not, Both, Either, Choice, Sequence, Assigned, Changed, Moved, Stepped, CallOf, NoValues, MoreValues, SourceFunction, BuiltinFunction, Through, object_type, value_type}
 use Rattle.c_meaning.specs.Context.{kind_of, member_offset, order_of, size_of}
 use Rattle.c_meaning.specs.Values.{is_read, origin, target}
+use Rattle.c_placement.specs.Conversions.{converts, reconverts}
 use Rattle.c_placement.specs.Placement.{count, keeps_old, loads, offset_of, step_by, stores}
 use Rattle.c_placement.specs.Code.{Lies, Making, call_code, callee_code, convert_code, load_code, move_code, object_code, one, sum_code, value_code, values_code}
 use Rattle.c_placement.specs.Heights.{CalleeCalls, Kept, ObjectCalls, Stand, Takes, ValueCalls, ValuesCall, call_waits, callee_heights, if_true, move_heights, object_heights, object_waits, pair_waits, sum_heights, sum_waits, under_args, value_heights, value_waits, values_heights, values_waits}
@@ -127,9 +127,9 @@ module _ (x : Making) (height : ℕ → ℕ) where
   load_len true o h = refl
   load_len false o h = refl
 
-  convert_len : (b : Bool) (t : CType) (h : ℕ) → length (if_true b h) ≡ length (convert_code b t)
-  convert_len true t h = refl
-  convert_len false t h = refl
+  convert_len : (b : Bool) (k : IntKind) (h : ℕ) → length (if_true b h) ≡ length (convert_code b k)
+  convert_len true k h = refl
+  convert_len false k h = refl
 
   call_len : (f : Callee) (n k : ℕ) → length (k ∷ []) ≡ length (call_code f x n)
   call_len (SourceFunction number) n k = refl
@@ -156,7 +156,7 @@ module _ (x : Making) (height : ℕ → ℕ) where
     value_len (FunctionAddress number t) h = refl
     value_len (ReadOf o) h = len_app (object_heights o h) (if_true (is_read (object_type o)) (h + 1)) (object_code o x) (load_code (is_read (object_type o)) o) (object_len o h) (load_len (is_read (object_type o)) o (h + 1))
     value_len (AddressOf o t) h = object_len o h
-    value_len (Convert t v) h = len_app (value_heights v h) (if_true (is_read t) (h + 1)) (value_code v x) (convert_code (is_read t) t) (value_len v h) (convert_len (is_read t) t (h + 1))
+    value_len (Convert t v) h = len_app (value_heights v h) (if_true (converts t v) (h + 1)) (value_code v x) (convert_code (converts t v) (kind_of t)) (value_len v h) (convert_len (converts t v) (kind_of t) (h + 1))
     value_len (Negate k v) h = len_app (value_heights v h) ((h + 1) ∷ []) (value_code v x) (one (instr.Change (change.Negate k))) (value_len v h) refl
     value_len (Complement k v) h = len_app (value_heights v h) ((h + 1) ∷ []) (value_code v x) (one (instr.Change (change.Complement k))) (value_len v h) refl
     value_len (Arithmetic op k a b) h = pair_len (value_code a x) (value_code b x) (value_heights a h) (value_heights b (h + 1)) (instr.Combine (combine.Arith op k)) (h + 2) (value_len a h) (value_len b (h + 1))
@@ -173,9 +173,18 @@ module _ (x : Making) (height : ℕ → ℕ) where
     value_len (Sequence a b) h = len_app (value_heights a h) ((h + 1) ∷ value_heights b h) (value_code a x) (instr.Drop ∷ value_code b x) (value_len a h) (ap suc (value_len b h))
     value_len (Assigned o v) h = pair_len (object_code o x) (value_code v x) (object_heights o h) (value_heights v (h + 1)) (stores o) (h + 2) (object_len o h) (value_len v (h + 1))
     value_len (Changed o op k v) h =
-        let end = instr.Combine (combine.Arith op k) ∷ (instr.Change (change.Convert (kind_of (object_type o))) ∷ one (stores o)) in
-        len_app (object_heights o h) ((h + 1) ∷ ((h + 2) ∷ (value_heights v (h + 2) ++ ((h + 3) ∷ ((h + 2) ∷ ((h + 2) ∷ [])))))) (object_code o x) (loads o ∷ (instr.Change (change.Convert k) ∷ (value_code v x ++ end))) (object_len o h)
-        (ap suc (ap suc (len_app (value_heights v (h + 2)) ((h + 3) ∷ ((h + 2) ∷ ((h + 2) ∷ []))) (value_code v x) end (value_len v (h + 2)) refl)))
+        let own = kind_of (object_type o) in
+        let first = convert_code (reconverts own k) k in
+        let second = convert_code (reconverts k own) own in
+        let last = second ++ one (stores o) in
+        let end = instr.Combine (combine.Arith op k) ∷ last in
+        let inner = value_code v x ++ end in
+        let last_heights = if_true (reconverts k own) (h + 2) ++ ((h + 2) ∷ []) in
+        let inner_heights = value_heights v (h + 2) ++ ((h + 3) ∷ last_heights) in
+        len_app (object_heights o h) ((h + 1) ∷ (if_true (reconverts own k) (h + 2) ++ inner_heights)) (object_code o x) (loads o ∷ (first ++ inner)) (object_len o h)
+        (ap suc (len_app (if_true (reconverts own k) (h + 2)) inner_heights first inner (convert_len (reconverts own k) k (h + 2))
+        (len_app (value_heights v (h + 2)) ((h + 3) ∷ last_heights) (value_code v x) end (value_len v (h + 2))
+        (ap suc (len_app (if_true (reconverts k own) (h + 2)) ((h + 2) ∷ []) second (one (stores o)) (convert_len (reconverts k own) own (h + 2)) refl)))))
     value_len (Moved o w i size) h =
         len_app (object_heights o h) ((h + 1) ∷ (value_heights i (h + 2) ++ (move_heights w (h + 3) ++ ((h + 2) ∷ [])))) (object_code o x) (loads o ∷ (value_code i x ++ (move_code w size ++ one (stores o)))) (object_len o h)
         (ap suc (len_app (value_heights i (h + 2)) (move_heights w (h + 3) ++ ((h + 2) ∷ [])) (value_code i x) (move_code w size ++ one (stores o)) (value_len i (h + 2)) (len_app (move_heights w (h + 3)) ((h + 2) ∷ []) (move_code w size) (one (stores o)) (move_len w size (h + 3)) refl)))
@@ -229,7 +238,7 @@ module _ (x : Making) (height : ℕ → ℕ) where
     value_begins (FunctionAddress number t) h = one_begins (instr.Push (Number (function_address number))) [] h h [] refl
     value_begins (ReadOf o) h = begins_with (object_code o x) (load_code (is_read (object_type o)) o) (object_heights o h) (if_true (is_read (object_type o)) (h + 1)) h (object_begins o h)
     value_begins (AddressOf o t) h = object_begins o h
-    value_begins (Convert t v) h = begins_with (value_code v x) (convert_code (is_read t) t) (value_heights v h) (if_true (is_read t) (h + 1)) h (value_begins v h)
+    value_begins (Convert t v) h = begins_with (value_code v x) (convert_code (converts t v) (kind_of t)) (value_heights v h) (if_true (converts t v) (h + 1)) h (value_begins v h)
     value_begins (Negate k v) h = begins_with (value_code v x) (one (instr.Change (change.Negate k))) (value_heights v h) ((h + 1) ∷ []) h (value_begins v h)
     value_begins (Complement k v) h = begins_with (value_code v x) (one (instr.Change (change.Complement k))) (value_heights v h) ((h + 1) ∷ []) h (value_begins v h)
     value_begins (Arithmetic op k a b) h = begins_with (value_code a x) (value_code b x ++ one (instr.Combine (combine.Arith op k))) (value_heights a h) (value_heights b (h + 1) ++ ((h + 2) ∷ [])) h (value_begins a h)
@@ -243,7 +252,15 @@ module _ (x : Making) (height : ℕ → ℕ) where
     value_begins (Sequence a b) h = begins_with (value_code a x) (instr.Drop ∷ value_code b x) (value_heights a h) ((h + 1) ∷ value_heights b h) h (value_begins a h)
     value_begins (Assigned o v) h = begins_with (object_code o x) (value_code v x ++ one (stores o)) (object_heights o h) (value_heights v (h + 1) ++ ((h + 2) ∷ [])) h (object_begins o h)
     value_begins (Changed o op k v) h =
-        begins_with (object_code o x) (loads o ∷ (instr.Change (change.Convert k) ∷ (value_code v x ++ (instr.Combine (combine.Arith op k) ∷ (instr.Change (change.Convert (kind_of (object_type o))) ∷ one (stores o)))))) (object_heights o h) ((h + 1) ∷ ((h + 2) ∷ (value_heights v (h + 2) ++ ((h + 3) ∷ ((h + 2) ∷ ((h + 2) ∷ [])))))) h (object_begins o h)
+        let own = kind_of (object_type o) in
+        let first = convert_code (reconverts own k) k in
+        let second = convert_code (reconverts k own) own in
+        let last = second ++ one (stores o) in
+        let end = instr.Combine (combine.Arith op k) ∷ last in
+        let inner = value_code v x ++ end in
+        let last_heights = if_true (reconverts k own) (h + 2) ++ ((h + 2) ∷ []) in
+        let inner_heights = value_heights v (h + 2) ++ ((h + 3) ∷ last_heights) in
+        begins_with (object_code o x) (loads o ∷ (first ++ inner)) (object_heights o h) ((h + 1) ∷ (if_true (reconverts own k) (h + 2) ++ inner_heights)) h (object_begins o h)
     value_begins (Moved o w i size) h = begins_with (object_code o x) (loads o ∷ (value_code i x ++ (move_code w size ++ one (stores o)))) (object_heights o h) ((h + 1) ∷ (value_heights i (h + 2) ++ (move_heights w (h + 3) ++ ((h + 2) ∷ [])))) h (object_begins o h)
     value_begins (Stepped o w g size) h = begins_with (object_code o x) (loads o ∷ one (instr.StoreStep (kind_of (object_type o)) (step_by w size) (keeps_old g) (origin o))) (object_heights o h) ((h + 1) ∷ ((h + 2) ∷ [])) h (object_begins o h)
     value_begins (CallOf (SourceFunction number) vs t) h = values_begin vs (call_code (SourceFunction number) x (count vs)) (SourceFunction number) h (call_begins (SourceFunction number) (count vs))
@@ -375,9 +392,18 @@ module _ (x : Making) (height : ℕ → ℕ) where
       let e = length-append a [] in
       joined a [] at (k at c.0 d.0 (leads_at (at + length (a ++ [])) (at + length a) (h + 1) (h + 1) (omega arith) refl to) le) tt
 
-  convert_kept : (b : Bool) (t : CType) (a : List Instr) (ha : List ℕ) (h w : ℕ) → length ha ≡ length a → 1 ≤ w → Keeping a ha h w → Keeping (a ++ convert_code b t) (ha ++ if_true b (h + 1)) h w
-  convert_kept true t a ha h w len some k at l s to le = single_kept (instr.Change (change.Convert (kind_of t))) a ha h w len some k (λ n e f to. k_change (change.Convert (kind_of t)) n h e f to) at l s to le
-  convert_kept false t a ha h w len some k at l s to le =
+  -- what may be converted, and more waits below than what is converted
+  convert_leads : (b : Bool) (k : IntKind) (at h : ℕ) → Lies code.instrs at (convert_code b k) → Stand height at (if_true b h) → Leads code height (at + length (convert_code b k)) h → Leads code height at h
+  convert_leads true k at h l s to = leads_to at (instr.Change (change.Convert k)) h l.0 s.0
+  convert_leads false k at h l s to = leads_at (at + 0) at h h (omega arith) refl to
+
+  changed_kept : (b : Bool) (k : IntKind) (at h n : ℕ) → n ≡ h + 1 → Lies code.instrs at (convert_code b k) → Stand height at (if_true b n) → n ≤ 64 → Leads code height (at + length (convert_code b k)) n → Kept code height at (convert_code b k)
+  changed_kept true k at h n e l s le to = (k_change (change.Convert k) at h (s.0 ∙ e) (omega (arith, e, le)) (leads_at (at + 1) (at + 1) n (h + 1) refl e to), tt)
+  changed_kept false k at h n e l s le to = tt
+
+  convert_kept : (b : Bool) (kind : IntKind) (a : List Instr) (ha : List ℕ) (h w : ℕ) → length ha ≡ length a → 1 ≤ w → Keeping a ha h w → Keeping (a ++ convert_code b kind) (ha ++ if_true b (h + 1)) h w
+  convert_kept true kind a ha h w len some k at l s to le = single_kept (instr.Change (change.Convert kind)) a ha h w len some k (λ n e f to. k_change (change.Convert kind) n h e f to) at l s to le
+  convert_kept false kind a ha h w len some k at l s to le =
       let c = split x a [] at l in
       let d = parted ha [] a at len s in
       let e = length-append a [] in
@@ -444,7 +470,7 @@ module _ (x : Making) (height : ℕ → ℕ) where
     value_kept (FunctionAddress number t) h u at l s to le = (k_push (Number (function_address number)) at h s.0 (omega arith) to, tt)
     value_kept (ReadOf o) h u at l s to le = load_kept (is_read (object_type o)) o (object_code o x) (object_heights o h) h (object_waits o) (object_len o h) (object_some o) (object_kept o h u) at l s to le
     value_kept (AddressOf o t) h u at l s to le = object_kept o h u at l s to le
-    value_kept (Convert t v) h u at l s to le = convert_kept (is_read t) t (value_code v x) (value_heights v h) h (value_waits v) (value_len v h) (value_some v) (value_kept v h u) at l s to le
+    value_kept (Convert t v) h u at l s to le = convert_kept (converts t v) (kind_of t) (value_code v x) (value_heights v h) h (value_waits v) (value_len v h) (value_some v) (value_kept v h u) at l s to le
     value_kept (Negate k v) h u at l s to le = single_kept (instr.Change (change.Negate k)) (value_code v x) (value_heights v h) h (value_waits v) (value_len v h) (value_some v) (value_kept v h u) (λ n e f to. k_change (change.Negate k) n h e f to) at l s to le
     value_kept (Complement k v) h u at l s to le = single_kept (instr.Change (change.Complement k)) (value_code v x) (value_heights v h) h (value_waits v) (value_len v h) (value_some v) (value_kept v h u) (λ n e f to. k_change (change.Complement k) n h e f to) at l s to le
     value_kept (Arithmetic op k a b) h u at l s to le =
@@ -495,32 +521,45 @@ module _ (x : Making) (height : ℕ → ℕ) where
     value_kept (Assigned o v) h u at l s to le =
         pair_kept (stores o) (object_code o x) (value_code v x) (object_heights o h) (value_heights v (h + 1)) h (object_waits o) (value_waits v) (object_len o h) (value_len v (h + 1)) (value_some v) (value_begins v (h + 1)) (object_kept o h u.0) (value_kept v (h + 1) u.1) (λ n e f to. k_store (kind_of (object_type o)) (origin o) n h e f to) at l s to le
     value_kept (Changed o op k v) h u at l s to le =
-        let end = instr.Combine (combine.Arith op k) ∷ (instr.Change (change.Convert (kind_of (object_type o))) ∷ one (stores o)) in
-        let rest = loads o ∷ (instr.Change (change.Convert k) ∷ (value_code v x ++ end)) in
+        let own = kind_of (object_type o) in
+        let first = convert_code (reconverts own k) k in
+        let second = convert_code (reconverts k own) own in
+        let last = second ++ one (stores o) in
+        let end = instr.Combine (combine.Arith op k) ∷ last in
+        let inner = value_code v x ++ end in
+        let last_heights = if_true (reconverts k own) (h + 2) ++ ((h + 2) ∷ []) in
+        let inner_heights = value_heights v (h + 2) ++ ((h + 3) ∷ last_heights) in
+        let rest = loads o ∷ (first ++ inner) in
         let c = split x (object_code o x) rest at l in
-        let d = parted (object_heights o h) ((h + 1) ∷ ((h + 2) ∷ (value_heights v (h + 2) ++ ((h + 3) ∷ ((h + 2) ∷ ((h + 2) ∷ [])))))) (object_code o x) at (object_len o h) s in
+        let d = parted (object_heights o h) ((h + 1) ∷ (if_true (reconverts own k) (h + 2) ++ inner_heights)) (object_code o x) at (object_len o h) s in
         let m = at + length (object_code o x) in
-        let c2 = split x (value_code v x) end (m + 1 + 1) c.1.1.1 in
-        let d2 = parted (value_heights v (h + 2)) ((h + 3) ∷ ((h + 2) ∷ ((h + 2) ∷ []))) (value_code v x) (m + 1 + 1) (value_len v (h + 2)) d.1.1.1 in
-        let n = m + 1 + 1 + length (value_code v x) in
+        let c1 = split x first inner (m + 1) c.1.1 in
+        let d1 = parted (if_true (reconverts own k) (h + 2)) inner_heights first (m + 1) (convert_len (reconverts own k) k (h + 2)) d.1.1 in
+        let f = m + 1 + length first in
+        let c2 = split x (value_code v x) end f c1.1 in
+        let d2 = parted (value_heights v (h + 2)) ((h + 3) ∷ last_heights) (value_code v x) f (value_len v (h + 2)) d1.1 in
+        let n = f + length (value_code v x) in
+        let c3 = split x second (one (stores o)) (n + 1) c2.1.1 in
+        let d3 = parted (if_true (reconverts k own) (h + 2)) ((h + 2) ∷ []) second (n + 1) (convert_len (reconverts k own) own (h + 2)) d2.1.1 in
+        let q = n + 1 + length second in
         let e = length-append (object_code o x) rest in
+        let e1 = length-append first inner in
         let e2 = length-append (value_code v x) end in
+        let e3 = length-append second (one (stores o)) in
         let ones = value_some v in
         let two : h + 2 ≡ h + 1 + 1 = omega arith in
         let three : h + 3 ≡ h + 1 + 2 = omega arith in
         let more : h + 3 ≡ h + 2 + 1 = omega arith in
+        let begins_v = value_begins v (h + 2) f c2.0 d2.0 in
+        let begins_store = leads_to q (stores o) (h + 2) c3.1.0 d3.1.0 in
         joined (object_code o x) rest at (object_kept o h u.0 at c.0 d.0 (leads_to m (loads o) (h + 1) c.1.0 d.1.0) (omega arith)) (
-          k_keep (kind_of (object_type o)) (origin o) m h d.1.0 (omega (arith, ones, le)) (leads_to (m + 1) (instr.Change (change.Convert k)) (h + 2) c.1.1.0 d.1.1.0),
-          (
-            k_change (change.Convert k) (m + 1) (h + 1) (d.1.1.0 ∙ two) (omega (arith, ones, le)) (leads_at (m + 1 + 1) (m + 1 + 1) (h + 2) (h + 1 + 1) refl two (value_begins v (h + 2) (m + 1 + 1) c2.0 d2.0)),
-            joined (value_code v x) end (m + 1 + 1) (value_kept v (h + 2) u.1 (m + 1 + 1) c2.0 d2.0 (leads_at n n (h + 3) (h + 2 + 1) refl more (leads_to n (instr.Combine (combine.Arith op k)) (h + 3) c2.1.0 d2.1.0)) (omega arith)) (
-              k_combine (combine.Arith op k) n (h + 1) (d2.1.0 ∙ three) (omega (arith, ones, le)) (leads_at (n + 1) (n + 1) (h + 2) (h + 1 + 1) refl two (leads_to (n + 1) (instr.Change (change.Convert (kind_of (object_type o)))) (h + 2) c2.1.1.0 d2.1.1.0)),
-              (
-                k_change (change.Convert (kind_of (object_type o))) (n + 1) (h + 1) (d2.1.1.0 ∙ two) (omega (arith, ones, le)) (leads_at (n + 1 + 1) (n + 1 + 1) (h + 2) (h + 1 + 1) refl two (leads_to (n + 1 + 1) (stores o) (h + 2) c2.1.1.1.0 d2.1.1.1.0)),
-                (k_store (kind_of (object_type o)) (origin o) (n + 1 + 1) h d2.1.1.1.0 (omega (arith, ones, le)) (leads_at (at + length (object_code o x ++ rest)) (n + 1 + 1 + 1) (h + 1) (h + 1) (omega arith) refl to), tt),
-              ),
-            ),
-          ),
+          k_keep own (origin o) m h d.1.0 (omega (arith, ones, le)) (convert_leads (reconverts own k) k (m + 1) (h + 2) c1.0 d1.0 begins_v),
+          joined first inner (m + 1) (changed_kept (reconverts own k) k (m + 1) (h + 1) (h + 2) two c1.0 d1.0 (omega (arith, ones, le)) begins_v)
+              (joined (value_code v x) end f (value_kept v (h + 2) u.1 f c2.0 d2.0 (leads_at n n (h + 3) (h + 2 + 1) refl more (leads_to n (instr.Combine (combine.Arith op k)) (h + 3) c2.1.0 d2.1.0)) (omega arith)) (
+                k_combine (combine.Arith op k) n (h + 1) (d2.1.0 ∙ three) (omega (arith, ones, le)) (leads_at (n + 1) (n + 1) (h + 2) (h + 1 + 1) refl two (convert_leads (reconverts k own) own (n + 1) (h + 2) c3.0 d3.0 begins_store)),
+                joined second (one (stores o)) (n + 1) (changed_kept (reconverts k own) own (n + 1) (h + 1) (h + 2) two c3.0 d3.0 (omega (arith, ones, le)) begins_store)
+                    (k_store own (origin o) q h d3.1.0 (omega (arith, ones, le)) (leads_at (at + length (object_code o x ++ rest)) (q + 1) (h + 1) (h + 1) (omega arith) refl to), tt),
+              )),
         )
     value_kept (Moved o w i size) h u at l s to le =
         let last = one (stores o) in

@@ -1,4 +1,5 @@
 mod Agree
+mod Conversions
 mod Expressions
 mod Statements
 mod Calling

@@ -1,5 +1,6 @@
 -- The code of a construct, where it stands, lies as the placement says.
-use Rattle.std.proofs.Common.{◌≡◌, ℕ, ◌+◌, ◌-◌, Bool, true, false, List, [], ◌∷◌, ◌++◌, length, length-append, None, refl, subst, arith}
+use Rattle.std.proofs.Common.{◌≡◌, ℕ, ◌+◌, ◌-◌, Bool, true, false, List, [], ◌∷◌, ◌++◌, length, length-append, refl, subst, arith}
+use Rattle.r2_num.specs.declared.kinds.IntKind.{IntKind}
 use Rattle.r2_num.specs.declared.kinds.IntKind.TheVariants.{I64, U64}
 use Rattle.c_code.specs.declared.instr.Push.TheVariants.{Number, Local, Global}
 use Rattle.c_code.specs.declared.instr.Change.TheVariants as change
@@ -15,6 +16,7 @@ use Rattle.c_placement.specs.Places.{Has, Jumps, GoesBack}
 use Rattle.c_typing.specs.TypedTree.{Body}
 use Rattle.c_code.specs.Machine.{Flat}
 use Rattle.c_meaning.specs.Context.{Source}
+use Rattle.c_placement.specs.Conversions.{converts, reconverts}
 use Rattle.c_placement.specs.Laws.{IsEmitted, IsLowered}
 use Rattle.c_placement.specs.Placement.{BodyAt, CallAt, CalleeAt, ConvertAt, LastAt, LoadAt, MoveAt, ObjectAt, ReturnAt, StatementAt, StatementsAt, SumAt, TestAt, ValueAt, ValuesAt, count, keeps_old, loads, offset_of, step_by, stores}
 use Rattle.c_placement.specs.Code.{HasSigs, Lies, Making, body_code, making, call_code, callee_code, convert_code, last_code, load_code, move_code, object_code, one, return_code, statement_code, statements_code, sum_code, test_code, value_code, values_code}
@@ -77,9 +79,9 @@ module _ (x : Making) where
   move_lies Down size at h =
       (at + 1, has (instr.Change (change.Negate I64)) (one (instr.Combine (combine.Index size))) at (at + 1) h refl, has (instr.Combine (combine.Index size)) [] (at + 1) (at + length (move_code Down size)) h.1 (omega arith))
 
-  convert_lies : (b : Bool) (t : CType) (at : ℕ) → Lies code at (convert_code b t) → ConvertAt x.against b t at (at + length (convert_code b t))
-  convert_lies true t at h = has (instr.Change (change.Convert (kind_of t))) [] at (at + length (convert_code true t)) h refl
-  convert_lies false t at h = omega arith
+  convert_lies : (b : Bool) (k : IntKind) (at : ℕ) → Lies code at (convert_code b k) → ConvertAt x.against b k at (at + length (convert_code b k))
+  convert_lies true k at h = has (instr.Change (change.Convert k)) [] at (at + length (convert_code true k)) h refl
+  convert_lies false k at h = omega arith
 
   load_lies : (b : Bool) (o : Object) (at : ℕ) → Lies code at (load_code b o) → LoadAt x.against b o at (at + length (load_code b o))
   load_lies true o at h = has (instr.Load (kind_of (object_type o)) (origin o)) [] at (at + length (load_code true o)) h refl
@@ -141,10 +143,10 @@ module _ (x : Making) where
           (at + length (object_code o x), object_lies o at a.0, to_end (LoadAt x.against (is_read (object_type o)) o (at + length (object_code o x))) (at + length (object_code o x) + length last) (at + length (object_code o x ++ last)) (omega arith) (load_lies (is_read (object_type o)) o (at + length (object_code o x)) a.1))
       value_lies (AddressOf o t) at h = object_lies o at h
       value_lies (Convert t v) at h =
-          let last = convert_code (is_read t) t in
+          let last = convert_code (converts t v) (kind_of t) in
           let a = split (value_code v x) last at h in
           let e = length-append (value_code v x) last in
-          (at + length (value_code v x), value_lies v at a.0, to_end (ConvertAt x.against (is_read t) t (at + length (value_code v x))) (at + length (value_code v x) + length last) (at + length (value_code v x ++ last)) (omega arith) (convert_lies (is_read t) t (at + length (value_code v x)) a.1))
+          (at + length (value_code v x), value_lies v at a.0, to_end (ConvertAt x.against (converts t v) (kind_of t) (at + length (value_code v x))) (at + length (value_code v x) + length last) (at + length (value_code v x ++ last)) (omega arith) (convert_lies (converts t v) (kind_of t) (at + length (value_code v x)) a.1))
       value_lies (Negate k v) at h = single_lies (instr.Change (change.Negate k)) (value_code v x) (ValueAt v x.against) at (λ m g. value_lies v m g) h
       value_lies (Complement k v) at h = single_lies (instr.Change (change.Complement k)) (value_code v x) (ValueAt v x.against) at (λ m g. value_lies v m g) h
       value_lies (Arithmetic op k a b) at h = pair_lies (instr.Combine (combine.Arith op k)) (value_code a x) (value_code b x) (ValueAt a x.against) (ValueAt b x.against) at (λ m g. value_lies a m g) (λ m g. value_lies b m g) h
@@ -181,29 +183,39 @@ module _ (x : Making) where
           (m, m + 1, value_lies a at c.0, has instr.Drop (value_code b x) m (m + 1) c.1 refl, to_end (ValueAt b x.against (m + 1)) (m + 1 + length (value_code b x)) to (omega arith) (value_lies b (m + 1) c.1.1))
       value_lies (Assigned o v) at h = pair_lies (stores o) (object_code o x) (value_code v x) (ObjectAt o x.against) (ValueAt v x.against) at (λ m g. object_lies o m g) (λ m g. value_lies v m g) h
       value_lies (Changed o op k v) at h =
-          let end = instr.Combine (combine.Arith op k) ∷ (instr.Change (change.Convert (kind_of (object_type o))) ∷ one (stores o)) in
-          let rest = loads o ∷ (instr.Change (change.Convert k) ∷ (value_code v x ++ end)) in
+          let own = kind_of (object_type o) in
+          let first = convert_code (reconverts own k) k in
+          let second = convert_code (reconverts k own) own in
+          let last = second ++ one (stores o) in
+          let end = instr.Combine (combine.Arith op k) ∷ last in
+          let inner = value_code v x ++ end in
+          let rest = loads o ∷ (first ++ inner) in
           let m = at + length (object_code o x) in
-          let q = m + 2 + length (value_code v x) in
+          let p = m + 1 + length first in
+          let q = p + length (value_code v x) in
+          let u = q + 1 + length second in
           let c = split (object_code o x) rest at h in
-          let d = split (value_code v x) end (m + 1 + 1) c.1.1.1 in
+          let d = split first inner (m + 1) c.1.1 in
+          let f = split (value_code v x) end p d.1 in
+          let g = split second (one (stores o)) (q + 1) f.1.1 in
           let e = length-append (object_code o x) rest in
-          let u = length-append (value_code v x) end in
-          let to = at + length (object_code o x ++ rest) in
-          let ends = to_end (λ z. Lies code z end) (m + 1 + 1 + length (value_code v x)) q (omega arith) d.1 in (
+          let e1 = length-append first inner in
+          let e2 = length-append (value_code v x) end in
+          let e3 = length-append second (one (stores o)) in
+          let to = at + length (object_code o x ++ rest) in (
             m,
             m + 1,
-            m + 1 + 1,
+            p,
             q,
             q + 1,
-            q + 1 + 1,
+            u,
             object_lies o at c.0,
-            has (loads o) (instr.Change (change.Convert k) ∷ (value_code v x ++ end)) m (m + 1) c.1 refl,
-            has (instr.Change (change.Convert k)) (value_code v x ++ end) (m + 1) (m + 1 + 1) c.1.1 refl,
-            to_end (ValueAt v x.against (m + 1 + 1)) (m + 1 + 1 + length (value_code v x)) q (omega arith) (value_lies v (m + 1 + 1) d.0),
-            has (instr.Combine (combine.Arith op k)) (instr.Change (change.Convert (kind_of (object_type o))) ∷ one (stores o)) q (q + 1) ends refl,
-            has (instr.Change (change.Convert (kind_of (object_type o)))) (one (stores o)) (q + 1) (q + 1 + 1) ends.1 refl,
-            has (stores o) [] (q + 1 + 1) to ends.1.1 (omega arith),
+            has (loads o) (first ++ inner) m (m + 1) c.1 refl,
+            convert_lies (reconverts own k) k (m + 1) d.0,
+            value_lies v p f.0,
+            has (instr.Combine (combine.Arith op k)) last q (q + 1) f.1 refl,
+            convert_lies (reconverts k own) own (q + 1) g.0,
+            has (stores o) [] u to g.1 (omega arith),
           )
       value_lies (Moved o w i size) at h =
           let last = one (stores o) in

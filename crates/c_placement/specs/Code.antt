@@ -1,5 +1,6 @@
 -- The code of a typed source, construct by construct.
 use Rattle.std.specs.Prelude.{◌≡◌, ℕ, ◌+◌, Bool, true, false, List, [], ◌∷◌, ◌++◌, length, Some, slice_get}
+use Rattle.r2_num.specs.declared.kinds.IntKind.{IntKind}
 use Rattle.r2_num.specs.declared.kinds.IntKind.TheVariants.{I64, U64}
 use Rattle.marks.specs.Places.{function_address}
 use Rattle.c_code.specs.declared.instr.Push.TheVariants.{Number, Local, Global, Text}
@@ -15,6 +16,7 @@ use Rattle.c_typing.specs.TypedTree.{Object, Value, Values, Callee, Sum, Pointer
 use Rattle.c_typing.specs.TypedTree as typed
 use Rattle.c_meaning.specs.Context.{Source, kind_of, member_offset, order_of, size_of}
 use Rattle.c_meaning.specs.Values.{is_read, origin, target}
+use Rattle.c_placement.specs.Conversions.{converts, reconverts}
 use Rattle.c_placement.specs.Placement.{Against, IsSigOf, against, count, keeps_old, loads, offset_of, step_by, stores}
 
 -- what code is made with: the numbers of types of functions, and what it is placed against
@@ -38,9 +40,9 @@ abbrev pub move_code : Way → (size : ℕ) → List Instr
 move_code Up size = one (instr.Combine (combine.Index size))
 move_code Down size = instr.Change (change.Negate I64) ∷ one (instr.Combine (combine.Index size))
 
-abbrev pub convert_code : Bool → CType → List Instr
-convert_code true t = one (instr.Change (change.Convert (kind_of t)))
-convert_code false t = []
+abbrev pub convert_code : Bool → IntKind → List Instr
+convert_code true k = one (instr.Change (change.Convert k))
+convert_code false k = []
 
 abbrev pub load_code : Bool → Object → List Instr
 load_code true o = one (instr.Load (kind_of (object_type o)) (origin o))
@@ -65,7 +67,7 @@ abbrev mutual
   value_code (FunctionAddress number t) x = one (instr.Push (Number (function_address number)))
   value_code (ReadOf o) x = object_code o x ++ load_code (is_read (object_type o)) o
   value_code (AddressOf o t) x = object_code o x
-  value_code (Convert t v) x = value_code v x ++ convert_code (is_read t) t
+  value_code (Convert t v) x = value_code v x ++ convert_code (converts t v) (kind_of t)
   value_code (Negate k v) x = value_code v x ++ one (instr.Change (change.Negate k))
   value_code (Complement k v) x = value_code v x ++ one (instr.Change (change.Complement k))
   value_code (Arithmetic op k a b) x = value_code a x ++ (value_code b x ++ one (instr.Combine (combine.Arith op k)))
@@ -79,7 +81,8 @@ abbrev mutual
   value_code (Sequence a b) x = value_code a x ++ (instr.Drop ∷ value_code b x)
   value_code (Assigned o v) x = object_code o x ++ (value_code v x ++ one (stores o))
   value_code (Changed o op k v) x =
-      object_code o x ++ (loads o ∷ (instr.Change (change.Convert k) ∷ (value_code v x ++ (instr.Combine (combine.Arith op k) ∷ (instr.Change (change.Convert (kind_of (object_type o))) ∷ one (stores o))))))
+      let own = kind_of (object_type o) in
+      object_code o x ++ (loads o ∷ (convert_code (reconverts own k) k ++ (value_code v x ++ (instr.Combine (combine.Arith op k) ∷ (convert_code (reconverts k own) own ++ one (stores o))))))
   value_code (Moved o w i size) x = object_code o x ++ (loads o ∷ (value_code i x ++ (move_code w size ++ one (stores o))))
   value_code (Stepped o w g size) x = object_code o x ++ (loads o ∷ one (instr.StoreStep (kind_of (object_type o)) (step_by w size) (keeps_old g) (origin o)))
   value_code (CallOf f vs t) x = callee_code f x ++ (values_code vs x ++ call_code f x (count vs))

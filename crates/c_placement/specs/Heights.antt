@@ -7,7 +7,9 @@ use Rattle.c_code.specs.Valid.{Keeps}
 use Rattle.c_builtins.specs.Table.{number_of}
 use Rattle.c_typing.specs.TypedTree.{Object, Value, Values, Callee, Sum, PointerPlus, PlusPointer, PointerMinus, Way, Up, Down, GlobalObject, LocalObject, TextObject, Pointed, Element, MemberOf, Constant, FunctionAddress, ReadOf, AddressOf, Convert, Negate, Complement, Arithmetic, PointerSum, PointerDifference, PointerComparison, Not, Both, Either, Choice, Sequence, Assigned, Changed, Moved, Stepped, CallOf, NoValues, MoreValues, SourceFunction, BuiltinFunction, Through, MaybeValue, NoValue, OneValue, Statement, Statements, Block, Evaluate, Initialise, If, IfElse, While, Do, For, Break, Continue, Return, NoStatements, MoreStatements, object_type, value_type}
 use Rattle.c_typing.specs.TypedTree as typed
+use Rattle.c_meaning.specs.Context.{kind_of}
 use Rattle.c_meaning.specs.Values.{is_read, target}
+use Rattle.c_placement.specs.Conversions.{converts, reconverts}
 use Rattle.c_placement.specs.Placement.{count}
 use Rattle.c_placement.specs.Code.{Making}
 
@@ -189,7 +191,7 @@ abbrev mutual
   value_heights (FunctionAddress number t) h = h ∷ []
   value_heights (ReadOf o) h = object_heights o h ++ if_true (is_read (object_type o)) (h + 1)
   value_heights (AddressOf o t) h = object_heights o h
-  value_heights (Convert t v) h = value_heights v h ++ if_true (is_read t) (h + 1)
+  value_heights (Convert t v) h = value_heights v h ++ if_true (converts t v) (h + 1)
   value_heights (Negate k v) h = value_heights v h ++ ((h + 1) ∷ [])
   value_heights (Complement k v) h = value_heights v h ++ ((h + 1) ∷ [])
   value_heights (Arithmetic op k a b) h = value_heights a h ++ (value_heights b (h + 1) ++ ((h + 2) ∷ []))
@@ -202,7 +204,9 @@ abbrev mutual
   value_heights (Choice c a b) h = value_heights c h ++ ((h + 1) ∷ (value_heights a h ++ ((h + 1) ∷ value_heights b h)))
   value_heights (Sequence a b) h = value_heights a h ++ ((h + 1) ∷ value_heights b h)
   value_heights (Assigned o v) h = object_heights o h ++ (value_heights v (h + 1) ++ ((h + 2) ∷ []))
-  value_heights (Changed o op k v) h = object_heights o h ++ ((h + 1) ∷ ((h + 2) ∷ (value_heights v (h + 2) ++ ((h + 3) ∷ ((h + 2) ∷ ((h + 2) ∷ []))))))
+  value_heights (Changed o op k v) h =
+      let own = kind_of (object_type o) in
+      object_heights o h ++ ((h + 1) ∷ (if_true (reconverts own k) (h + 2) ++ (value_heights v (h + 2) ++ ((h + 3) ∷ (if_true (reconverts k own) (h + 2) ++ ((h + 2) ∷ []))))))
   value_heights (Moved o w i size) h = object_heights o h ++ ((h + 1) ∷ (value_heights i (h + 2) ++ (move_heights w (h + 3) ++ ((h + 2) ∷ []))))
   value_heights (Stepped o w g size) h = object_heights o h ++ ((h + 1) ∷ ((h + 2) ∷ []))
   value_heights (CallOf f vs t) h = callee_heights f h ++ (values_heights vs (under_args f h) ++ ((under_args f h + count vs) ∷ []))

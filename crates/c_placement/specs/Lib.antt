@@ -1,4 +1,5 @@
 pub mod Places
+pub mod Conversions
 pub mod Placement
 pub mod Laws
 pub mod Code

@@ -1,5 +1,6 @@
 -- Where the code of a typed source lies in flat code: `at` is where the code of a construct begins, and `to` the place behind it.
 use Rattle.std.specs.Prelude.{◌≡◌, ℕ, suc, ◌+◌, ◌-◌, ◌^◌, leb, Bool, true, false, List, Option, Some, None, slice_get}
+use Rattle.r2_num.specs.declared.kinds.IntKind.{IntKind}
 use Rattle.r2_num.specs.declared.kinds.IntKind.TheVariants.{I64, U64}
 use Rattle.marks.specs.Places.{builtin_count, function_address}
 use Rattle.c_code.specs.declared.instr.Push.TheVariants.{Number, Local, Global, Text}
@@ -18,6 +19,7 @@ use Rattle.c_typing.specs.Limits.{frame_size}
 use Rattle.c_meaning.specs.Context.{Source, is_function_of, kind_of, local_offsets, member_offset, order_of, param_shapes, result_shape, size_of}
 use Rattle.c_meaning.specs.Values.{is_read, origin, target, wrap}
 use Rattle.c_placement.specs.Places.{Has, Jumps, GoesBack}
+use Rattle.c_placement.specs.Conversions.{converts, reconverts}
 
 -- what code is placed against: the source, all code, and how far the function's locals lie behind the beginning of its frame
 pub record Against : Type 0 where
@@ -64,10 +66,10 @@ abbrev pub count : Values → ℕ
 count NoValues = 0
 count (MoreValues v vs) = suc (count vs)
 
--- a scalar type is converted to, and any other leaves the value as it is
-abbrev pub ConvertAt : Against → Bool → CType → ℕ → ℕ → Type 0
-ConvertAt x true t at to = Has (instrs x) at (instr.Change (change.Convert (kind_of t))) to
-ConvertAt x false t at to = at ≡ to
+-- a conversion has an instruction, or leaves the value as it is
+abbrev pub ConvertAt : Against → Bool → IntKind → ℕ → ℕ → Type 0
+ConvertAt x true k at to = Has (instrs x) at (instr.Change (change.Convert k)) to
+ConvertAt x false k at to = at ≡ to
 
 -- a scalar object is loaded, and of any other the address stays
 abbrev pub LoadAt : Against → Bool → Object → ℕ → ℕ → Type 0
@@ -95,7 +97,7 @@ abbrev mutual
   ValueAt (FunctionAddress number t) x at to = Has (instrs x) at (instr.Push (Number (function_address number))) to
   ValueAt (ReadOf o) x at to = (m : ℕ) × ObjectAt o x at m × LoadAt x (is_read (object_type o)) o m to
   ValueAt (AddressOf o t) x at to = ObjectAt o x at to
-  ValueAt (Convert t v) x at to = (m : ℕ) × ValueAt v x at m × ConvertAt x (is_read t) t m to
+  ValueAt (Convert t v) x at to = (m : ℕ) × ValueAt v x at m × ConvertAt x (converts t v) (kind_of t) m to
   ValueAt (Negate k v) x at to = (m : ℕ) × ValueAt v x at m × Has (instrs x) m (instr.Change (change.Negate k)) to
   ValueAt (Complement k v) x at to = (m : ℕ) × ValueAt v x at m × Has (instrs x) m (instr.Change (change.Complement k)) to
   ValueAt (Arithmetic op k a b) x at to = (m n : ℕ) × ValueAt a x at m × ValueAt b x m n × Has (instrs x) n (instr.Combine (combine.Arith op k)) to
@@ -109,8 +111,9 @@ abbrev mutual
   ValueAt (Sequence a b) x at to = (m n : ℕ) × ValueAt a x at m × Has (instrs x) m instr.Drop n × ValueAt b x n to
   ValueAt (Assigned o v) x at to = (m n : ℕ) × ObjectAt o x at m × ValueAt v x m n × Has (instrs x) n (stores o) to
   ValueAt (Changed o op k v) x at to =
-      (m n p q r u : ℕ) × ObjectAt o x at m × Has (instrs x) m (loads o) n × Has (instrs x) n (instr.Change (change.Convert k)) p × ValueAt v x p q ×
-      Has (instrs x) q (instr.Combine (combine.Arith op k)) r × Has (instrs x) r (instr.Change (change.Convert (kind_of (object_type o)))) u × Has (instrs x) u (stores o) to
+      let own = kind_of (object_type o) in
+      (m n p q r u : ℕ) × ObjectAt o x at m × Has (instrs x) m (loads o) n × ConvertAt x (reconverts own k) k n p × ValueAt v x p q ×
+      Has (instrs x) q (instr.Combine (combine.Arith op k)) r × ConvertAt x (reconverts k own) own r u × Has (instrs x) u (stores o) to
   ValueAt (Moved o w i size) x at to = (m n p q : ℕ) × ObjectAt o x at m × Has (instrs x) m (loads o) n × ValueAt i x n p × MoveAt x w size p q × Has (instrs x) q (stores o) to
   ValueAt (Stepped o w g size) x at to =
       (m n : ℕ) × ObjectAt o x at m × Has (instrs x) m (loads o) n × Has (instrs x) n (instr.StoreStep (kind_of (object_type o)) (step_by w size) (keeps_old g) (origin o)) to
