@@ -2,6 +2,7 @@ pub mod Positions
 pub mod Silent
 pub mod Wants
 pub mod Moves
+pub mod Heard
 pub mod Called
 pub mod Rooms
 pub mod Readers

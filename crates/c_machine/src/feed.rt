@@ -1,25 +1,23 @@
 // What an answer does to a thread.
 
-ghost use Rattle.std.specs.Prelude.{◌≡◌, ℕ, ◌+◌, ◌<◌, ◌^◌, List, [], ◌∷◌, length, drop, Some, Option};
+ghost use Rattle.std.specs.Prelude.{◌≡◌, ◌<◌, [], ◌∷◌, length, drop};
 ghost use Rattle.places.specs.declared.placed.Placed.{Placed as Places};
-ghost use Rattle.c_code.specs.declared.instr.Instr.TheVariants as instrs;
-ghost use Rattle.c_code.specs.Machine.{Flat, Going, act, close, framed, give as given, Laid, take_args, with_args, awaiting, returning, pool_act, uncover as uncovered};
+ghost use Rattle.c_code.specs.Machine.{Going, close, framed, give as given, Laid, take_args, with_args, awaiting, returning, uncover as uncovered};
 ghost use Rattle.c_code.specs.Fits.{values_of};
 ghost use Rattle.c_code.specs.Valid.{IsValid};
 ghost use Rattle.c_stacks.specs.Stacks.{held, room_of};
-ghost use Rattle.c_machine.specs.Positions.{laid, config};
+ghost use Rattle.c_machine.specs.Positions.{laid, config, IsElsewhere};
 ghost use Rattle.marks.specs.Wants.{Answer as Answers};
 ghost use Rattle.c_machine.specs.Wants.{told};
+ghost use Rattle.c_machine.specs.Heard.{ended};
 ghost use Rattle.c_machine.specs.Moves.{fed, heard};
 
-use crate::effect::{at_place, next};
-use crate::operators::convert;
+use crate::hear::hear;
 use crate::position::Position;
 use crate::state::{Entry, State};
-use crate::tops::{first_at, frame_size, has_args, is_pool, result_shape};
+use crate::tops::{first_at, frame_size, has_args, result_shape};
 use crate::wants::Answer;
 use c_code::{Activation, Call, Code, Instr, Placed, Waiting};
-use r2_num::IntKind;
 
 impl Position {
     // What the answer alone does. One of another kind than the wanted one leads nowhere.
@@ -30,186 +28,52 @@ impl Position {
         ensures values { room_of self.new.values ≡ room_of self.old.values }
         ensures waits { room_of self.new.waits ≡ room_of self.old.waits }
     {
-        match self.state {
-            State::Going(a) => {
-                let instrs = code.instrs();
-                if (a.at as usize) < instrs.len() {
-                    self.take_at(&instrs[a.at as usize], a, answer);
-                } else {
-                    self.state = State::Lost;
-                }
-            }
-            State::Calling(call) => self.take_result(call, code, answer),
-            State::Entering(entry) => self.take_frame(entry, code, answer),
-            State::Closing(value, waiting) => self.take_closing(value, waiting),
-            State::Done(_) => self.state = State::Lost,
-            State::Lost => {}
-        }
-    }
-
-    // The same at an instruction.
-    fn take_at(&mut self, instr: &Instr, a: Activation, answer: Answer)
-        requires room { length (held self.old.values) < room_of self.old.values }
-        requires place { a.at + 1 < 2 ^ 32 }
-        ensures fed { (code : Flat) (placed : Places) → config self.new ≡ heard (laid code placed) (act (laid code placed) (Some instr.now) a (held self.old.values) (held self.old.waits)) (told answer) }
-        ensures values { room_of self.new.values ≡ room_of self.old.values }
-        ensures waits { room_of self.new.waits ≡ room_of self.old.waits }
-    {
-        match instr {
-            Instr::Load(kind, _) => self.take_load(*kind, a, answer),
-            Instr::LoadKeep(kind, _) => self.take_load_keep(*kind, a, answer),
-            Instr::Store(kind, _) => self.take_store(*kind, a, answer),
-            Instr::StoreLocal(kind, offset) => self.take_store_local(*kind, *offset, a, answer),
-            Instr::StoreStep(kind, by, old, _) => self.take_store_step(*kind, *by, *old, a, answer),
-            Instr::Call(func, n) => self.take_pool(*func, *n, a, answer),
-            Instr::Turn => self.state = State::Going(next(a)),
-            Instr::GoBack(n) => self.state = State::Going(at_place(a, a.at.saturating_sub(*n))),
-            Instr::Finish => match self.values.pop() {
-                Some(value) => self.give(value),
-                None => self.state = State::Lost,
-            },
-            Instr::CallPointer(_, _) => self.state = State::Lost,
-            Instr::Combine(_) => self.state = State::Lost,
-            Instr::Push(_) => self.state = State::Lost,
-            Instr::Change(_) => self.state = State::Lost,
-            Instr::EndIfZero(_) => self.state = State::Lost,
-            Instr::EndUnlessZero(_) => self.state = State::Lost,
-            Instr::SkipIfZero(_) => self.state = State::Lost,
-            Instr::GoOn(_) => self.state = State::Lost,
-            Instr::Drop => self.state = State::Lost,
-        }
-    }
-
-    // The value takes the place of the address.
-    fn take_load(&mut self, kind: IntKind, a: Activation, answer: Answer)
-        requires room { length (held self.old.values) < room_of self.old.values }
-        requires place { a.at + 1 < 2 ^ 32 }
-        ensures fed { (code : Flat) (placed : Places) (o : Option ℕ) → config self.new ≡ heard (laid code placed) (act (laid code placed) (Some (instrs.Load kind o)) a (held self.old.values) (held self.old.waits)) (told answer) }
-        ensures values { room_of self.new.values ≡ room_of self.old.values }
-        ensures waits { room_of self.new.waits ≡ room_of self.old.waits }
-    {
-        match answer {
-            Answer::Value(value) => match self.values.top() {
-                Some(_) => {
-                    self.values.replace_top(convert(kind, value));
-                    self.state = State::Going(next(a));
-                }
-                None => self.state = State::Lost,
-            },
-            Answer::Go => self.state = State::Lost,
-            Answer::Frame(_) => self.state = State::Lost,
-        }
-    }
-
-    // The value comes on top of the address.
-    fn take_load_keep(&mut self, kind: IntKind, a: Activation, answer: Answer)
-        requires room { length (held self.old.values) < room_of self.old.values }
-        requires place { a.at + 1 < 2 ^ 32 }
-        ensures fed { (code : Flat) (placed : Places) (o : Option ℕ) → config self.new ≡ heard (laid code placed) (act (laid code placed) (Some (instrs.LoadKeep kind o)) a (held self.old.values) (held self.old.waits)) (told answer) }
-        ensures values { room_of self.new.values ≡ room_of self.old.values }
-        ensures waits { room_of self.new.waits ≡ room_of self.old.waits }
-    {
-        match answer {
-            Answer::Value(value) => match self.values.top() {
-                Some(_) => {
-                    self.values.push(convert(kind, value));
-                    self.state = State::Going(next(a));
-                }
-                None => self.state = State::Lost,
-            },
-            Answer::Go => self.state = State::Lost,
-            Answer::Frame(_) => self.state = State::Lost,
-        }
-    }
-
-    // The value takes the place of the address that it was stored at.
-    fn take_store(&mut self, kind: IntKind, a: Activation, answer: Answer)
-        requires room { length (held self.old.values) < room_of self.old.values }
-        requires place { a.at + 1 < 2 ^ 32 }
-        ensures fed { (code : Flat) (placed : Places) (o : Option ℕ) → config self.new ≡ heard (laid code placed) (act (laid code placed) (Some (instrs.Store kind o)) a (held self.old.values) (held self.old.waits)) (told answer) }
-        ensures values { room_of self.new.values ≡ room_of self.old.values }
-        ensures waits { room_of self.new.waits ≡ room_of self.old.waits }
-    {
-        match self.values.top_two() {
-            Some((value, _)) => {
-                self.values.replace_two(value);
-                self.state = State::Going(next(a));
-            }
-            None => self.state = State::Lost,
-        }
-    }
-
-    // The value is gone once it is stored.
-    fn take_store_local(&mut self, kind: IntKind, offset: u64, a: Activation, answer: Answer)
-        requires place { a.at + 1 < 2 ^ 32 }
-        ensures fed { (code : Flat) (placed : Places) → config self.new ≡ heard (laid code placed) (act (laid code placed) (Some (instrs.StoreLocal kind offset)) a (held self.old.values) (held self.old.waits)) (told answer) }
-        ensures values { room_of self.new.values ≡ room_of self.old.values }
-        ensures waits { room_of self.new.waits ≡ room_of self.old.waits }
-    {
-        match self.values.pop() {
-            Some(_) => self.state = State::Going(next(a)),
-            None => self.state = State::Lost,
-        }
-    }
-
-    // The old value, or the sum, takes the place of the address.
-    fn take_store_step(&mut self, kind: IntKind, by: u64, old: bool, a: Activation, answer: Answer)
-        requires room { length (held self.old.values) < room_of self.old.values }
-        requires place { a.at + 1 < 2 ^ 32 }
-        ensures fed { (code : Flat) (placed : Places) (o : Option ℕ) → config self.new ≡ heard (laid code placed) (act (laid code placed) (Some (instrs.StoreStep kind by old o)) a (held self.old.values) (held self.old.waits)) (told answer) }
-        ensures values { room_of self.new.values ≡ room_of self.old.values }
-        ensures waits { room_of self.new.waits ≡ room_of self.old.waits }
-    {
-        match self.values.top_two() {
-            Some((value, _)) => {
-                let kept = if old {
-                    value
-                } else {
-                    convert(kind, value.wrapping_add(by))
-                };
-                self.values.replace_two(kept);
-                self.state = State::Going(next(a));
-            }
-            None => self.state = State::Lost,
-        }
-    }
-
-    // What the pool gives takes the place of the argument.
-    fn take_pool(&mut self, func: u16, n: u8, a: Activation, answer: Answer)
-        requires room { length (held self.old.values) < room_of self.old.values }
-        requires place { a.at + 1 < 2 ^ 32 }
-        ensures fed { (code : Flat) (placed : Places) → config self.new ≡ heard (laid code placed) (act (laid code placed) (Some (instrs.Call func n)) a (held self.old.values) (held self.old.waits)) (told answer) }
-        ensures values { room_of self.new.values ≡ room_of self.old.values }
-        ensures waits { room_of self.new.waits ≡ room_of self.old.waits }
-    {
-        if !has_args(&self.values, n) || !is_pool(a.side, func) {
+        let State::Going(a) = &mut self.state else {
+            self.take_elsewhere(code, answer);
+            return;
+        };
+        let instrs = code.instrs();
+        if a.at as usize >= instrs.len() {
             self.state = State::Lost;
             return;
         }
-        self.values.drop_top(n as usize);
-        if func == 0 {
-            self.take_block(a, answer);
-        } else {
-            self.values.push(0);
-            self.state = State::Going(next(a));
+        let instr = &instrs[a.at as usize];
+        match hear(instr, a, &mut self.values, answer) {
+            Some(at) => a.at = at,
+            None => self.end(instr),
         }
     }
 
-    // The address of a new block.
-    fn take_block(&mut self, a: Activation, answer: Answer)
-        requires room { length (held self.old.values) < room_of self.old.values }
-        requires place { a.at + 1 < 2 ^ 32 }
-        ensures fed { (args : List ℕ) (placed : Places) (code : Flat) → config self.new ≡ heard (laid code placed) (pool_act 0 a args (held self.old.values) (held self.old.waits)) (told answer) }
+    // The same where it isn't at an instruction.
+    fn take_elsewhere(&mut self, code: &Code, answer: Answer)
+        requires elsewhere { IsElsewhere self.old.state }
+        requires room { length (values_of (config self.old)) < room_of self.old.values }
+        ensures fed { (placed : Places) → config self.new ≡ fed (laid code.now placed) (config self.old) (told answer) }
         ensures values { room_of self.new.values ≡ room_of self.old.values }
         ensures waits { room_of self.new.waits ≡ room_of self.old.waits }
     {
-        match answer {
-            Answer::Value(at) => {
-                self.values.push(at);
-                self.state = State::Going(next(a));
-            }
-            Answer::Go => self.state = State::Lost,
-            Answer::Frame(_) => self.state = State::Lost,
+        match self.state {
+            State::Calling(call) => self.take_result(call, code, answer),
+            State::Entering(entry) => self.take_frame(entry, code, answer),
+            State::Closing(value, waiting) => self.take_closing(value, waiting),
+            State::Going(_) | State::Done(_) | State::Lost => self.state = State::Lost,
+        }
+    }
+
+    // The activation ends: at the last instruction its function gives the topmost value.
+    fn end(&mut self, instr: &Instr)
+        requires room { length (held self.old.values) < room_of self.old.values }
+        ensures ended { config self.new ≡ ended instr.now (held self.old.values) (held self.old.waits) }
+        ensures values { room_of self.new.values ≡ room_of self.old.values }
+        ensures waits { room_of self.new.waits ≡ room_of self.old.waits }
+    {
+        let Instr::Finish = instr else {
+            self.state = State::Lost;
+            return;
+        };
+        match self.values.pop() {
+            Some(value) => self.give(value),
+            None => self.state = State::Lost,
         }
     }
 

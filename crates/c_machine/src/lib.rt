@@ -6,6 +6,7 @@ mod called;
 mod calls;
 mod effect;
 mod feed;
+mod hear;
 mod laws;
 mod look;
 mod opens;

@@ -1,7 +1,7 @@
 -- The last items of a list are the first ones of it reversed.
-use Rattle.std.proofs.Common.{◌≡◌, ℕ, zero, suc, ◌+◌, ◌-◌, ◌<◌, ◌≤◌, ⊎_elim, List, [], ◌∷◌, ◌++◌, length, get_or, take, drop, sym, ap, ◌∙◌, refl, arith}
+use Rattle.std.proofs.Common.{◌≡◌, ℕ, zero, suc, ◌+◌, ◌-◌, ◌<◌, ◌≤◌, ⊎_elim, List, [], ◌∷◌, ◌++◌, length, get_or, take, drop, set, sym, ap, ◌∙◌, refl, arith}
 use Rattle.std.specs.Prelude.{reverse}
-use Rattle.std.proofs.lemmas.List.{take_more, take_all, length-take-le, get_or-take, take-append-drop, reverse-append, reverse-reverse, length-reverse, length-drop}
+use Rattle.std.proofs.lemmas.List.{take_more, take_all, length-take-le, get_or-take, take-append-drop, reverse-append, reverse-reverse, length-reverse, length-drop, length-set, get_or-set_same, take-set}
 use Rattle.std.proofs.lemmas.Bool.{cases_lt}
 use Rattle.std.proofs.Math.Seq.{take-append_seam, drop-append_seam}
 use Rattle.std.proofs.Math.ListN.{drop_of_length-le}
@@ -64,3 +64,13 @@ front_is xs n = ⊎_elim short long (cases_lt (length xs) n)
         sym (ap (drop n) (parts xs k)
         ∙ ap (λ m. drop m (reverse (drop k xs) ++ reverse (take k xs))) (long_tail xs n le)
         ∙ drop-append_seam (reverse (drop k xs)) (reverse (take k xs)))
+
+-- another last one is another first one
+pub last_changed : {A : Type 0} (xs : List A) (n : ℕ) (x : A) → length xs ≡ n + 1 → reverse (set xs n x) ≡ x ∷ drop 1 (reverse xs)
+last_changed xs n x e =
+    let last : n ≡ length xs - 1 = omega arith in
+    last_is_first (set xs n x) n x (length-set xs n x ∙ e)
+    ∙ ap (λ y. y ∷ reverse (take n (set xs n x))) (get_or-set_same xs n x x (omega arith))
+    ∙ ap (λ l. x ∷ reverse l) (take-set xs n x)
+    ∙ ap (λ m. x ∷ reverse (take m xs)) last
+    ∙ ap (λ l. x ∷ l) (front_is xs 1)

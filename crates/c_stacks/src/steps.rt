@@ -58,8 +58,8 @@ impl<T: Copy + Drop> Stack<T> {
         ensures replaced { held self.new ≡ value ∷ drop 1 (held self.old) }
         ensures room { room_of self.new ≡ room_of self.old }
     {
-        let _gone = self.pop();
-        self.push(value);
+        let top = self.items.len() - 1;
+        self.items[top] = value;
     }
 
     /// Puts a value in the place of the two topmost ones.
