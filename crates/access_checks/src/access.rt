@@ -12,7 +12,7 @@ use marks::Side;
 use places::{CONSTANTS, REPLAY_MEMORY, Range, SYSTEM_MEMORY};
 
 /// A thread's code of one side reads a range of bytes, or writes it.
-#[derive(Clone, Copy, Debug)]
+#[derive(Clone, Copy)]
 pub struct Access {
     pub side: Side,
     pub thread: u8,

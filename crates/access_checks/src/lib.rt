@@ -7,5 +7,3 @@ mod refusal;
 pub use access::{Access, check_access, is_plain_word};
 pub use refusal::Refusal;
 
-#[cfg(test)]
-mod tests;

@@ -3,7 +3,7 @@
 use c_type_table::TypeId;
 
 /// Which function it is, as far as its annotations ask.
-#[derive(Clone, Copy, Debug, PartialEq, Eq)]
+#[derive(Clone, Copy)]
 pub struct Kind {
     /// It is the function where a program begins.
     pub is_main: bool,
@@ -11,7 +11,7 @@ pub struct Kind {
 }
 
 /// What is known of a function beside its annotations: its kind, and the numbers of the types of its result and of its parameters.
-#[derive(Clone, Copy, Debug)]
+#[derive(Clone, Copy)]
 pub struct Prototype<'a> {
     pub kind: Kind,
     pub result: TypeId,

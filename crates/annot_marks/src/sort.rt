@@ -4,7 +4,7 @@ ghost use Rattle.std.specs.Prelude.{◌≡◌};
 ghost use Rattle.annot_marks.specs.Sorts.{is_function_pointer_sort, is_integer_sort, is_object_pointer_sort, is_scalar_sort, target_size as target_size_of};
 
 /// What a pointer points to.
-#[derive(Clone, Copy, Debug, PartialEq, Eq)]
+#[derive(Clone, Copy)]
 pub enum Pointee {
     Function,
     /// An object, with its size in bytes where its type is complete. A size past 2^64 - 1 counts as 2^64 - 1.
@@ -12,7 +12,7 @@ pub enum Pointee {
 }
 
 /// Of which sort a type is, as far as annotations of a parameter ask.
-#[derive(Clone, Copy, Debug, PartialEq, Eq)]
+#[derive(Clone, Copy)]
 pub enum Sort {
     Integer,
     Pointer(Pointee),

@@ -4,7 +4,7 @@ use c_syntax::Seq;
 use stub_core::Size;
 
 /// What the annotations of a parameter say. Sizes are in bytes.
-#[derive(Clone, Copy, Debug, PartialEq, Eq)]
+#[derive(Clone, Copy)]
 pub struct Param {
     /// How many bytes are read of what it points to.
     pub reads: Option<Size>,

@@ -5,7 +5,7 @@ ghost use Rattle.c_scopes.specs.Scopes.{same_name};
 ghost use Rattle.annot_words.specs.Words.{function_word, parameter_word};
 
 /// A word that stands at a function.
-#[derive(Clone, Copy, Debug, PartialEq, Eq)]
+#[derive(Clone, Copy)]
 pub enum FunctionWord {
     Cut,
     Sync,
@@ -15,7 +15,7 @@ pub enum FunctionWord {
 }
 
 /// A word that stands at a parameter.
-#[derive(Clone, Copy, Debug, PartialEq, Eq)]
+#[derive(Clone, Copy)]
 pub enum ParameterWord {
     In,
     Out,

@@ -4,3 +4,4 @@ mod Sayings
 mod Endings
 mod Heights
 mod Walking
+pub mod Loops

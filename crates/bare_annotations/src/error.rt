@@ -3,15 +3,12 @@
 ghost use Rattle.std.specs.Prelude.{◌≡◌};
 
 use std::alloc::AllocError;
-use thiserror::Error;
 
 /// Why annotations say nothing.
-#[derive(Debug, Drop, Error)]
+#[derive(Drop)]
 pub enum AnnotationError {
     /// The node at this offset breaks this rule of annotations.
-    #[error("the node at {0} breaks annotation rule {1}")]
     Rule(u32, u8),
-    #[error("out of memory")]
     Memory,
 }
 

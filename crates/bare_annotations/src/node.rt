@@ -3,7 +3,7 @@
 use c_syntax::{DeclId, ExprId, StmtId};
 
 /// A node of a tree, by its number.
-#[derive(Clone, Copy, Debug, PartialEq, Eq)]
+#[derive(Clone, Copy)]
 pub enum Node {
     Expr(ExprId),
     Decl(DeclId),

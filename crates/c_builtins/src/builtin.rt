@@ -1,7 +1,7 @@
 //! The builtins and the types that they are declared with.
 
 /// A function that every source may call without declaring it.
-#[derive(Clone, Copy, Debug, PartialEq, Eq)]
+#[derive(Clone, Copy)]
 pub enum Builtin {
     /// `void *r2_malloc(unsigned long n)`
     Malloc,
@@ -20,7 +20,7 @@ pub enum Builtin {
 }
 
 /// A type of a builtin's parameter or result.
-#[derive(Clone, Copy, Debug, PartialEq, Eq)]
+#[derive(Clone, Copy)]
 pub enum BuiltinType {
     Void,
     Int,

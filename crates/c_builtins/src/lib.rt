@@ -5,8 +5,6 @@ mod builtin;
 mod laws;
 mod lookup;
 mod table;
-#[cfg(test)]
-mod tests;
 
 pub use builtin::{Builtin, BuiltinType};
 pub use laws::builtins_are_listed;

@@ -3,7 +3,7 @@
 use marks::Side;
 
 /// Where a function that was entered goes on: at an instruction, with its frame and mode.
-#[derive(Clone, Copy, Debug, PartialEq, Eq)]
+#[derive(Clone, Copy)]
 pub struct Activation {
     pub at: u32,
     /// The first byte of the frame, and its size.
@@ -13,7 +13,7 @@ pub struct Activation {
 }
 
 /// What waits for the result of a function.
-#[derive(Clone, Copy, Debug, PartialEq, Eq)]
+#[derive(Clone, Copy)]
 pub enum Waiting {
     /// A call that keeps the mode, or of the interface by system code.
     ForValue(Activation),
@@ -31,7 +31,7 @@ pub enum Waiting {
 
 /// A call of a function of the interface by replay code, whose event was made: the function, how many arguments it
 /// has, whether it was called through an address, and where its caller goes on.
-#[derive(Clone, Copy, Debug, PartialEq, Eq)]
+#[derive(Clone, Copy)]
 pub struct Call {
     pub func: u16,
     pub args: u8,

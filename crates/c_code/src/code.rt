@@ -10,7 +10,7 @@ use std::marker::Model;
 const FIRST_SOURCE: u16 = 16;
 
 /// What callers know of a function.
-#[derive(Debug, Drop)]
+#[derive(Drop)]
 pub struct FuncInfo {
     pub name: Bytes8,
     pub params: Shapes,
@@ -25,7 +25,7 @@ pub struct FuncInfo {
 
 /// The code of a program. Each jump lands on an instruction, a backward one on a Turn. It is known at each place how many
 /// values wait, at most 64. A frame holds the parameters, and a call has one value per parameter.
-#[derive(Debug, Drop)]
+#[derive(Drop)]
 pub struct Code {
     builtins: Vec<FuncInfo>,
     sources: Vec<FuncInfo>,

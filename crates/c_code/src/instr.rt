@@ -3,7 +3,7 @@
 use r2_num::{IntKind, Op};
 
 /// What an instruction puts on top.
-#[derive(Clone, Copy, Debug, PartialEq, Eq)]
+#[derive(Clone, Copy)]
 pub enum Push {
     /// A number.
     Number(u64),
@@ -16,7 +16,7 @@ pub enum Push {
 }
 
 /// What becomes of the topmost value.
-#[derive(Clone, Copy, Debug, PartialEq, Eq)]
+#[derive(Clone, Copy)]
 pub enum Change {
     /// Its value at the kind, as of an operand that is converted to it.
     Convert(IntKind),
@@ -33,7 +33,7 @@ pub enum Change {
 }
 
 /// What becomes of the two topmost values; the left operand is below the right one.
-#[derive(Clone, Copy, Debug, PartialEq, Eq)]
+#[derive(Clone, Copy)]
 pub enum Combine {
     /// The result of the operator at the kind; faults with `Divide` or `Shift`.
     Arith(Op, IntKind),
@@ -47,7 +47,7 @@ pub enum Combine {
 
 /// An instruction. A jump says how many instructions it passes. The origin of a memory access is the global whose name
 /// its path begins with, by its order in the source.
-#[derive(Clone, Copy, Debug, PartialEq, Eq)]
+#[derive(Clone, Copy)]
 pub enum Instr {
     Push(Push),
     /// Loads from the topmost value, an address, and puts the value in its place.

@@ -7,8 +7,6 @@ mod instr;
 mod laws;
 mod lists;
 mod shape;
-#[cfg(test)]
-mod tests;
 mod values;
 
 pub use activation::{Activation, Call, Waiting};

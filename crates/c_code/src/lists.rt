@@ -7,7 +7,7 @@ use std::alloc::Global;
 use std::marker::Model;
 
 /// The types of parameters, in order.
-#[derive(Debug, Drop)]
+#[derive(Drop)]
 pub struct Shapes {
     items: Vec<Shape>,
 }

@@ -8,5 +8,3 @@ mod effect;
 
 pub use deep::too_deep;
 
-#[cfg(test)]
-mod tests;

@@ -13,8 +13,6 @@ mod places;
 mod specifiers;
 mod structs;
 mod table;
-#[cfg(test)]
-mod tests;
 
 pub use environment::Environment;
 pub use meaning::Meaning;

@@ -3,7 +3,7 @@
 use c_type_table::TypeId;
 
 /// What a name means, with its type.
-#[derive(Clone, Copy, Debug, PartialEq, Eq)]
+#[derive(Clone, Copy)]
 pub enum Meaning {
     /// The function of this number; those of a source are numbered from 16 on, in the order of their first declarations.
     Function(u32, TypeId),

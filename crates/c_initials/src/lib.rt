@@ -5,7 +5,5 @@ mod addresses;
 mod initials;
 mod known;
 mod strings;
-#[cfg(test)]
-mod tests;
 
 pub use initials::initial;

@@ -4,8 +4,6 @@
 mod laws;
 mod members;
 mod objects;
-#[cfg(test)]
-mod tests;
 
 pub use laws::offsets_are_those_of_members;
 pub use objects::layout;

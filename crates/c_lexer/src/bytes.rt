@@ -4,7 +4,7 @@ ghost use Rattle.std.specs.Prelude.{◌≡◌, ◌≤◌, length};
 ghost use Rattle.c_lexer.specs.Bytes.{is_letter as letter_test, is_digit as digit_test, is_blank as blank_test, digit_of as digit_value, is_digit_in as digit_in_base, test_of, run as run_length};
 
 /// A class of bytes.
-#[derive(Clone, Copy, Debug, PartialEq, Eq)]
+#[derive(Clone, Copy)]
 pub enum Class {
     /// Space and tab.
     Blank,

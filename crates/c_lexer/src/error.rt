@@ -9,7 +9,7 @@ use std::alloc::{AllocError, AllocFailed};
 use thiserror::Error;
 
 /// Why a source isn't tokens. Each error but `Memory` has an offset in the source.
-#[derive(Clone, Copy, Debug, PartialEq, Eq, Error)]
+#[derive(Clone, Copy, Debug, Error)]
 pub enum LexError {
     /// A byte that begins no token or doesn't fit in the one that it stands in, or a number that
     /// isn't spelled as one.

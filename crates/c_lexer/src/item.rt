@@ -16,7 +16,7 @@ use std::alloc::{AllocError, Global};
 const FORM_FEED: u8 = 12;
 
 /// A rule of the tokens that a source can break.
-#[derive(Clone, Copy, Debug, PartialEq, Eq)]
+#[derive(Clone, Copy)]
 pub enum Fault {
     /// A byte that begins no token, or doesn't fit in the one that it stands in.
     BadByte,
@@ -30,7 +30,7 @@ pub enum Fault {
 
 /// What stands at a place: the end, so many bytes to pass over, a token of so many bytes, or a
 /// fault so many bytes further on.
-#[derive(Debug, Drop)]
+#[derive(Drop)]
 pub enum Item {
     /// The end of the source.
     Finished,

@@ -18,5 +18,3 @@ pub use lexing::{lex, longest_sign, one_reading};
 pub use text::Text;
 pub use token::{Kind, Sign, Suffix, Token, Word};
 
-#[cfg(test)]
-mod tests;

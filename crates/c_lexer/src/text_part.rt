@@ -6,7 +6,7 @@ ghost use Rattle.c_lexer.specs.Texts.{escaped as escaped_byte, hex_escape as hex
 use crate::bytes::{digit_of, is_digit_in};
 
 /// What stands at a place between quotes.
-#[derive(Clone, Copy, Debug, PartialEq, Eq)]
+#[derive(Clone, Copy)]
 pub enum Part {
     /// The closing quote.
     Close,

@@ -3,7 +3,7 @@
 use crate::text::Text;
 
 /// A keyword (C11 6.4.1).
-#[derive(Clone, Copy, Debug, PartialEq, Eq)]
+#[derive(Clone, Copy)]
 pub enum Word {
     Void,
     Char,
@@ -42,7 +42,7 @@ pub enum Word {
 }
 
 /// A sign, which C11 6.4.6 calls a punctuator.
-#[derive(Clone, Copy, Debug, PartialEq, Eq)]
+#[derive(Clone, Copy)]
 pub enum Sign {
     /// `[`
     OpenBracket,
@@ -137,7 +137,7 @@ pub enum Sign {
 }
 
 /// The suffix of a number, in either case and order (C11 6.4.4.1).
-#[derive(Clone, Copy, Debug, PartialEq, Eq)]
+#[derive(Clone, Copy)]
 pub enum Suffix {
     /// No suffix.
     Plain,
@@ -150,7 +150,7 @@ pub enum Suffix {
 }
 
 /// What a token is.
-#[derive(Debug, Drop)]
+#[derive(Drop)]
 pub enum Kind {
     /// A name that is no keyword.
     Name(Text),
@@ -171,7 +171,7 @@ pub enum Kind {
 }
 
 /// A token, and the offsets in the source of its first byte and of the byte after its last.
-#[derive(Debug, Drop)]
+#[derive(Drop)]
 pub struct Token {
     pub kind: Kind,
     pub from: u32,

@@ -5,7 +5,7 @@ ghost use Rattle.c_machine.specs.Called.{IsCalled};
 use c_code::Instr;
 
 // What an instruction calls.
-#[derive(Clone, Copy, Debug, PartialEq, Eq)]
+#[derive(Clone, Copy)]
 pub(crate) enum Called {
     ByNumber(u16, u8),
     ByPointer(u32, u8),

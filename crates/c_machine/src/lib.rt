@@ -16,8 +16,6 @@ mod readers;
 mod settle;
 mod state;
 mod stops;
-#[cfg(test)]
-mod tests;
 mod thread;
 mod tops;
 mod wants;

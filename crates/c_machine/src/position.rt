@@ -5,7 +5,7 @@ use c_code::Waiting;
 use c_stacks::Stack;
 
 /// Where a thread is, its values, and what waits for the ends of the functions that it is in.
-#[derive(Debug, Drop)]
+#[derive(Drop)]
 pub(crate) struct Position {
     pub(crate) state: State,
     pub(crate) values: Stack<u64>,

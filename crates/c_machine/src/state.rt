@@ -4,7 +4,7 @@ use c_code::{Activation, Call, Waiting};
 use marks::Side;
 
 /// A function that is to be entered: its arguments lie on top of the values.
-#[derive(Clone, Copy, Debug, PartialEq, Eq)]
+#[derive(Clone, Copy)]
 pub(crate) struct Entry {
     pub(crate) side: Side,
     pub(crate) indirect: bool,
@@ -13,7 +13,7 @@ pub(crate) struct Entry {
 }
 
 /// Where a thread is, but for the values and what waits.
-#[derive(Clone, Copy, Debug, PartialEq, Eq)]
+#[derive(Clone, Copy)]
 pub(crate) enum State {
     /// At an instruction.
     Going(Activation),

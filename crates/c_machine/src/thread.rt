@@ -6,7 +6,7 @@ use std::marker::Model;
 /// One simulated thread of flat code. It makes one mark after another: `next` says which, and `feed` what came of it; where
 /// it comes to a call, or is in no function, `begin` lets a function begin. All calls of one thread are given the same code
 /// and places.
-#[derive(Debug, Drop)]
+#[derive(Drop)]
 pub struct Thread {
     pub(crate) number: u8,
     pub(crate) depth: u16,

@@ -1,7 +1,7 @@
 //! What a thread wants next, and what it is told.
 
 /// The next mark of a thread, or its next call.
-#[derive(Clone, Copy, Debug, PartialEq, Eq)]
+#[derive(Clone, Copy)]
 pub enum Want {
     /// It is in no function: this is the result of the last one that ended, 0 before any.
     Ended { result: u64 },
@@ -30,7 +30,7 @@ pub enum Want {
 }
 
 /// What a thread is told of its next mark or call.
-#[derive(Clone, Copy, Debug, PartialEq, Eq)]
+#[derive(Clone, Copy)]
 pub enum Answer {
     /// The mark was made.
     Go,

@@ -18,7 +18,7 @@ use c_typed_table::{Node, NodeId, Sort, TypedTable};
 use std::alloc::Global;
 
 /// What a call calls. `parameter` reads what it takes from the function's type.
-#[derive(Clone, Copy, Debug)]
+#[derive(Clone, Copy)]
 pub struct CallTarget {
     /// The node of the function.
     pub callee: NodeId,

@@ -3,16 +3,13 @@
 ghost use Rattle.std.specs.Prelude.{◌≡◌};
 
 use std::alloc::AllocError;
-use thiserror::Error;
 
 /// Why an operator makes nothing of its operands.
-#[derive(Debug, Drop, Error)]
+#[derive(Drop)]
 pub enum TypeError {
     /// The node at this offset breaks this rule.
-    #[error("the node at {0} breaks rule {1}")]
     Rule(u32, u8),
     /// Also where a source would have 2^32 nodes or types or more, which no number names.
-    #[error("out of memory")]
     Memory,
 }
 

@@ -20,8 +20,6 @@ mod prototypes;
 mod queries;
 mod steps;
 mod subscripts;
-#[cfg(test)]
-mod tests;
 mod unary;
 
 pub use addresses::address;

@@ -14,7 +14,7 @@ use c_typed_table::{NodeId, TypedTable};
 use r2_num::IntKind;
 
 /// A scalar type (C11 6.2.5, 21).
-#[derive(Clone, Copy, Debug)]
+#[derive(Clone, Copy)]
 pub enum Scalar {
     Integer(IntKind),
     /// A pointer, with its target.

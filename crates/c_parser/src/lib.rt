@@ -5,5 +5,3 @@ mod parsing;
 
 pub use parsing::{ParseError, parse};
 
-#[cfg(test)]
-mod tests;

@@ -22,5 +22,3 @@ pub use action::Action;
 pub use law::one_tree;
 pub use postfix::{PostfixError, actions};
 
-#[cfg(test)]
-mod tests;

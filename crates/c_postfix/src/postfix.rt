@@ -13,13 +13,11 @@ use c_lexer::Token;
 use std::alloc::{AllocError, Global};
 
 /// Why tokens have no postfix form.
-#[derive(Debug, Drop, thiserror::Error)]
+#[derive(Drop)]
 pub enum PostfixError {
     /// No source of the grammar has these tokens. The offset is that of the first token that can't go on, or of the
     /// end of the last one.
-    #[error("no source has the token at {0}")]
     Token(u32),
-    #[error("out of memory")]
     Memory,
 }
 

@@ -6,7 +6,7 @@ ghost use Rattle.c_scopes.specs.Bindings.{Ties, bound, innermost_start};
 use std::alloc::AllocError;
 
 /// A name with its meaning. Names go by their numbers.
-#[derive(Clone, Copy, Debug)]
+#[derive(Clone, Copy)]
 pub(crate) struct Binding<V: Copy> {
     pub(crate) name: usize,
     pub(crate) meaning: V,

@@ -4,7 +4,5 @@
 mod binding;
 mod naming;
 mod scopes;
-#[cfg(test)]
-mod tests;
 
 pub use scopes::Scopes;

@@ -6,5 +6,3 @@ mod steps;
 
 pub use stack::Stack;
 
-#[cfg(test)]
-mod tests;

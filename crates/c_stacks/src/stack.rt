@@ -3,7 +3,7 @@
 ghost use Rattle.std.specs.Prelude.{◌≤◌, length, vec_capacity};
 
 /// A stack of at most so many values as it was made for.
-#[derive(Debug, Drop)]
+#[derive(Drop)]
 pub struct Stack<T> {
     pub(crate) items: Vec<T>,
     pub(crate) room: usize,

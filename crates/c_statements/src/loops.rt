@@ -73,7 +73,7 @@ pub fn do_loop(
 }
 
 /// What decides whether a `for` goes on, and what it evaluates after its body, where they are there.
-#[derive(Clone, Copy, Debug)]
+#[derive(Clone, Copy)]
 pub struct Head {
     pub test: Option<ExprId>,
     pub last: Option<ExprId>,

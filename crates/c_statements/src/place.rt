@@ -5,7 +5,7 @@ ghost use Rattle.std.specs.Prelude.{◌≡◌, true};
 use c_type_table::TypeId;
 
 /// Where a statement stands: in a function that gives values of this type, or nothing, and in a loop or not.
-#[derive(Clone, Copy, Debug)]
+#[derive(Clone, Copy)]
 pub struct Place {
     pub result: TypeId,
     pub in_loop: bool,

@@ -15,7 +15,7 @@ use c_type_table::{Ty, TypeId};
 use std::alloc::AllocError;
 
 /// The type that a function gives, or nothing, and the types of its parameters.
-#[derive(Debug, Drop)]
+#[derive(Drop)]
 pub struct Signature {
     pub result: TypeId,
     pub params: Vec<TypeId>,

@@ -4,8 +4,6 @@
 mod members;
 mod structs;
 mod tags;
-#[cfg(test)]
-mod tests;
 
 pub use members::Members;
 pub use structs::Structs;

@@ -12,13 +12,11 @@ use c_syntax::{Decl, DeclId, Expr, ExprId, ExprKind, Rest, Seq, Stmt, StmtId, St
 use std::alloc::{AllocError, Global};
 
 /// Why actions have no tree.
-#[derive(Debug, Drop, thiserror::Error)]
+#[derive(Drop)]
 pub enum BuildError {
     /// An action doesn't find what it takes, or the last leaves something else than a source.
-    #[error("the actions build no source")]
     Unfit,
     /// Also where a source would have 2^32 nodes of a kind or more, which no number names.
-    #[error("out of memory")]
     Memory,
 }
 

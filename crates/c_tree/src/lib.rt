@@ -14,5 +14,3 @@ mod takes;
 pub use builder::BuildError;
 pub use building::build;
 
-#[cfg(test)]
-mod tests;

@@ -8,7 +8,7 @@ use r2_num::IntKind;
 /// How many bytes an object of a type has, and what its address is a multiple of (C11 6.2.8, 6.5.3.4).
 ///
 /// A size that is greater than 2^64 - 1 counts as 2^64 - 1.
-#[derive(Clone, Copy, Debug, PartialEq, Eq)]
+#[derive(Clone, Copy)]
 pub struct Extent {
     pub size: u64,
     pub align: u64,

@@ -19,7 +19,7 @@ pub const GREATEST_OBJECT: u64 = 1_048_576;
 /// How the objects of a type lie in memory (C11 6.2.8, 6.7.2.1).
 ///
 /// A size or offset that is greater than 2^64 - 1 counts as 2^64 - 1. Only structs have offsets.
-#[derive(Debug, Drop)]
+#[derive(Drop)]
 pub struct Layout {
     pub size: u64,
     pub align: u64,
@@ -27,7 +27,7 @@ pub struct Layout {
 }
 
 /// A number that the definition of a struct may go past.
-#[derive(Clone, Copy, Debug, PartialEq, Eq)]
+#[derive(Clone, Copy)]
 pub enum Limit {
     /// More than 64 members.
     Members,

@@ -5,8 +5,6 @@ mod extent;
 mod laws;
 mod layout;
 mod offsets;
-#[cfg(test)]
-mod tests;
 
 pub use extent::Extent;
 pub use laws::{large_sizes_stay_large, offsets_are_least_multiples};

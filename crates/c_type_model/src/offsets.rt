@@ -5,7 +5,7 @@ ghost use Rattle.std.specs.Prelude.{◌≡◌, ℕ, List};
 use std::marker::Model;
 
 /// Where the members of a struct lie, in bytes from its beginning, in their order.
-#[derive(Debug, Drop)]
+#[derive(Drop)]
 pub struct Offsets {
     items: Vec<u64>,
 }

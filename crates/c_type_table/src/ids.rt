@@ -6,15 +6,15 @@ ghost use Rattle.c_type_table.specs.declared.ids.TypeId.{TypeId};
 use std::marker::Model;
 
 /// Names a type of a table.
-#[derive(Clone, Copy, Debug, PartialEq, Eq)]
+#[derive(Clone, Copy)]
 pub struct TypeId(pub u32);
 
 /// Names a struct, by the number of its definition in the order of the source.
-#[derive(Clone, Copy, Debug, PartialEq, Eq)]
+#[derive(Clone, Copy, PartialEq, Eq)]
 pub struct StructId(pub u32);
 
 /// Types of a table, as those of parameters. Contracts see the list of their numbers.
-#[derive(Debug, Drop)]
+#[derive(Drop)]
 pub struct TypeIds {
     items: Vec<TypeId>,
 }

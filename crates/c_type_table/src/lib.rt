@@ -5,8 +5,6 @@ mod ids;
 mod laws;
 mod same;
 mod table;
-#[cfg(test)]
-mod tests;
 mod ty;
 
 pub use ids::{StructId, TypeId, TypeIds};

@@ -13,7 +13,7 @@ use std::alloc::{AllocError, Global};
 use std::marker::Model;
 
 /// Types that name each other by number, each after its parts.
-#[derive(Debug, Drop)]
+#[derive(Drop)]
 pub struct Types {
     nodes: Vec<Ty>,
 }

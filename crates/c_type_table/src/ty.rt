@@ -5,7 +5,7 @@ use c_lexer::Text;
 use r2_num::IntKind;
 
 /// A type, with its parts by their numbers in a table (C11 6.2.5).
-#[derive(Debug, Drop)]
+#[derive(Drop)]
 pub enum Ty {
     Void,
     Int(IntKind),

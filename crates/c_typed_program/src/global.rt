@@ -4,7 +4,7 @@ use c_lexer::Text;
 use c_type_table::TypeId;
 
 /// What a scalar has before a run: a number, or an address.
-#[derive(Clone, Copy, Debug, PartialEq, Eq)]
+#[derive(Clone, Copy)]
 pub enum Known {
     Number(i128),
     /// That of the string at this offset of the source.

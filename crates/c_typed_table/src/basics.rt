@@ -9,7 +9,7 @@ use r2_num::IntKind;
 use std::alloc::AllocError;
 
 /// The numbers of void and of the integer types.
-#[derive(Clone, Copy, Debug)]
+#[derive(Clone, Copy)]
 pub struct BasicTypes {
     pub void: TypeId,
     pub i8: TypeId,

@@ -4,7 +4,7 @@ use crate::node::Node;
 use c_type_table::TypeId;
 
 /// A node, and the type that what it stands for has before it is converted.
-#[derive(Debug, Drop)]
+#[derive(Drop)]
 pub struct Entry {
     pub node: Node,
     pub ty: TypeId,

@@ -10,7 +10,7 @@ use c_type_table::TypeId;
 use r2_num::{IntKind, Op};
 
 /// Where the type of a node comes from.
-#[derive(Clone, Copy, Debug)]
+#[derive(Clone, Copy)]
 pub enum TypeSource {
     /// The node has its number.
     Carried(TypeId),
@@ -23,7 +23,7 @@ pub enum TypeSource {
 }
 
 /// Where the value of a node comes from (C11 6.3.2.1, 2 to 4).
-#[derive(Clone, Copy, Debug)]
+#[derive(Clone, Copy)]
 pub enum ValueSource {
     /// The node is a value.
     Itself,

@@ -6,11 +6,11 @@ ghost use Rattle.c_typed_table.specs.declared.ids.NodeId.{NodeId};
 use std::marker::Model;
 
 /// Names a node of a table.
-#[derive(Clone, Copy, Debug, PartialEq, Eq)]
+#[derive(Clone, Copy)]
 pub struct NodeId(pub u32);
 
 /// Nodes of a table, as the arguments of a call. Contracts see the list of their numbers.
-#[derive(Debug, Drop)]
+#[derive(Drop)]
 pub struct NodeIds {
     items: Vec<NodeId>,
 }

@@ -9,8 +9,6 @@ mod ids;
 mod node;
 mod sorts;
 mod table;
-#[cfg(test)]
-mod tests;
 mod values;
 
 pub use basics::BasicTypes;

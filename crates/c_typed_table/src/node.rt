@@ -6,7 +6,7 @@ use c_type_table::TypeId;
 use r2_num::{IntKind, Op};
 
 /// In which order a pointer and an integer stand, and whether the integer is taken away (C11 6.5.6).
-#[derive(Clone, Copy, Debug, PartialEq, Eq)]
+#[derive(Clone, Copy)]
 pub enum Sum {
     PointerPlus,
     PlusPointer,
@@ -14,14 +14,14 @@ pub enum Sum {
 }
 
 /// One more or one less.
-#[derive(Clone, Copy, Debug, PartialEq, Eq)]
+#[derive(Clone, Copy)]
 pub enum Way {
     Up,
     Down,
 }
 
 /// What `++` and `--` give: the new value before an object, the old one behind it (C11 6.5.2.4, 6.5.3.1).
-#[derive(Clone, Copy, Debug, PartialEq, Eq)]
+#[derive(Clone, Copy)]
 pub enum Given {
     New,
     Old,
@@ -30,7 +30,7 @@ pub enum Given {
 /// What an expression is, with its parts by their numbers in a table.
 ///
 /// The first six are objects (C11 6.3.2.1, 1), the next three functions, and all others values.
-#[derive(Debug, Drop)]
+#[derive(Drop)]
 pub enum Node {
     /// The global of this place, in the order of the source.
     GlobalObject(u32, TypeId),

@@ -8,7 +8,7 @@ use crate::ids::NodeId;
 use crate::table::TypedTable;
 
 /// What an expression is before it is converted (C11 6.3.2.1).
-#[derive(Clone, Copy, Debug, PartialEq, Eq)]
+#[derive(Clone, Copy)]
 pub enum Sort {
     Object,
     Function,

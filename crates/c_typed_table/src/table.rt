@@ -17,7 +17,7 @@ use std::alloc::{AllocError, Global};
 use std::marker::Model;
 
 /// Types, and typed nodes that name each other and their types by number, each after its parts.
-#[derive(Debug, Drop)]
+#[derive(Drop)]
 pub struct TypedTable {
     types: Types,
     basics: BasicTypes,

@@ -19,7 +19,7 @@ use c_syntax::{ExprId, First, StmtId, Tree};
 use std::alloc::AllocError;
 
 /// What a `for` evaluates before and behind its body in each turn.
-#[derive(Clone, Copy, Debug)]
+#[derive(Clone, Copy)]
 pub(crate) struct Head {
     pub(crate) test: Option<ExprId>,
     pub(crate) last: Option<ExprId>,

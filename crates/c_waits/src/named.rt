@@ -1,7 +1,7 @@
 //! What names stand for, as far as calls tell it.
 
 /// What a name stands for, as far as it matters whether a call of it is direct.
-#[derive(Clone, Copy, Debug, PartialEq, Eq)]
+#[derive(Clone, Copy)]
 pub enum Named {
     /// A builtin.
     Builtin,

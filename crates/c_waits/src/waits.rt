@@ -1,7 +1,7 @@
 //! Both numbers of an expression.
 
 /// How many values wait at most. More than 255 count as 255.
-#[derive(Clone, Copy, Debug)]
+#[derive(Clone, Copy)]
 pub(crate) struct Waits {
     /// While the expression is evaluated, its own value among them.
     pub(crate) own: u8,

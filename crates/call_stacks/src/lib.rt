@@ -5,5 +5,3 @@ mod stack;
 
 pub use stack::Stack;
 
-#[cfg(test)]
-mod tests;

@@ -7,7 +7,7 @@ use std::alloc::{AllocError, Global};
 use std::marker::Model;
 
 /// The frames of one thread on one side, in memory from `base` on.
-#[derive(Debug, Drop)]
+#[derive(Drop)]
 pub struct Stack {
     base: u64,
     frames: Vec<Range>,

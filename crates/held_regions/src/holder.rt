@@ -4,7 +4,7 @@ ghost use Rattle.std.specs.Prelude.{◌≡◌};
 use places::{Bytes8, Range};
 
 /// A call that its thread has open: the thread, and how many calls it had open with this one.
-#[derive(Clone, Copy, Debug, PartialEq, Eq)]
+#[derive(Clone, Copy)]
 pub struct OpenCall {
     pub thread: u8,
     pub depth: u64,
@@ -12,7 +12,7 @@ pub struct OpenCall {
 
 /// What a region is held for: a call reads it, a call writes it, or it is prepared under a key, by a call that may
 /// still be open.
-#[derive(Clone, Copy, Debug)]
+#[derive(Clone, Copy)]
 pub enum Holder {
     In(OpenCall),
     Out(OpenCall),
@@ -20,7 +20,7 @@ pub enum Holder {
 }
 
 /// A region, with its bytes as they were when it was held to be written.
-#[derive(Debug, Drop)]
+#[derive(Drop)]
 pub struct Region {
     pub range: Range,
     pub before: Bytes8,

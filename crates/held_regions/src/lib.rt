@@ -7,5 +7,3 @@ mod regions;
 pub use holder::{Holder, OpenCall, Region};
 pub use regions::Regions;
 
-#[cfg(test)]
-mod tests;

@@ -11,7 +11,7 @@ use std::alloc::{AllocError, Global};
 use std::marker::Model;
 
 /// The regions that are held and prepared, and how many calls each thread has open.
-#[derive(Debug, Drop)]
+#[derive(Drop)]
 pub struct Regions {
     regions: Vec<Region>,
     depths: Vec<u64>,

@@ -11,7 +11,7 @@ use std::alloc::{AllocError, Global};
 use std::marker::Model;
 
 /// A run of bytes, each dead or live with a value.
-#[derive(Debug, Drop)]
+#[derive(Drop)]
 pub struct Area {
     base: u64,
     cells: MarkedBytes,

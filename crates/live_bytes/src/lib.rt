@@ -7,5 +7,3 @@ mod marked_bytes;
 
 pub use live_bytes::LiveBytes;
 
-#[cfg(test)]
-mod tests;

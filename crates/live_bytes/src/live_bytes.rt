@@ -11,7 +11,7 @@ use std::marker::Model;
 
 /// The bytes of a few areas of addresses, each dead or live with a value. Contracts see the areas, and each byte by
 /// `byte_at`.
-#[derive(Debug, Drop)]
+#[derive(Drop)]
 pub struct LiveBytes {
     areas: Vec<Area>,
 }

@@ -12,7 +12,7 @@ const ALL_LIVE: u64 = 0x0101_0101_0101_0101;
 
 /// Bytes, each dead or live with a value. Beside the values lie as many marks, 1 where a byte lives and 0 where it is dead, so
 /// that eight bytes are tested and read at once.
-#[derive(Debug, Drop)]
+#[derive(Drop)]
 pub struct MarkedBytes {
     marks: Vec<u8>,
     values: Vec<u8>,

@@ -15,7 +15,7 @@ use logical_clock::{KeyMark, Record};
 use std::alloc::{AllocError, Global};
 
 /// The clock of the first event that has each key and ticket, and the first event that has one which stood before.
-#[derive(Debug, Drop)]
+#[derive(Drop)]
 pub struct Clocks {
     pub table: Table,
     pub twice: Option<usize>,

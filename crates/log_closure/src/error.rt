@@ -8,7 +8,7 @@ use std::alloc::{AllocError, AllocFailed};
 use thiserror::Error;
 
 /// What is wrong with the first event, in file order, that doesn't fit the others.
-#[derive(Clone, Copy, Debug, PartialEq, Eq, Error)]
+#[derive(Clone, Copy, Debug, Error)]
 pub enum OrderError {
     /// One of its keys stands with its ticket at an earlier event of the file, or twice in it.
     #[error("log twice {}.{}", .0.thread, .0.index)]

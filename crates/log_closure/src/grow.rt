@@ -42,7 +42,7 @@ fn add_keys(done: &mut BTreeSet<Tie>, marks: &[KeyMark]) -> Result<(), AllocErro
 }
 
 /// What is in the part that grows: keys with their tickets, and how many events of each thread.
-#[derive(Debug, Drop)]
+#[derive(Drop)]
 struct Grown {
     keys: BTreeSet<Tie>,
     lengths: [usize; 256],

@@ -17,5 +17,3 @@ pub use closing::closed;
 pub use error::OrderError;
 pub use part::Closed;
 
-#[cfg(test)]
-mod tests;

@@ -12,7 +12,7 @@ use std::alloc::{AllocError, Global};
 use std::collections::BTreeMap;
 
 /// The keys that were seen: the number of each, from 0, and by number how many marks have it (2^32 - 1 where there are more).
-#[derive(Debug, Drop)]
+#[derive(Drop)]
 pub struct Keys {
     pub numbers: BTreeMap<TieKey, u32>,
     pub counts: Vec<u32>,
@@ -41,7 +41,7 @@ impl Keys {
 }
 
 /// The keys of a file, and for each of its marks, in file order, the number of its key.
-#[derive(Debug, Drop)]
+#[derive(Drop)]
 pub struct Numbering {
     pub keys: Keys,
     pub marks: Vec<u32>,

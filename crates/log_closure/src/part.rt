@@ -11,7 +11,7 @@ use logical_clock::{EventName, Record};
 use std::marker::Model;
 
 /// Events in the order of clock and thread, each with its name. [`crate::closed`] makes it.
-#[derive(Debug, Drop)]
+#[derive(Drop)]
 pub struct Closed {
     /// The records of the file, in file order.
     records: Vec<Record>,

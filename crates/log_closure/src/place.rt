@@ -8,7 +8,7 @@ use logical_clock::{EventName, Record};
 use std::alloc::{AllocError, Global};
 
 /// An event by what orders it: its clock and its name, and the place of its record in the file.
-#[derive(Clone, Copy, Debug, PartialEq, Eq, PartialOrd, Ord)]
+#[derive(Clone, Copy, PartialEq, Eq, PartialOrd, Ord)]
 pub struct Place {
     pub clock: u32,
     pub thread: u8,

@@ -47,7 +47,7 @@ fn put_apart(rest: &mut BTreeMap<Tie, u32>, tie: Tie, clock: u32) -> Result<bool
 
 /// The clock of the first event that has each key and ticket. The row of a key has as many places as the key has marks,
 /// which is enough where its tickets count up; the clocks of greater tickets stand apart.
-#[derive(Debug, Drop)]
+#[derive(Drop)]
 pub struct Table {
     /// By the number of the key.
     pub rows: Vec<Vec<Option<u32>>>,

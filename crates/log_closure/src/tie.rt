@@ -7,7 +7,7 @@ ghost use Rattle.log_closure.specs.Tables.{tie_key};
 use logical_clock::KeyMark;
 
 /// A key with a ticket, in 16 bytes: the number of the key's class, its value, and the ticket.
-#[derive(Clone, Copy, Debug, PartialEq, Eq, PartialOrd, Ord)]
+#[derive(Clone, Copy, PartialEq, Eq, PartialOrd, Ord)]
 pub struct Tie {
     pub class: u8,
     pub value: u64,
@@ -15,7 +15,7 @@ pub struct Tie {
 }
 
 /// A key, in 16 bytes: the number of its class, and its value.
-#[derive(Clone, Copy, Debug, PartialEq, Eq, PartialOrd, Ord)]
+#[derive(Clone, Copy, PartialEq, Eq, PartialOrd, Ord)]
 pub struct TieKey {
     pub class: u8,
     pub value: u64,

@@ -7,7 +7,7 @@ use std::alloc::{AllocError, AllocFailed};
 use thiserror::Error;
 
 /// Why bytes are not read as a log.
-#[derive(Clone, Copy, Debug, PartialEq, Eq, Error)]
+#[derive(Clone, Copy, Debug, Error)]
 pub enum LogError {
     /// The byte at this place, from 0, is the first wrong one: a log text begins with the bytes
     /// before it, and none with it too.

@@ -7,7 +7,7 @@ use logical_clock::Record;
 use std::marker::Model;
 
 /// The records of a log, or of the bytes that begin one. `parse` makes it.
-#[derive(Debug, Drop)]
+#[derive(Drop)]
 pub struct Kept {
     records: Vec<Record>,
     whole: bool,

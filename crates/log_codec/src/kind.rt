@@ -1,7 +1,7 @@
 //! What the bytes of a log say comes next.
 
 /// The kinds of event.
-#[derive(Clone, Copy, Debug, PartialEq, Eq)]
+#[derive(Clone, Copy)]
 pub enum Kind {
     Call,
     Ret,
@@ -13,7 +13,7 @@ pub enum Kind {
 }
 
 /// The parts of a log behind its head.
-#[derive(Clone, Copy, Debug, PartialEq, Eq)]
+#[derive(Clone, Copy)]
 pub enum Mark {
     Chunk,
     End,

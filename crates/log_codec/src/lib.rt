@@ -15,5 +15,3 @@ pub use kept::Kept;
 pub use parsing::parse;
 pub use writing::{put_chunk, put_end, put_head};
 
-#[cfg(test)]
-mod tests;

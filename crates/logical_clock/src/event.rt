@@ -7,7 +7,7 @@ pub const LOG_THREADS: u8 = 32;
 
 /// The name of an event: its thread, and its place among the events of that thread, from 0.
 /// It is printed as `T.I`.
-#[derive(Clone, Copy, Debug, PartialEq, Eq, PartialOrd, Ord)]
+#[derive(Clone, Copy, Debug, PartialEq, Eq)]
 pub struct EventName {
     pub thread: u8,
     pub index: u32,
@@ -15,14 +15,14 @@ pub struct EventName {
 
 /// The time of an event: its logical clock (Lamport 1978), and the ticket of each of its keys in
 /// the order of the keys.
-#[derive(Debug, Drop)]
+#[derive(Drop)]
 pub struct Stamp {
     pub clock: u32,
     pub tickets: Words,
 }
 
 /// Why a thread stopped before it ended.
-#[derive(Clone, Copy, Debug, PartialEq, Eq)]
+#[derive(Clone, Copy)]
 pub enum Reason {
     /// The run ended while the thread was above the cut.
     Halted,
@@ -32,7 +32,7 @@ pub enum Reason {
 
 /// What a thread does where it crosses the cut, uses the pool, or stops. Arguments, results and
 /// addresses are 64-bit two's complement patterns; a result of type `void` is 0.
-#[derive(Debug, Drop)]
+#[derive(Drop)]
 pub enum Event {
     /// Code above the cut calls the interface function with this number.
     Call {
@@ -73,7 +73,7 @@ pub enum Event {
 
 /// What a log says of one event: its thread, how many steps its thread made above the cut since
 /// its previous event, its logical clock (1 or more in a log of a run), and its keys.
-#[derive(Debug, Drop)]
+#[derive(Drop)]
 pub struct Record {
     pub thread: u8,
     pub steps: u32,

@@ -4,7 +4,7 @@ ghost use Rattle.std.specs.Prelude.{◌≡◌};
 ghost use Rattle.logical_clock.specs.Class.{number_of, word_of};
 
 /// What the value of a key names.
-#[derive(Clone, Copy, Debug, PartialEq, Eq, PartialOrd, Ord)]
+#[derive(Clone, Copy, PartialEq, Eq)]
 pub enum Class {
     /// A mutex of the program.
     Mutex,
@@ -55,14 +55,14 @@ impl Class {
 }
 
 /// What events have in common that happen one after the other.
-#[derive(Clone, Copy, Debug, PartialEq, Eq, PartialOrd, Ord)]
+#[derive(Clone, Copy, PartialEq, Eq)]
 pub struct Key {
     pub class: Class,
     pub value: u64,
 }
 
 /// A key at an event. Its ticket is the number of earlier events that have the key.
-#[derive(Clone, Copy, Debug, PartialEq, Eq)]
+#[derive(Clone, Copy, PartialEq, Eq)]
 pub struct KeyMark {
     pub key: Key,
     pub ticket: u32,

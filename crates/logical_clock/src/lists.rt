@@ -9,7 +9,7 @@ use std::alloc::Global;
 use std::marker::Model;
 
 /// Values of 64 bits, as the arguments of a call.
-#[derive(Debug, Drop)]
+#[derive(Drop)]
 pub struct Words {
     items: Vec<u64>,
 }
@@ -55,7 +55,7 @@ impl From<Vec<u64>> for Words {
 }
 
 /// Bytes, as those of one region.
-#[derive(Debug, Drop)]
+#[derive(Drop)]
 pub struct Bytes {
     items: Vec<u8>,
 }
@@ -101,7 +101,7 @@ impl From<Vec<u8>> for Bytes {
 }
 
 /// Runs of bytes, one for each region.
-#[derive(Debug, Drop)]
+#[derive(Drop)]
 pub struct Pieces {
     items: Vec<Bytes>,
 }
@@ -147,7 +147,7 @@ impl From<Vec<Bytes>> for Pieces {
 }
 
 /// The keys of an event, each with its ticket.
-#[derive(Debug, Drop)]
+#[derive(Drop)]
 pub struct Marks {
     items: Vec<KeyMark>,
 }

@@ -105,3 +105,42 @@ answer_to (Steps i f args) (Step g bs v ins pieces freed) = answer_if (eqb g f &
 answer_to (Steps i f args) act = stopped_if (is_fault_at_byte false act)
 answer_to (Fails kind) act = stopped_if (is_fault_of kind Nowhere act)
 answer_to _ _ = None
+
+-- what code above the cut may want. It comes to a Step through a pointer to an external that isn't of the interface, and
+-- then may only stop
+abbrev pub is_above : Want → Bool
+is_above Outside = false
+is_above Turns = true
+is_above (Loads origin at width) = true
+is_above (Stores origin at bytes) = true
+is_above (Enters indirect func args bytes) = true
+is_above (Leaves at size) = true
+is_above (Allocs size) = true
+is_above (Frees at) = true
+is_above (Calls indirect func args) = true
+is_above (Below func args) = false
+is_above (Gives func args) = false
+is_above (Returns func args result) = false
+is_above (CallsBack func args bytes) = false
+is_above (UpReturns func result) = true
+is_above (Steps indirect func args) = true
+is_above (Fails kind) = true
+
+-- the thread is below the cut, and may be called back
+abbrev pub is_below : Want → Bool
+is_below Outside = true
+is_below Turns = false
+is_below (Loads origin at width) = false
+is_below (Stores origin at bytes) = false
+is_below (Enters indirect func args bytes) = false
+is_below (Leaves at size) = false
+is_below (Allocs size) = false
+is_below (Frees at) = false
+is_below (Calls indirect func args) = false
+is_below (Below func args) = true
+is_below (Gives func args) = false
+is_below (Returns func args result) = false
+is_below (CallsBack func args bytes) = false
+is_below (UpReturns func result) = false
+is_below (Steps indirect func args) = false
+is_below (Fails kind) = false

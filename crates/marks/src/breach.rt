@@ -4,7 +4,7 @@ ghost use Rattle.std.specs.Prelude.{◌≡◌};
 ghost use Rattle.marks.specs.Kinds.{breach_number, breach_word};
 
 /// Why a step would break the discipline of a run.
-#[derive(Clone, Copy, Debug, PartialEq, Eq)]
+#[derive(Clone, Copy)]
 pub enum BreachKind {
     /// An earlier access of another thread isn't ordered before this one, and one of them writes.
     Race,

@@ -4,7 +4,7 @@ ghost use Rattle.std.specs.Prelude.{◌≡◌};
 ghost use Rattle.marks.specs.Kinds.{fault_number, fault_word};
 
 /// Why a thread's code can't go on.
-#[derive(Clone, Copy, Debug, PartialEq, Eq)]
+#[derive(Clone, Copy)]
 pub enum FaultKind {
     /// A zero divisor, or the least signed value divided by -1.
     Divide,

@@ -2,6 +2,7 @@
 use Rattle.std.specs.Prelude.{◌≡◌, ◌⊎◌, ℕ, ◌≤◌, true, List, Some, None}
 use Rattle.logical_clock.specs.declared.key.Class.TheVariants.{Pool}
 use Rattle.marks.specs.declared.side.Side.TheVariants.{Replay}
+use Rattle.marks.specs.Places.{replay_pool}
 use Rattle.marks.specs.Marks.{Alloc, Free, Event, Made, Mark}
 use Rattle.live_bytes.specs.Numbers.{FillsWith}
 use Rattle.pool_list.specs.Blocks.{length_at, with_block, without_block}
@@ -20,7 +21,7 @@ use Rattle.memory_of_runs.specs.Marks.{IsMark}
 -- an Alloc that the rules of the pool allow
 pub record IsAlloc (s : Start) (past : List Mark) (m : Mark) (size addr : ℕ) (new : SpaceState) : Type 0 where
   pub mark : IsMark s past m new
-  pub place : IsPlace (blocks (events_with s (OfKey (key Pool 0)) past)) size addr
+  pub place : IsPlace replay_pool (blocks (events_with s (OfKey (key Pool 0)) past)) size addr
 
 -- a block that is given is an Alloc at its address
 abbrev pub AllocsAreMarks : Type 0

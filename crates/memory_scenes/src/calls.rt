@@ -10,7 +10,7 @@ use std::alloc::Global;
 use thiserror::Error;
 
 /// A return that was to be refused is not.
-#[derive(Clone, Copy, Debug, PartialEq, Eq, Error)]
+#[derive(Clone, Copy, Debug, Error)]
 #[error("it is not refused")]
 pub struct NotRefused;
 

@@ -7,7 +7,7 @@ use std::alloc::Global;
 use std::marker::Model;
 
 /// The bytes of an object.
-#[derive(Debug, Drop)]
+#[derive(Drop)]
 pub struct Bytes8 {
     items: Vec<u8>,
 }
@@ -53,7 +53,7 @@ impl From<Vec<u8>> for Bytes8 {
 }
 
 /// Objects, in the order of the source.
-#[derive(Debug, Drop)]
+#[derive(Drop)]
 pub struct Places {
     items: Vec<Place>,
 }
@@ -102,7 +102,7 @@ impl From<Vec<Place>> for Places {
 }
 
 /// One answer per function number.
-#[derive(Debug, Drop)]
+#[derive(Drop)]
 pub struct Flags {
     items: Vec<bool>,
 }

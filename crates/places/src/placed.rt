@@ -3,7 +3,7 @@
 use crate::{Bytes8, Flags, Places};
 
 /// An object: its first byte's address, and its bytes at the start of a run.
-#[derive(Debug, Drop)]
+#[derive(Drop)]
 pub struct Place {
     pub addr: u64,
     pub init: Bytes8,
@@ -11,7 +11,7 @@ pub struct Place {
 
 /// The places of globals and strings, each in the order of the source, and per function number whether the function may
 /// run in replay mode, may run in system mode, and is in the interface.
-#[derive(Debug, Drop)]
+#[derive(Drop)]
 pub struct Placed {
     pub globals: Places,
     pub strings: Places,

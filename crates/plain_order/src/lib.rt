@@ -10,5 +10,3 @@ mod order;
 pub use bytes::first_wrong_byte;
 pub use order::first_wrong_event;
 
-#[cfg(test)]
-mod tests;

@@ -7,5 +7,3 @@ mod pool;
 pub use block::Block;
 pub use pool::{NotLive, Pool};
 
-#[cfg(test)]
-mod tests;

@@ -9,12 +9,12 @@ use std::marker::Model;
 use thiserror::Error;
 
 /// No live block begins at the address that was given.
-#[derive(Clone, Copy, Debug, PartialEq, Eq, Error)]
+#[derive(Clone, Copy, Debug, Error)]
 #[error("no live block begins there")]
 pub struct NotLive;
 
 /// The live blocks of `size` bytes from `base` on, each at a multiple of 16.
-#[derive(Debug, Drop)]
+#[derive(Drop)]
 pub struct Pool {
     base: u64,
     size: u64,

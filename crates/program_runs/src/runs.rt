@@ -20,7 +20,7 @@ pub fn run_words(
 }
 
 /// What a run leaves: its status, and the texts on standard output and standard error.
-#[derive(Debug, Drop)]
+#[derive(Drop)]
 pub struct Left {
     pub status: Status,
     pub out: Vec<u8>,

@@ -9,8 +9,6 @@ mod numbers;
 mod outside;
 mod sinks;
 mod sure_files;
-#[cfg(test)]
-mod tests;
 
 pub use fault::Fault;
 pub use mem_files::MemFiles;

@@ -7,7 +7,7 @@ use crate::outside::Sink;
 use std::alloc::Global;
 
 /// A sink that never answers `Failed`; its count of faults stays 0.
-#[derive(Debug, Drop)]
+#[derive(Drop)]
 pub struct SureSink {
     bytes: Vec<u8>,
 }
@@ -46,7 +46,7 @@ impl Sink for SureSink {
 }
 
 /// A sink whose listed calls of `put`, counted from 0, up to 2^64 - 1, add half of the piece and answer `Failed`.
-#[derive(Debug, Drop)]
+#[derive(Drop)]
 pub struct MemSink {
     bytes: Vec<u8>,
     fail: Vec<u64>,

@@ -15,7 +15,7 @@ use r2_base::Fault;
 use std::alloc::{AllocError, Global};
 
 /// How a command ended, with what its line names.
-#[derive(Clone, Copy, Debug)]
+#[derive(Clone, Copy)]
 pub enum Ending<'a> {
     Done,
     Usage,

@@ -9,7 +9,7 @@ use r2_base::{Fault, Files};
 use std::alloc::{AllocError, AllocFailed, Global};
 
 /// Why a file was not read.
-#[derive(Clone, Copy, Debug, PartialEq, Eq)]
+#[derive(Clone, Copy)]
 pub enum ReadError {
     /// A read was refused.
     Fault(Fault),

@@ -5,7 +5,7 @@ ghost use Rattle.r2_cli.specs.Words.{texts_of, IsForm, IsUsage};
 ghost use Rattle.r2_cli.specs.Forms.{form_of};
 
 /// A command with its words.
-#[derive(Clone, Copy, Debug)]
+#[derive(Clone, Copy)]
 pub enum Command<'a> {
     Help,
     Version,

@@ -6,7 +6,7 @@ ghost use Rattle.r2_num.specs.Kinds.{width_of, signed, least, greatest};
 /// An integer type of the language: its sign and its width in bits.
 ///
 /// `char` is `I8`, `short` is `I16`, `int` is `I32` and `long` is `I64`; the unsigned ones are `U8`, `U16`, `U32` and `U64`.
-#[derive(Clone, Copy, Debug, PartialEq, Eq)]
+#[derive(Clone, Copy, PartialEq, Eq)]
 pub enum IntKind {
     I8,
     U8,

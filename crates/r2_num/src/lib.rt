@@ -4,8 +4,6 @@
 mod conversions;
 mod kinds;
 mod operations;
-#[cfg(test)]
-mod tests;
 
 pub use conversions::{common, pattern, promote, wrap};
 pub use kinds::IntKind;

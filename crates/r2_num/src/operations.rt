@@ -7,10 +7,9 @@ ghost use Rattle.r2_num.specs.Operations.{binary_of, fault_of, divide_fault, shi
 
 use crate::conversions::{pattern, wrap};
 use crate::kinds::IntKind;
-use thiserror::Error;
 
 /// A binary operator that takes two integers (C11 6.5.5 to 6.5.12).
-#[derive(Clone, Copy, Debug, PartialEq, Eq)]
+#[derive(Clone, Copy)]
 pub enum Op {
     Add,
     Sub,
@@ -31,13 +30,11 @@ pub enum Op {
 }
 
 /// Why an operator has no result.
-#[derive(Clone, Copy, Debug, PartialEq, Eq, Error)]
+#[derive(Clone, Copy)]
 pub enum Arith {
     /// A zero divisor, or the least signed value divided by -1.
-    #[error("divide")]
     Divide,
     /// A count below 0 or not below the width.
-    #[error("shift")]
     Shift,
 }
 

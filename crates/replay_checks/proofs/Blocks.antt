@@ -2,6 +2,7 @@
 use Rattle.std.proofs.Common.{◌≡◌, ◌⊎◌, inl, inr, ⊎_elim, ℕ, ◌+◌, ◌<◌, ◌≤◌, Bool, true, false, cond, eqb, leb, ltb, List, [], ◌∷◌, refl, sym, ap, ◌∙◌, subst, arith, eq-eqb, eqb-true}
 use Rattle.std.proofs.lemmas.Bool.{leb-true, ltb-true, le-leb, lt-ltb, and_parts, and_from, ne_eqb, true≢false, cases_eq, cases_lt, cases_Bool}
 use Rattle.logical_clock.specs.declared.key.Class.TheVariants.{Pool}
+use Rattle.marks.specs.Places.{replay_pool}
 use Rattle.marks.specs.Ranges.{Range, range, within}
 use Rattle.marks.specs.Marks.{EventKind, Call, Ret, Up, UpRet, Alloc, Free, Stop, Event, Act, Turn, Load, Store, Enter, Leave, Step, Fault, Made, Mark}
 use Rattle.marks.specs.Bytes.{Byte, granted, event_block, block_after, EventAsks, Asks}
@@ -15,19 +16,19 @@ use Rattle.replay_runs.proofs.Keys.{listed_last}
 use Rattle.replay_checks.specs.Blocks.{size_at}
 
 -- blocks that are somewhere, of some size, and don't meet
-abbrev Sound : List Range → Type 0
+abbrev pub Sound : List Range → Type 0
 Sound [] = Unit {0}
 Sound (b ∷ bs) = (1 ≤ b.at) × (1 ≤ b.size) × MeetsNone bs b.at b.size × Sound bs
 
-cond_true : {A : Type 0} (b : Bool) (u v : A) → b ≡ true → cond b u v ≡ u
+pub cond_true : {A : Type 0} (b : Bool) (u v : A) → b ≡ true → cond b u v ≡ u
 cond_true true u v e = refl
 cond_true false u v e = absurd (true≢false (sym e))
 
-cond_false : {A : Type 0} (b : Bool) (u v : A) → b ≡ false → cond b u v ≡ v
+pub cond_false : {A : Type 0} (b : Bool) (u v : A) → b ≡ false → cond b u v ≡ v
 cond_false true u v e = absurd (true≢false e)
 cond_false false u v e = refl
 
-bounds : (at n x : ℕ) → within at n x ≡ true → (at ≤ x) × (x < at + n)
+pub bounds : (at n x : ℕ) → within at n x ≡ true → (at ≤ x) × (x < at + n)
 bounds at n x e = let p = and_parts (leb at x) (ltb x (at + n)) e in (leb-true at x p.0, ltb-true x (at + n) p.1)
 
 -- no block begins in a range that meets none
@@ -103,11 +104,11 @@ without_sound (b ∷ bs) at s = go (eqb b.at at) (without_sound bs at s.3)
     go false k = (s.0, s.1, without_meets bs at b.at b.size s.2, k)
 
 -- what the list and the bytes say is one thing
-record Agree (bs : List Range) (block : ℕ → ℕ) : Type 0 where
-  sound : Sound bs
-  same : (x : ℕ) → block x ≡ size_at x bs
+pub record Agree (bs : List Range) (block : ℕ → ℕ) : Type 0 where
+  pub sound : Sound bs
+  pub same : (x : ℕ) → block x ≡ size_at x bs
 
-allocs : (bs : List Range) (block : ℕ → ℕ) (at size : ℕ) → Agree bs block → IsPlace bs size at → Agree (blocks_after (Alloc at size) bs) (λ x. event_block (Alloc at size) x (block x))
+allocs : (bs : List Range) (block : ℕ → ℕ) (at size : ℕ) → Agree bs block → IsPlace replay_pool bs size at → Agree (blocks_after (Alloc at size) bs) (λ x. event_block (Alloc at size) x (block x))
 allocs bs block at size h (inr n) =
     let z : granted at size ≡ 0 = cond_true (eqb at 0) 0 size (eq-eqb at 0 n.0) in
     subst (λ l. Agree l (λ x. event_block (Alloc at size) x (block x))) (sym (cond_true (eqb (granted at size) 0) bs (range at size ∷ bs) (eq-eqb (granted at size) 0 z)))
@@ -209,7 +210,7 @@ module _ (program : Program) (s : Start) where
       go : (k : EventKind) → e.kind ≡ k → Agree (blocks (cond (is_listed e.keys (key Pool 0)) (m ∷ events_with s pool past) (events_with s pool past))) (λ x. event_block e.kind x (byte s x past).block)
       go (Alloc at size) q =
           let l : is_listed e.keys (key Pool 0) ≡ true = listed_last e.keys [] (key Pool 0) (keyed ∙ ap (λ k. sorted_keys (keys_for program.interface m.thread (marks_of s m.thread past) k)) q) in
-          let p : IsPlace (blocks (events_with s pool past)) size at = subst (SharedEvent program.interface Pool 0 (events_with s pool past)) q (shared l) in
+          let p : IsPlace replay_pool (blocks (events_with s pool past)) size at = subst (SharedEvent program.interface Pool 0 (events_with s pool past)) q (shared l) in
           loud m (events_with s pool past) (is_listed e.keys (key Pool 0)) e.kind (λ x. event_block e.kind x (byte s x past).block) l same
           (subst (λ k. Agree (blocks_after k (blocks (events_with s pool past))) (λ x. event_block k x (byte s x past).block)) (sym q) (allocs (blocks (events_with s pool past)) (λ x. (byte s x past).block) at size h p))
       go (Free at size) q =
@@ -240,9 +241,15 @@ module _ (program : Program) (s : Start) where
       go (Step f args v ins pieces freed) is = whole (Step f args v ins pieces freed) is h
       go (Fault k cr ins outs at) is = whole (Fault k cr ins outs at) is h
 
-agree : (program : Program) (memory : ℕ → Byte) → ((x : ℕ) → (memory x).block ≡ 0) → (run : List Mark) → Run (replay_rules program) (fresh memory) run → Agree (blocks (events_with (fresh memory) (OfKey (key Pool 0)) run)) (λ x. (byte (fresh memory) x run).block)
+pub agree : (program : Program) (memory : ℕ → Byte) → ((x : ℕ) → (memory x).block ≡ 0) → (run : List Mark) → Run (replay_rules program) (fresh memory) run → Agree (blocks (events_with (fresh memory) (OfKey (key Pool 0)) run)) (λ x. (byte (fresh memory) x run).block)
 agree program memory none [] h = record { sound = tt; same = none }
 agree program memory none (m ∷ past) h = more program (fresh memory) past m h.0 (agree program memory none past h.1)
 
 pub known : (program : Program) (memory : ℕ → Byte) → ((x : ℕ) → (memory x).block ≡ 0) → (run : List Mark) → Run (replay_rules program) (fresh memory) run → (x : ℕ) → (byte (fresh memory) x run).block ≡ size_at x (blocks (events_with (fresh memory) (OfKey (key Pool 0)) run))
 known program memory none run h x = (agree program memory none run h).same x
+
+pub one_place : (pool : ℕ) (bs : List Range) (size at x : ℕ) → IsPlace pool bs size at → IsPlace pool bs size x → at ≡ x
+one_place pool bs size at x (inl p) (inl q) = let a = p.1 x q.0 in let b = q.1 at p.0 in omega (arith, a, b)
+one_place pool bs size at x (inl p) (inr q) = absurd (q.1 at p.0)
+one_place pool bs size at x (inr p) (inl q) = absurd (p.1 x q.0)
+one_place pool bs size at x (inr p) (inr q) = p.0 ∙ sym q.0

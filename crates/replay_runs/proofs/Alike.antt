@@ -3,12 +3,13 @@ use Rattle.std.proofs.Common.{◌≡◌, ◌↔◌, ℕ, List, [], ◌∷◌, ma
 use Rattle.logical_clock.specs.declared.key.Class.TheVariants.{Out}
 use Rattle.logical_clock.specs.declared.event.Record.{Record}
 use Rattle.marks.specs.Marks.{Mark}
+use Rattle.marks.specs.Wants.{is_above}
 use Rattle.replay_runs.specs.Runs.{OfThread, OfKey, Start, RaceFree, Rules, Run, Trimmed, history}
 use Rattle.replay_runs.specs.Known.{NoRace}
 use Rattle.replay_runs.specs.Interface.{Program}
 use Rattle.replay_runs.specs.Threads.{is_stopped}
 use Rattle.replay_runs.specs.Keys.{key}
-use Rattle.replay_runs.specs.Rules.{is_above, replay_rules}
+use Rattle.replay_runs.specs.Rules.{replay_rules}
 use Rattle.replay_runs.specs.Records.{record_of, printed_by}
 use Rattle.replay_runs.specs.Laws.{IsReplayRun, Rearranged, OfProgram, WhollyOfProgram, NoneLeft}
 use Rattle.replay_runs.proofs.Swap.{Swapped}

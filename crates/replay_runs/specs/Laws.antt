@@ -1,18 +1,18 @@
 -- The laws of replay runs.
-use Rattle.std.specs.Prelude.{◌≡◌, ◌≢◌, ◌↔◌, ℕ, ◌<◌, ◌≤◌, Bool, true, false, cond, eqb, ltb, List, [], ◌∷◌, ◌++◌, length, Option}
+use Rattle.std.specs.Prelude.{◌≡◌, ◌≢◌, ◌↔◌, ℕ, ◌-◌, ◌<◌, ◌≤◌, Bool, true, false, cond, eqb, ltb, List, [], ◌∷◌, ◌++◌, length, drop, Option}
 use Rattle.logical_clock.specs.declared.event.Record.{Record}
 use Rattle.marks.specs.Places.{is_constant, is_system}
 use Rattle.marks.specs.Ranges.{Range, range, in_range}
 use Rattle.marks.specs.Marks.{Load, Store, Leave, Mark, is_event}
 use Rattle.marks.specs.Bytes.{AllLive, Byte, Asks}
-use Rattle.marks.specs.Wants.{Want, Loads, Stores, Leaves}
+use Rattle.marks.specs.Wants.{Want, Loads, Stores, Leaves, is_above}
 use Rattle.replay_runs.specs.Runs.{Link, OfThread, In, Start, has, marks_of, events_with, byte, DirectCause, RaceFree, Allowed, Run, Disciplined, EndsWithEvent, Trimmed, rank_in, history}
 use Rattle.replay_runs.specs.Known.{NoRace, Watched}
 use Rattle.replay_runs.specs.Chains.{IsLongest}
 use Rattle.replay_runs.specs.Interface.{Interface, Program}
 use Rattle.replay_runs.specs.Checks.{Finding, Passes, Finds, checks}
 use Rattle.replay_runs.specs.Threads.{is_stopped}
-use Rattle.replay_runs.specs.Rules.{OwnRules, is_above, replay_rules}
+use Rattle.replay_runs.specs.Rules.{OwnRules, replay_rules}
 use Rattle.replay_runs.specs.Records.{record_of, output}
 
 -- a start at which nothing was done, with this memory
@@ -79,6 +79,25 @@ pub record OfProgram (program : Program) (s : Start) (h : ℕ → List Record) :
   pub disciplined : IsReplayRun program s run
   pub trimmed : Trimmed s run
   pub is : (t : ℕ) → history record_of s t run ≡ h t
+
+-- the first n of a list that has the newest first
+abbrev pub first_of : {R : Type 0} → ℕ → List R → List R
+first_of n rs = drop (length rs - n) rs
+
+-- q ends with events, and has the first k records of each thread of p
+pub record HasFirst (s : Start) (k : ℕ → ℕ) (p q : List Mark) : Type 0 where
+  pub trimmed : Trimmed s q
+  pub records : (t : ℕ) → history record_of s t q ≡ first_of (k t) (history record_of s t p)
+
+-- where the start ends with events, of which none is dropped, a trimmed run without its later marks is so
+abbrev pub DroppedRunsAreTrimmed : Program → Start → Type 0
+DroppedRunsAreTrimmed program s =
+    (k : ℕ → ℕ) (p : List Mark) → Run (replay_rules program) s p → Trimmed s p → ((t : ℕ) → EndsWithEvent (s.parts t)) → ((t : ℕ) → length (s.events (OfThread t)) ≤ k t) → HasFirst s k p (keep (kept k) p)
+
+-- so the records of a closed set of events are of the program
+abbrev pub ClosedSetsAreRuns : Program → Start → Type 0
+ClosedSetsAreRuns program s =
+    (k : ℕ → ℕ) (h : ℕ → List Record) (of : OfProgram program s h) → IsClosed k of.run → ((t : ℕ) → EndsWithEvent (s.parts t)) → ((t : ℕ) → length (s.events (OfThread t)) ≤ k t) → OfProgram program s (λ t. first_of (k t) (h t))
 
 -- no thread is left above the cut without a Stop
 abbrev pub NoneLeft : Program → Start → List Mark → Type 0

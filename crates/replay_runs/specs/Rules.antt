@@ -6,32 +6,16 @@ use Rattle.logical_clock.specs.declared.key.Key.{Key}
 use Rattle.marks.specs.declared.side.Side.TheVariants.{Replay, System}
 use Rattle.marks.specs.declared.fault.FaultKind.{FaultKind}
 use Rattle.marks.specs.declared.fault.FaultKind.TheVariants.{NotLive, ReadOnly}
-use Rattle.marks.specs.Places.{thread_count, is_constant, is_system}
+use Rattle.marks.specs.Places.{thread_count, replay_pool, is_constant, is_system}
 use Rattle.marks.specs.Ranges.{Range, Piece, Prepared, in_range, any_range, are_bytes, piece_ranges, piece_bytes, prepared_ranges}
 use Rattle.marks.specs.Marks.{EventKind, Call, Ret, Up, UpRet, Alloc, Free, Stop, Act, Enter, Fault, Made, Mark, Access, Reading, Writing, Commit, NoRegion, Withheld, Released, logged}
 use Rattle.marks.specs.Bytes.{writes, touches}
-use Rattle.marks.specs.Wants.{Want, Outside, Stores, Enters, Calls, Below, Gives, Returns, CallsBack, Steps, answer_to}
+use Rattle.marks.specs.Wants.{Want, Outside, Turns, Loads, Stores, Enters, Leaves, Allocs, Frees, Calls, Below, Gives, Returns, CallsBack, UpReturns, Steps, Fails, answer_to, is_above, is_below}
 use Rattle.replay_runs.specs.Runs.{Link, OfThread, OfKey, Rules}
 use Rattle.replay_runs.specs.Interface.{Interface, Program, Committing}
 use Rattle.replay_runs.specs.Threads.{frame_place, HasRoom, OpenCall, open_calls, open_ups, fault_of, is_stop, is_stopped, last_return, same_return}
 use Rattle.replay_runs.specs.Pool.{blocks, IsPlace, prepares_key, in_use, is_registered}
 use Rattle.replay_runs.specs.Keys.{sorted_keys, keys_for}
-
--- what code above the cut may want
-abbrev pub is_above : Want → Bool
-is_above Outside = false
-is_above (Below func args) = false
-is_above (Gives func args) = false
-is_above (Returns func args result) = false
-is_above (CallsBack func args bytes) = false
-is_above (Steps indirect func args) = false
-is_above _ = true
-
--- the thread is below the cut, and may be called back
-abbrev pub is_below : Want → Bool
-is_below Outside = true
-is_below (Below func args) = true
-is_below _ = false
 
 -- the mark answers what the code wants; a thread above the cut may stop at any mark
 abbrev pub is_reply : Want → Act → Bool
@@ -43,11 +27,24 @@ AllMayRun i [] = Unit {0}
 AllMayRun i (f ∷ fs) = (i.may_run Replay f ≡ true) × AllMayRun i fs
 
 -- a function that a pointer names may run in the mode that the call gives it, and those that a call registers above
--- the cut
+-- the cut; no Step may come above the cut
 abbrev pub KeepsModes : Interface → Want → Type 0
+KeepsModes i Outside = Unit {0}
+KeepsModes i Turns = Unit {0}
+KeepsModes i (Loads origin at width) = Unit {0}
+KeepsModes i (Stores origin at bytes) = Unit {0}
 KeepsModes i (Enters indirect func args bytes) = indirect ≡ true → i.may_run Replay func ≡ true
+KeepsModes i (Leaves at size) = Unit {0}
+KeepsModes i (Allocs size) = Unit {0}
+KeepsModes i (Frees at) = Unit {0}
 KeepsModes i (Calls indirect func args) = (indirect ≡ true → i.may_run System func ≡ true) × AllMayRun i (i.registers func args)
-KeepsModes i _ = Unit {0}
+KeepsModes i (Below func args) = Unit {0}
+KeepsModes i (Gives func args) = Unit {0}
+KeepsModes i (Returns func args result) = Unit {0}
+KeepsModes i (CallsBack func args bytes) = Unit {0}
+KeepsModes i (UpReturns func result) = Unit {0}
+KeepsModes i (Steps indirect func args) = ⊥
+KeepsModes i (Fails kind) = Unit {0}
 
 -- no two of the ranges meet
 abbrev pub Apart : List Range → Type 0
@@ -122,11 +119,26 @@ pub data StopsCall (ins outs : List Range) : FaultKind → List Range → List R
 -- what a mark carries besides what the code wants: frames lie at the least free place, a fault comes where it must
 abbrev pub Carries : Interface → ℕ → List Mark → Want → Act → Type 0
 Carries i t mine want (Made e) = EventCarries i mine e.kind
+Carries i t mine Outside act = Unit {0}
+Carries i t mine Turns act = Unit {0}
+Carries i t mine (Loads origin at width) act = Unit {0}
+Carries i t mine (Stores origin at bytes) (Fault ReadOnly crosses ins outs (Writing r)) = SomeConstant r
+Carries i t mine (Stores origin at bytes) act = Unit {0}
 Carries i t mine (Enters indirect func args bytes) (Enter f vs at b) = (at ≡ frame_place t mine) × HasRoom t mine (length bytes)
 Carries i t mine (Enters indirect func args bytes) (Fault kind crosses ins outs access) = HasRoom t mine (length bytes) → ⊥
-Carries i t mine (Stores origin at bytes) (Fault ReadOnly crosses ins outs (Writing r)) = SomeConstant r
+Carries i t mine (Enters indirect func args bytes) act = Unit {0}
+Carries i t mine (Leaves at size) act = Unit {0}
+Carries i t mine (Allocs size) act = Unit {0}
+Carries i t mine (Frees at) act = Unit {0}
 Carries i t mine (Calls indirect func args) (Fault kind crosses ins outs access) = StopsCall (i.ins func args) (i.outs func args ++ prepared_ranges (i.prepares func args)) kind ins outs access
-Carries i t mine want act = Unit {0}
+Carries i t mine (Calls indirect func args) act = Unit {0}
+Carries i t mine (Below func args) act = Unit {0}
+Carries i t mine (Gives func args) act = Unit {0}
+Carries i t mine (Returns func args result) act = Unit {0}
+Carries i t mine (CallsBack func args bytes) act = Unit {0}
+Carries i t mine (UpReturns func result) act = Unit {0}
+Carries i t mine (Steps indirect func args) act = Unit {0}
+Carries i t mine (Fails kind) act = Unit {0}
 
 -- the keys of an event, each once and in order
 abbrev pub HasKeys : Interface → ℕ → List Mark → Act → Type 0
@@ -150,7 +162,7 @@ pub record OwnRules (program : Program) (mine : List Mark) (m : Mark) : Type 0 w
 
 -- the rules of the events with a key, by its class and value
 abbrev pub SharedEvent : Interface → Class → ℕ → List Mark → EventKind → Type 0
-SharedEvent i Pool value past (Alloc at size) = IsPlace (blocks past) size at
+SharedEvent i Pool value past (Alloc at size) = IsPlace replay_pool (blocks past) size at
 SharedEvent i Callback value past (Up func args) = (func ≡ i.main) ⊎ (is_registered past ≡ true)
 SharedEvent i Async value past (Call func args ins outs prepared) = prepares_key prepared value ≡ true → in_use value past ≡ None
 SharedEvent i Async value past (Ret func args result same outs (Released p)) = in_use value past ≡ Some p.range

@@ -13,7 +13,7 @@ use Rattle.marks.specs.Places.{thread_count, frame_count, stack, stack_size, rep
 use Rattle.marks.specs.Ranges.{Range, piece_ranges, piece_bytes, prepared_ranges}
 use Rattle.marks.specs.Marks.{Writing, Commit, Released, EventKind, Call, Ret, Up, UpRet, Alloc, Free, Stop, Act, Turn, Load, Store, Enter, Leave, Step, Fault, Made, Mark, is_event, logged}
 use Rattle.marks.specs.Bytes.{touches, writes, place, conflict}
-use Rattle.marks.specs.Wants.{Want, Stores, Enters, Calls}
+use Rattle.marks.specs.Wants.{Want, Outside, Turns, Loads, Stores, Enters, Leaves, Allocs, Frees, Calls, Below, Gives, Returns, CallsBack, UpReturns, Steps, Fails}
 use Rattle.marks.proofs.Touched.{or_true_left, or_true_right}
 use Rattle.replay_runs.specs.Runs.{Link, OfThread, OfKey, same_key, keys_of, is_listed, has, ticket, clock_of, In, Start, marks_of, events_with, byte, last_clock, steps_since, steps_of, fault_count, RaceFree, Allowed, Run}
 use Rattle.replay_runs.specs.Known.{known_at, NoRace}
@@ -69,7 +69,7 @@ module _ (program : Program) (s : Start) where
   has_room_true t mine size h = let w = and_parts (leb (frame_place t mine + size) (stack Replay t + stack_size)) (ltb (length (frames mine)) frame_count) h in (leb-true _ _ w.0, ltb-true _ _ w.1)
 
   -- that a stack is full isn't tried
-  abbrev carries : ℕ → List Mark → Want → Act → Bool
+  abbrev pub carries : ℕ → List Mark → Want → Act → Bool
   carries t mine want (Made e) = event_carries mine e.kind
   carries t mine (Enters indirect f args bytes) (Enter g vs at b) = eqb at (frame_place t mine) && has_room t mine (length bytes)
   carries t mine (Enters indirect f args bytes) (Fault k cr ins outs a) = false
@@ -77,21 +77,36 @@ module _ (program : Program) (s : Start) where
   carries t mine (Stores o at bytes) (Fault ReadOnly cr ins outs (Writing r)) = some_constant r
   carries t mine want act = true
 
-  carries_true : (t : ℕ) (mine : List Mark) (want : Want) (a : Act) → carries t mine want a ≡ true → Carries i t mine want a
+  pub carries_true : (t : ℕ) (mine : List Mark) (want : Want) (a : Act) → carries t mine want a ≡ true → Carries i t mine want a
   carries_true t mine want (Made e) h = event_carries_true mine e.kind h
+  carries_true t mine Outside a h = tt
+  carries_true t mine Turns a h = tt
+  carries_true t mine (Loads o at n) a h = tt
+  carries_true t mine (Stores o at bytes) (Fault ReadOnly cr ins outs (Writing r)) h = some_constant_true r h
+  carries_true t mine (Stores o at bytes) a h = tt
   carries_true t mine (Enters indirect f args bytes) (Enter g vs at b) h =
       let w = and_parts (eqb at (frame_place t mine)) (has_room t mine (length bytes)) h in
       (eqb-true _ _ w.0, has_room_true t mine (length bytes) w.1)
   carries_true t mine (Enters indirect f args bytes) (Fault k cr ins outs a) h = absurd (true≢false (sym h))
+  carries_true t mine (Enters indirect f args bytes) a h = tt
+  carries_true t mine (Leaves at n) a h = tt
+  carries_true t mine (Allocs n) a h = tt
+  carries_true t mine (Frees at) a h = tt
   carries_true t mine (Calls indirect f args) (Fault k cr ins outs a) h = stops_true (i.ins f args) (i.outs f args ++ prepared_ranges (i.prepares f args)) k ins outs a h
-  carries_true t mine (Stores o at bytes) (Fault ReadOnly cr ins outs (Writing r)) h = some_constant_true r h
-  carries_true t mine want a h = tt
+  carries_true t mine (Calls indirect f args) a h = tt
+  carries_true t mine (Below f args) a h = tt
+  carries_true t mine (Gives f args) a h = tt
+  carries_true t mine (Returns f args v) a h = tt
+  carries_true t mine (CallsBack f args bytes) a h = tt
+  carries_true t mine (UpReturns f v) a h = tt
+  carries_true t mine (Steps indirect f args) a h = tt
+  carries_true t mine (Fails k) a h = tt
 
-  abbrev has_keys : ℕ → List Mark → Act → Bool
+  abbrev pub has_keys : ℕ → List Mark → Act → Bool
   has_keys t mine (Made e) = same_keys (map (λ q. q.key) e.keys) (sorted_keys (keys_for i t mine e.kind))
   has_keys t mine a = true
 
-  has_keys_true : (t : ℕ) (mine : List Mark) (a : Act) → has_keys t mine a ≡ true → HasKeys i t mine a
+  pub has_keys_true : (t : ℕ) (mine : List Mark) (a : Act) → has_keys t mine a ≡ true → HasKeys i t mine a
   has_keys_true t mine (Made e) h = same_keys_true _ _ h
   has_keys_true t mine Turn h = tt
   has_keys_true t mine (Load o at bytes) h = tt
@@ -112,15 +127,17 @@ module _ (program : Program) (s : Start) where
   abbrev modes : Want → Bool
   modes (Enters indirect f args bytes) = not indirect || i.may_run Replay f
   modes (Calls indirect f args) = (not indirect || i.may_run System f) && all_may_run (i.registers f args)
+  modes (Steps indirect f args) = false
   modes want = true
 
-  if_so : (a b : Bool) → (not a || b) ≡ true → a ≡ true → b ≡ true
+  pub if_so : (a b : Bool) → (not a || b) ≡ true → a ≡ true → b ≡ true
   if_so true b h e = h
   if_so false b h e = absurd (true≢false (sym e))
 
   modes_true : (want : Want) → modes want ≡ true → KeepsModes i want
   modes_true (Enters indirect f args bytes) h = if_so indirect (i.may_run Replay f) h
   modes_true (Calls indirect f args) h = let w = and_parts (not indirect || i.may_run System f) (all_may_run (i.registers f args)) h in (if_so indirect (i.may_run System f) w.0, all_may_run_true (i.registers f args) w.1)
+  modes_true (Steps indirect f args) h = absurd (true≢false (sym h))
   modes_true want h = tt
 
   abbrev has_no_fault : Option FaultKind → Bool
@@ -175,7 +192,7 @@ module _ (program : Program) (s : Start) where
   first_place [] size at = eqb at replay_pool && (leb 1 size && leb size pool_size)
   first_place (b ∷ bs) size at = false
 
-  first_place_true : (bs : List Range) (size at : ℕ) → first_place bs size at ≡ true → IsPlace bs size at
+  first_place_true : (bs : List Range) (size at : ℕ) → first_place bs size at ≡ true → IsPlace replay_pool bs size at
   first_place_true [] size at h =
       let a = and_parts (eqb at replay_pool) _ h in
       let b = and_parts (leb 1 size) (leb size pool_size) a.1 in
@@ -242,10 +259,10 @@ module _ (program : Program) (s : Start) where
       let w = and_parts (p q.key) (all_keys qs p) h in
       ⊎_elim (λ z. sym (ap p (same_key_true q.key k z)) ∙ w.0) (λ z. all_keys_true qs p w.1 k z) (or_cases (same_key q.key k) (is_listed qs k) e)
 
-  abbrev all_links : Mark → (Link → Bool) → Bool
+  abbrev pub all_links : Mark → (Link → Bool) → Bool
   all_links m p = (not (is_event m.act) || p (OfThread m.thread)) && all_keys (keys_of m.act) (λ k. p (OfKey k))
 
-  all_links_true : (m : Mark) (p : Link → Bool) → all_links m p ≡ true → (l : Link) → has m l ≡ true → p l ≡ true
+  pub all_links_true : (m : Mark) (p : Link → Bool) → all_links m p ≡ true → (l : Link) → has m l ≡ true → p l ≡ true
   all_links_true m p h (OfThread t) e =
       let w = and_parts (not (is_event m.act) || p (OfThread m.thread)) _ h in
       let u = and_parts (is_event m.act) (eqb m.thread t) e in
@@ -269,21 +286,21 @@ module _ (program : Program) (s : Start) where
       (λ z. let w = some_key_true qs p z in (w.0, or_true_right (same_key q.key w.0) (is_listed qs w.0) w.1, w.2))
       (or_cases (p q.key) (some_key qs p) h)
 
-  abbrev some_link : Mark → (Link → Bool) → Bool
+  abbrev pub some_link : Mark → (Link → Bool) → Bool
   some_link m p = p (OfThread m.thread) || some_key (keys_of m.act) (λ k. p (OfKey k))
 
-  some_link_true : (m : Mark) (p : Link → Bool) → some_link m p ≡ true → is_event m.act ≡ true → (l : Link) × (has m l ≡ true) × (p l ≡ true)
+  pub some_link_true : (m : Mark) (p : Link → Bool) → some_link m p ≡ true → is_event m.act ≡ true → (l : Link) × (has m l ≡ true) × (p l ≡ true)
   some_link_true m p h made =
       ⊎_elim
       (λ z. (OfThread m.thread, and_from _ _ made (eq-eqb m.thread m.thread refl), z))
       (λ z. let w = some_key_true (keys_of m.act) (λ k. p (OfKey k)) z in (OfKey w.0, w.1, w.2))
       (or_cases (p (OfThread m.thread)) (some_key (keys_of m.act) (λ k. p (OfKey k))) h)
 
-  abbrev shared : Link → List Mark → Mark → Bool
+  abbrev pub shared : Link → List Mark → Mark → Bool
   shared (OfThread t) past m = true
   shared (OfKey k) past m = shared_act k past m.act
 
-  shared_true : (l : Link) (past : List Mark) (m : Mark) → shared l past m ≡ true → SharedRules i l past m
+  pub shared_true : (l : Link) (past : List Mark) (m : Mark) → shared l past m ≡ true → SharedRules i l past m
   shared_true (OfThread t) past m h = tt
   shared_true (OfKey k) past m h = shared_act_true k past m.act h
 

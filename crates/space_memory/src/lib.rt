@@ -16,5 +16,3 @@ pub use error::HoldError;
 pub use sides::Sides;
 pub use spaces::Spaces;
 
-#[cfg(test)]
-mod tests;

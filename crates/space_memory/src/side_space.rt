@@ -13,7 +13,7 @@ use std::alloc::{AllocError, Global};
 use std::marker::Model;
 
 /// The stacks of all threads on one side, and its pool.
-#[derive(Debug, Drop)]
+#[derive(Drop)]
 pub struct SideSpace {
     stacks: Vec<Stack>,
     pool: Pool,

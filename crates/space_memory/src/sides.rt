@@ -13,7 +13,7 @@ use places::{REPLAY_POOL, REPLAY_STACKS, Range, SYSTEM_POOL, SYSTEM_STACKS};
 use std::alloc::{AllocError, Global};
 
 /// Memory above the cut and below it. Contracts see each side as its stacks by thread and its pool.
-#[derive(Debug, Drop)]
+#[derive(Drop)]
 pub struct Sides {
     pub replay: SideSpace,
     pub system: SideSpace,

@@ -38,7 +38,7 @@ use std::marker::Model;
 
 /// The memory above the cut and below it: which bytes live and with which value, the frames and blocks of each side, and
 /// the regions that open calls hold or that are prepared under a key.
-#[derive(Debug, Drop)]
+#[derive(Drop)]
 pub struct Spaces {
     bytes: LiveBytes,
     held: Regions,

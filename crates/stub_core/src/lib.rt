@@ -3,8 +3,6 @@
 
 mod sizes;
 mod terms;
-#[cfg(test)]
-mod tests;
 
 pub use sizes::size;
 pub use terms::{Size, Term};

@@ -1,7 +1,7 @@
 //! How the size of a region is written.
 
 /// A factor of a size.
-#[derive(Clone, Copy, Debug, PartialEq, Eq)]
+#[derive(Clone, Copy)]
 pub enum Term {
     /// A number.
     Const(u64),
@@ -12,7 +12,7 @@ pub enum Term {
 }
 
 /// A size in bytes: one term, or the product of two.
-#[derive(Clone, Copy, Debug, PartialEq, Eq)]
+#[derive(Clone, Copy)]
 pub struct Size {
     pub a: Term,
     pub b: Option<Term>,

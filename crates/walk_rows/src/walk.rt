@@ -11,7 +11,7 @@ use std::alloc::{AllocError, Global};
 use std::process::Abort;
 
 /// What `order` leaves by the plain definitions: its status, its line, and the end of what it prints.
-#[derive(Debug, Drop)]
+#[derive(Drop)]
 struct Outcome {
     status: Status,
     line: String,

@@ -18,3 +18,9 @@ returns-clause-agrees c =
 
 pub returns-clause-kept : goal.returns-clause-kept
 returns-clause-kept c = through c.args.table.now c.to_kind.new.table c.add.new.self c.to_kind.ensures.kept c.add.ensures.kept
+
+pub returns-in_err-value-clause-kept : goal.returns-in_err-value-clause-kept
+returns-in_err-value-clause-kept c = c.to_kind.ensures.kept
+
+pub returns-in_err-add-clause-kept : goal.returns-in_err-add-clause-kept
+returns-in_err-add-clause-kept c = through c.args.table.now c.to_kind.new.table c.add.new.self c.to_kind.ensures.kept c.add.ensures.kept
