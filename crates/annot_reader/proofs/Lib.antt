@@ -1,6 +1,4 @@
-mod Listed
-mod Headed
-mod Noting
-mod Meant
-mod Finding
-mod Saying
+mod FunctionTypes
+mod Headings
+mod Typed
+mod Staying

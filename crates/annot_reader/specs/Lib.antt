@@ -1,6 +1,3 @@
-pub mod Interface
 pub mod Errors
-pub mod Headings
-pub mod Builtins
-pub mod Reading
-pub mod Interfaces
+pub mod Seen
+pub mod Sources

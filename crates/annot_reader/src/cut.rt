@@ -1,57 +1,43 @@
-//! The interface of a cut, by the annotations of a source.
+//! The interface of a cut of a source whose types were checked.
 
-ghost use Rattle.std.specs.Prelude.{◌≡◌, List, ℕ, OnOk};
-ghost use Rattle.std.specs.List.{list_any};
+ghost use Rattle.std.specs.Prelude.{IfOk};
 ghost use Rattle.c_syntax.specs.Syntax.{Decls};
-ghost use Rattle.c_typing.specs.Checked.{Fine};
-ghost use Rattle.c_typing.specs.Sources.{Program};
-ghost use Rattle.cut_meaning.specs.Cuts.{annotations};
-ghost use Rattle.cut_meaning.specs.Notes.{Annotated};
-ghost use Rattle.annot_functions.specs.declared.notes.FunctionNotes.{FunctionNotes as Noted};
-ghost use Rattle.annot_marks.specs.Rules.{Stays};
-ghost use Rattle.annot_reader.specs.Headings.{IsSource, IsTyped};
-ghost use Rattle.annot_reader.specs.Interfaces.{IsInterface};
-ghost use Rattle.annot_reader.specs.Reading.{AreRead};
+ghost use Rattle.c_types_rules.specs.Sources.{Program};
+ghost use Rattle.annot_reader_rules.specs.Cuts.{annotations};
+ghost use Rattle.c_types_expressions.specs.Found.{Stays};
+ghost use Rattle.annot_reader_cut.specs.Interfaces.{IsInterface};
+ghost use Rattle.annot_reader.specs.Sources.{IsSource, IsTypedSource, interface_in};
 
-use crate::declarations::read;
-use crate::error::InterfaceError;
-use crate::iface::Iface;
-use crate::reading::Reading;
-use crate::source::Source;
-use annot_functions::FunctionNotes;
-use annot_marks::TypeRules;
+use crate::functions::headings_of;
+use crate::types::SourceTypes;
+use annot_reader_cut::{Iface, InterfaceError, Source, interface};
+use c_syntax::Tree;
+use c_types_environment::Environment;
+use c_types_program::Function;
 use std::alloc::Global;
 
-// Whether a function is in the interface of the cut.
-fn any_in_cut(functions: &[FunctionNotes]) -> bool
-    ensures { result ≡ list_any (λ (v : Noted). v.in_cut) functions.now }
-{
-    functions.iter().any(|notes| notes.in_cut)
-}
-
-// The interface of the cut, where this was read.
-fn interface_by(alloc: Global, reading: Reading) -> Result<Iface, InterfaceError>
-    ensures { (cut : List ℕ) (a : Annotated) → AreRead cut a reading → IsInterface cut (Fine a) result }
-{
-    if !any_in_cut(&reading.functions) {
-        return Err(InterfaceError::NoSuchCut);
-    }
-    Ok(Iface::new(alloc, reading.functions, reading.guards)?)
-}
-
-/// What the annotations of a source say, and which functions are in the interface of a cut.
+/// The interface of a cut of a source, and what is declared at its end, where all numbers stand for what they did.
 ///
-/// `Rule` names the first rule of annotations that the source breaks, with the offset of the node that breaks it; `NoSuchCut` where it
-/// breaks none and no declaration names the cut. After an error nothing is known of what is declared.
-pub fn interface<T: TypeRules>(
+/// `functions` has the functions of the source by number, less that of the first. `Rule` names the first rule of annotations that the
+/// source breaks, with the offset of the node that breaks it; `NoSuchCut` where it breaks none and no declaration names the cut.
+pub fn interface_of(
     alloc: Global,
-    rules: &mut T,
-    source: &Source,
-) -> Result<Iface, InterfaceError>
-    requires { IsSource source.now.tree.now (T.declared rules.old) source.now.functions.now }
-    ensures interface { (ds : Decls) (p : Program) → IsTyped source.now.tree.now (T.declared rules.old) source.now.functions.now ds p → IsInterface source.now.cut.now (annotations ds p) result }
-    ensures kept { OnOk result (Stays (T.declared rules.old) (T.declared rules.new)) }
+    env: Environment,
+    functions: &[Function],
+    tree: &Tree,
+    cut: &[u8],
+) -> Result<(Environment, Iface), InterfaceError>
+    requires { IsSource tree.now env functions.now }
+    ensures interface { (ds : Decls) (p : Program) → IsTypedSource tree.now env functions.now ds p → IsInterface cut.now (annotations ds p) (interface_in result) }
+    ensures kept { IfOk result (λ found. Stays env found.0) }
 {
-    let reading = read(alloc, rules, source, source.tree.top())?;
-    interface_by(alloc, reading)
+    let headings = headings_of(alloc, &env, functions)?;
+    let source = Source {
+        tree,
+        functions: headings.as_slice(),
+        cut,
+    };
+    let mut types = SourceTypes { env };
+    let iface = interface(alloc, &mut types, &source)?;
+    Ok((types.env, iface))
 }

@@ -1,18 +1,12 @@
-//! What the annotations of a source say, and which functions are in the interface of a cut.
+//! The interface of a cut of a source whose types were checked.
 #![tactic(auto)]
 
-mod builtins;
 mod cut;
-mod declarations;
 mod error;
-mod growing;
-mod iface;
-mod laws;
-mod reading;
-mod source;
+mod functions;
+mod rules;
+mod types;
 
-pub use cut::interface;
-pub use error::InterfaceError;
-pub use iface::Iface;
-pub use laws::interfaces_say_what_annotations_say;
-pub use source::{Heading, Source};
+pub use cut::interface_of;
+pub use rules::{declare, function_named, size_of_name, sort_of};
+pub use types::SourceTypes;

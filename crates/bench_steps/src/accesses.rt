@@ -2,9 +2,9 @@
 
 ghost use Rattle.std.specs.Prelude.{◌≡◌, ◌+◌, ◌≤◌, ◌<◌, ◌^◌, length};
 
-use access_checks::Refusal;
 use marks::Side;
 use space_memory::Spaces;
+use space_memory_access::Refusal;
 
 /// How many loads there are, and as many stores.
 const ROUNDS: u64 = 5_000_000;

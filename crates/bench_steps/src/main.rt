@@ -10,7 +10,7 @@ mod thread;
 use accesses::{SIZE, over_bytes, over_spaces};
 use anyhow::Context;
 use marks::Side;
-use places::{Flags, Placed, Places};
+use memory_map::{Flags, Placed, Places};
 use space_memory::Spaces;
 use std::alloc::Global;
 use std::env;

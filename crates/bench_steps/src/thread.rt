@@ -9,7 +9,7 @@ use c_builtins::FIRST_SOURCE_FUNCTION;
 use c_code::{Code, Placed, Side};
 use c_machine::{Answer, Thread, Want, is_call_of};
 use front_end::check_source;
-use places::{Bytes8, Flags, Place, Places};
+use memory_map::{Bytes8, Flags, Place, Places};
 use std::alloc::{AllocError, Global};
 
 /// The loop: in each round a Turn, seven loads and three stores, all of 8 bytes.

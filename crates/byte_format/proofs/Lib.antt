@@ -3,4 +3,4 @@ pub mod Codes
 pub mod Loops
 pub mod Varint
 pub mod Spelled
-pub mod Fronts
+pub mod Prefixes

@@ -48,7 +48,7 @@ done_is x y e = cc
 
 -- ---- the law of a reader
 
--- what the bytes are a proper front of
+-- what the bytes are a proper prefix of
 pub record Goes {X : Type 0} (text : X → List ℕ) (Fits : X → Type 0) (s : List ℕ) : Type 0 where
   pub value : X
   pub next : ℕ
@@ -58,13 +58,13 @@ pub record Goes {X : Type 0} (text : X → List ℕ) (Fits : X → Type 0) (s : 
 
 -- the first wrong byte: before it the reading is short, and with it it is wrong there whatever follows
 pub record IsWrongAt {X : Type 0} (read : List ℕ → Reading X) (s : List ℕ) (n : ℕ) : Type 0 where
-  pub front : List ℕ
+  pub prefix : List ℕ
   pub byte : ℕ
   pub after : List ℕ
-  pub parts : s ≡ front ++ byte ∷ after
+  pub parts : s ≡ prefix ++ byte ∷ after
   pub left : n ≡ suc (length after)
-  pub before : read front ≡ Short
-  pub stays : (t : List ℕ) → read (front ++ byte ∷ t) ≡ Wrong (suc (length t))
+  pub before : read prefix ≡ Short
+  pub stays : (t : List ℕ) → read (prefix ++ byte ∷ t) ≡ Wrong (suc (length t))
 
 pub record Reads {X : Type 0} (read : List ℕ → Reading X) (text : X → List ℕ) (Fits : X → Type 0) : Type 0 where
   pub takes : (s : List ℕ) (x : X × List ℕ) → IsBytes s → read s ≡ Done x → (s ≡ text x.0 ++ x.1) × Fits x.0
@@ -141,7 +141,7 @@ module _ {A X : Type 0} (r1 : List ℕ → Reading A) (t1 : A → List ℕ) (F1 
         | inl e1 ↦
             let w = reads1.wrong s n bytes e1 in
             record {
-              front = w.front;
+              prefix = w.prefix;
               byte = w.byte;
               after = w.after;
               parts = w.parts;
@@ -155,13 +155,13 @@ module _ {A X : Type 0} (r1 : List ℕ → Reading A) (t1 : A → List ℕ) (F1 
             let rest : IsBytes p.1 = bytes-right (t1 p.0) p.1 (subst IsBytes h1.0 bytes) in
             let w = (reads2 p.0 h1.1).wrong p.1 n rest b.2 in
             record {
-              front = t1 p.0 ++ w.front;
+              prefix = t1 p.0 ++ w.prefix;
               byte = w.byte;
               after = w.after;
-              parts = h1.0 ∙ ap (λ (z : List ℕ). t1 p.0 ++ z) w.parts ∙ sym (append_assoc (t1 p.0) w.front (w.byte ∷ w.after));
+              parts = h1.0 ∙ ap (λ (z : List ℕ). t1 p.0 ++ z) w.parts ∙ sym (append_assoc (t1 p.0) w.prefix (w.byte ∷ w.after));
               left = w.left;
-              before = ap (λ (r : Reading A). r >>= λ q. r2 q.0 q.1) (reads1.again p.0 w.front h1.1) ∙ w.before;
-              stays = λ t. ap both (append_assoc (t1 p.0) w.front (w.byte ∷ t)) ∙ ap (λ (r : Reading A). r >>= λ q. r2 q.0 q.1) (reads1.again p.0 (w.front ++ w.byte ∷ t) h1.1) ∙ w.stays t;
+              before = ap (λ (r : Reading A). r >>= λ q. r2 q.0 q.1) (reads1.again p.0 w.prefix h1.1) ∙ w.before;
+              stays = λ t. ap both (append_assoc (t1 p.0) w.prefix (w.byte ∷ t)) ∙ ap (λ (r : Reading A). r >>= λ q. r2 q.0 q.1) (reads1.again p.0 (w.prefix ++ w.byte ∷ t) h1.1) ∙ w.stays t;
             }
       ]
 
@@ -268,9 +268,9 @@ module _ (w : Width) (limit : ℕ) (wide : IsWide w limit) where
   number_takes s x bytes e =
       let g = guard_done (ltb (length s) (byte_len w)) (from_be_bytes w (take (byte_len w) s), drop (byte_len w) s) x e in
       let long : byte_len w ≤ length s = ltb-false _ _ g.0 in
-      let front = wide.back (take (byte_len w) s) (omega (arith, length-take (byte_len w) s)) (bytes-take (byte_len w) s bytes) in
+      let prefix = wide.back (take (byte_len w) s) (omega (arith, length-take (byte_len w) s)) (bytes-take (byte_len w) s bytes) in
       subst (λ (y : ℕ × List ℕ). (s ≡ to_be_bytes w y.0 ++ y.1) × (y.0 < limit)) g.1
-      (sym (take-append-drop (byte_len w) s) ∙ ap (λ (z : List ℕ). z ++ drop (byte_len w) s) (sym front), wide.below (take (byte_len w) s) (bytes-take (byte_len w) s bytes))
+      (sym (take-append-drop (byte_len w) s) ∙ ap (λ (z : List ℕ). z ++ drop (byte_len w) s) (sym prefix), wide.below (take (byte_len w) s) (bytes-take (byte_len w) s bytes))
 
   number_again : (n : ℕ) (rest : List ℕ) → n < limit → number_at w (to_be_bytes w n ++ rest) ≡ Done (n, rest)
   number_again n rest lt =
@@ -348,7 +348,7 @@ module _ {A : Type 0} (from : ℕ → Option A) (code : A → ℕ) (law : (b : �
   code_wrong [] n e = absurd cc
   code_wrong (b ∷ s) n e =
       let d = coded_wrong (from b) s n e in
-      record { front = []; byte = b; after = s; parts = refl; left = d.1; before = refl; stays = λ t. rw d.0 refl }
+      record { prefix = []; byte = b; after = s; parts = refl; left = d.1; before = refl; stays = λ t. rw d.0 refl }
 
   pub reads_code : Reads (coded_at from) (λ a. code a ∷ []) (λ a. from (code a) ≡ Some a)
   reads_code = record {
@@ -359,7 +359,7 @@ module _ {A : Type 0} (from : ℕ → Option A) (code : A → ℕ) (law : (b : �
     some = (one, one_fits);
   }
 
--- ---- a reader behind another, with what is behind found from the parts
+-- ---- a reader after another, with what is after found from the parts
 
 pub then : {A X : Type 0} {r1 : List ℕ → Reading A} {t1 : A → List ℕ} {F1 : A → Type 0} {r2 : A → List ℕ → Reading X} {t2 : A → X → List ℕ} {F2 : A → X → Type 0} (first : X → A)
     → Reads r1 t1 F1 → ((a : A) → F1 a → Reads (r2 a) (t2 a) (F2 a)) → ((a : A) (x : X) → F1 a → F2 a x → first x ≡ a)

@@ -6,7 +6,7 @@ use Rattle.std.proofs.lemmas.Nat.{pow-add}
 use Rattle.std.proofs.Math.Pow.{pow_mono}
 use Rattle.byte_format.specs.Reading.{coded_at}
 use Rattle.byte_format.specs.Spelling.{varint_text}
-use Rattle.byte_format.specs.Varint.{group_from, behind, varint_at, IsNumber}
+use Rattle.byte_format.specs.Varint.{group_from, after, varint_at, IsNumber}
 use Rattle.byte_format.proofs.Readers.{Reads, then, reads_done, reads_as, reads_code}
 
 -- ---- a group
@@ -58,16 +58,16 @@ reads_group bits only some = reads_code (group_from bits only) (λ b. b) (group_
 pub byte_of : ℕ → ℕ
 byte_of n = cond (ltb n 128) n (n % 128 + 128)
 
-abbrev pub behind_text : Bool → ℕ → ℕ → List ℕ
-behind_text true groups n = []
-behind_text false groups n = varint_text groups (n / 128) ++ []
+abbrev pub after_text : Bool → ℕ → ℕ → List ℕ
+after_text true groups n = []
+after_text false groups n = varint_text groups (n / 128) ++ []
 
-abbrev pub IsBehind : Bool → ℕ → ℕ → ℕ → Type 0
-IsBehind true bits b n = n ≡ b
-IsBehind false bits b n = IsNumber (bits - 7) false (n / 128) × (n ≡ b - 128 + 128 * (n / 128))
+abbrev pub IsAfter : Bool → ℕ → ℕ → ℕ → Type 0
+IsAfter true bits b n = n ≡ b
+IsAfter false bits b n = IsNumber (bits - 7) false (n / 128) × (n ≡ b - 128 + 128 * (n / 128))
 
 abbrev pub IsWhole : ℕ → Bool → ℕ → Type 0
-IsWhole bits only n = (group_from bits only (byte_of n) ≡ Some (byte_of n)) × IsBehind (ltb (byte_of n) 128) bits (byte_of n) n
+IsWhole bits only n = (group_from bits only (byte_of n) ≡ Some (byte_of n)) × IsAfter (ltb (byte_of n) 128) bits (byte_of n) n
 
 up7 : (bits : ℕ) → 7 < bits → 2 ^ bits ≡ 128 * 2 ^ (bits - 7)
 up7 bits more = let k : bits ≡ 7 + (bits - 7) = omega arith in ap (λ n. 2 ^ n) k ∙ pow-add 2 7 (bits - 7)
@@ -80,7 +80,7 @@ high_byte : (n : ℕ) → 128 ≤ n → byte_of n ≡ n % 128 + 128
 unfolding byte_of
 high_byte n le = rw (le-ltb n 128 le) refl
 
-whole_text : (groups bits : ℕ) (only : Bool) (n : ℕ) → byte_of n ∷ behind_text (ltb (byte_of n) 128) groups n ≡ varint_text (suc groups) n
+whole_text : (groups bits : ℕ) (only : Bool) (n : ℕ) → byte_of n ∷ after_text (ltb (byte_of n) 128) groups n ≡ varint_text (suc groups) n
 unfolding varint_text
 whole_text groups bits only n =
     elim (cases_lt n 128) [
@@ -96,7 +96,7 @@ whole_is bits only n f =
           let high : ltb (n % 128 + 128) 128 ≡ false = le-ltb (n % 128 + 128) 128 (omega arith) in
           let group : group_from bits only (n % 128 + 128) ≡ Some (n % 128 + 128) = rw (high_byte n le) at f.0 in
           let inner = inner_is bits only (n % 128 + 128) (omega arith) group in
-          let rest : IsBehind false bits (n % 128 + 128) n = rw (high_byte n le, high) at f.1 in
+          let rest : IsAfter false bits (n % 128 + 128) n = rw (high_byte n le, high) at f.1 in
           let up = up7 bits inner.0 in
           (omega (arith, up, rest.0.0), λ _. omega arith)
     ]
@@ -105,14 +105,14 @@ is_whole : (bits : ℕ) (only : Bool) (n : ℕ) → IsNumber bits only n → IsW
 is_whole bits only n f =
     elim (cases_lt n 128) [
       | inl lt ↦
-          let behind : IsBehind (ltb n 128) bits n n = rw (lt-ltb n 128 lt) refl in
-          rw (low_byte n lt) (is_last bits only n lt f, behind)
+          let after : IsAfter (ltb n 128) bits n n = rw (lt-ltb n 128 lt) refl in
+          rw (low_byte n lt) (is_last bits only n lt f, after)
       | inr le ↦
           let high : ltb (n % 128 + 128) 128 ≡ false = le-ltb (n % 128 + 128) 128 (omega arith) in
           let more = long bits n le f.0 in
           let up = up7 bits more in
-          let behind : IsBehind (ltb (n % 128 + 128) 128) bits (n % 128 + 128) n = rw high ((omega (arith, up, f.0), λ _. omega arith), omega arith) in
-          rw (high_byte n le) (is_inner bits only (n % 128 + 128) (omega arith) more (omega arith), behind)
+          let after : IsAfter (ltb (n % 128 + 128) 128) bits (n % 128 + 128) n = rw high ((omega (arith, up, f.0), λ _. omega arith), omega arith) in
+          rw (high_byte n le) (is_inner bits only (n % 128 + 128) (omega arith) more (omega arith), after)
     ]
   where
     long : (bits n : ℕ) → 128 ≤ n → n < 2 ^ bits → 7 < bits
@@ -121,22 +121,22 @@ is_whole bits only n f =
       | inr few ↦ let up : 2 ^ bits ≤ 2 ^ 7 = pow_mono few in absurd (omega (arith, up))
     ]
 
-behind_same : (bits : ℕ) (only : Bool) (b n : ℕ) → group_from bits only b ≡ Some b → IsBehind (ltb b 128) bits b n → byte_of n ≡ b
-behind_same bits only b n group f =
+after_same : (bits : ℕ) (only : Bool) (b n : ℕ) → group_from bits only b ≡ Some b → IsAfter (ltb b 128) bits b n → byte_of n ≡ b
+after_same bits only b n group f =
     elim (cases_lt b 128) [
       | inl lt ↦ let same : n ≡ b = rw (lt-ltb b 128 lt) at f in low_byte n (omega arith) ∙ same
       | inr le ↦
           let inner = inner_is bits only b le group in
-          let rest : IsBehind false bits b n = rw (le-ltb b 128 le) at f in
+          let rest : IsAfter false bits b n = rw (le-ltb b 128 le) at f in
           let some : 0 < n / 128 = rest.0.1 refl in
           high_byte n (omega arith) ∙ omega (arith, rest.1)
     ]
 
-reads_behind : (groups bits : ℕ) (only : Bool) (b : ℕ) (t : Bool) → ltb b 128 ≡ t → group_from bits only b ≡ Some b → (7 < bits → Reads (varint_at groups (bits - 7) false) (varint_text groups) (IsNumber (bits - 7) false))
-    → Reads (behind t b (varint_at groups (bits - 7) false)) (behind_text t groups) (IsBehind t bits b)
-unfolding behind
-reads_behind groups bits only b true is group more = reads_done b
-reads_behind groups bits only b false is group more =
+reads_after : (groups bits : ℕ) (only : Bool) (b : ℕ) (t : Bool) → ltb b 128 ≡ t → group_from bits only b ≡ Some b → (7 < bits → Reads (varint_at groups (bits - 7) false) (varint_text groups) (IsNumber (bits - 7) false))
+    → Reads (after t b (varint_at groups (bits - 7) false)) (after_text t groups) (IsAfter t bits b)
+unfolding after
+reads_after groups bits only b true is group more = reads_done b
+reads_after groups bits only b false is group more =
     let inner = inner_is bits only b (ltb-false b 128 is) group in
     then (λ n. n / 128) (more inner.0) (λ high _. reads_done (b - 128 + 128 * high)) (λ high n _ e. omega (arith, e))
 
@@ -144,5 +144,5 @@ pub reads_varint : (groups bits : ℕ) (only : Bool) → bits ≤ 7 * groups →
 unfolding varint_at
 reads_varint zero bits only le some = absurd (omega arith)
 reads_varint (suc groups) bits only le some = reads_as (varint_at (suc groups) bits only) _ (varint_text (suc groups)) _ (IsNumber bits only)
-    (then byte_of (reads_group bits only some) (λ b group. reads_behind groups bits only b (ltb b 128) refl group (λ more. reads_varint groups (bits - 7) false (omega arith) (omega arith))) (λ b n group f. behind_same bits only b n group f))
+    (then byte_of (reads_group bits only some) (λ b group. reads_after groups bits only b (ltb b 128) refl group (λ more. reads_varint groups (bits - 7) false (omega arith) (omega arith))) (λ b n group f. after_same bits only b n group f))
     (λ n f. whole_text groups bits only n) (whole_is bits only) (is_whole bits only)

@@ -4,7 +4,7 @@ use Rattle.std.specs.Int.{Width, byte_len, from_be_bytes}
 use Rattle.byte_format.specs.declared.stop.Stop.{Stop}
 use Rattle.byte_format.specs.declared.stop.Stop.TheVariants as stop
 
--- a value and the bytes behind it; or the bytes end in the middle of a value; or how many bytes are left from the first wrong one on
+-- a value and the bytes after it; or the bytes end in the middle of a value; or how many bytes are left from the first wrong one on
 pub data Reading (A : Type 0) : Type 0 where
   Done : A × List ℕ → Reading A
   Short : Reading A
@@ -36,13 +36,13 @@ StopsAfter old new stop.Memory reading read = Unit {0}
 StopsAfter old new stop.Short reading read = (reading ≡ Short) × (new ≡ old ++ read)
 StopsAfter old new (stop.Wrong n) reading read = reading ≡ Wrong n
 
-abbrev pub with_front : {A : Type 0} → List A → Reading (List A) → Reading (List A)
-with_front front (Done x) = Done (front ++ x.0, x.1)
-with_front front Short = Short
-with_front front (Wrong n) = Wrong n
+abbrev pub with_prefix : {A : Type 0} → List A → Reading (List A) → Reading (List A)
+with_prefix prefix (Done x) = Done (prefix ++ x.0, x.1)
+with_prefix prefix Short = Short
+with_prefix prefix (Wrong n) = Wrong n
 
 abbrev pub Adds : {A X : Type 0} → (X → List ℕ) → List A → List A → Result X Stop → Reading (List A) → List A → Type 0
-Adds view old new (Ok rest) reading read = with_front old reading ≡ Done (new, view rest)
+Adds view old new (Ok rest) reading read = with_prefix old reading ≡ Done (new, view rest)
 Adds view old new (Err e) reading read = StopsAfter old new e reading read
 
 -- ---- numbers and bytes
@@ -83,7 +83,7 @@ literal_at (b ∷ bs) bytes = do
   first ← coded_at (only b) bytes
   literal_at bs first.1
 
--- the low byte behind a high one, of a number that is not 0
+-- the low byte after a high one, of a number that is not 0
 abbrev pub low_from : ℕ → ℕ → Option ℕ
 low_from high b = if (high == 0) && (b == 0) then None else at_most 255 b
 

@@ -1,4 +1,4 @@
-//! Bytes that stand for something, read from the front.
+//! Bytes that stand for something, read from the prefix.
 
 ghost use Rattle.std.specs.Prelude.{◌≡◌};
 ghost use Rattle.byte_format.specs.Reading.{Gives, chars_at, coded_at, at_most, only, flag_from, literal_at};
@@ -43,7 +43,7 @@ pub fn chars_at(bytes: &[u8], count: usize) -> Result<(&[u8], &[u8]), Stop>
     Ok(bytes.split_at(count))
 }
 
-/// The bytes behind this very byte.
+/// The bytes after this very byte.
 pub fn byte_at(expected: u8, bytes: &[u8]) -> Result<&[u8], Stop>
     ensures { Gives (λ x. (expected, x.now)) result (coded_at (only expected) bytes.now) }
 {
@@ -59,7 +59,7 @@ pub fn byte_at(expected: u8, bytes: &[u8]) -> Result<&[u8], Stop>
     }
 }
 
-/// The bytes behind these very bytes.
+/// The bytes after these very bytes.
 pub fn literal_at<'a>(expected: &[u8], bytes: &'a [u8]) -> Result<&'a [u8], Stop>
     ensures { Gives (λ x. (tt, x.now)) result (literal_at expected.now bytes.now) }
 {

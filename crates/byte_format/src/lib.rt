@@ -1,4 +1,4 @@
-//! Formats of bytes: readers from a slice to a value and the bytes behind it, and their laws.
+//! Formats of bytes: readers from a slice to a value and the bytes after it, and their laws.
 #![tactic(auto)]
 
 mod bytes;

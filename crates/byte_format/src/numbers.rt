@@ -14,8 +14,8 @@ pub fn u16_at(bytes: &[u8]) -> Result<(u16, &[u8]), Stop>
     if bytes.len() < 2 {
         return Err(Stop::Short);
     }
-    let (front, rest) = bytes.split_at(2);
-    Ok((u16::from_be_bytes([front[0], front[1]]), rest))
+    let (prefix, rest) = bytes.split_at(2);
+    Ok((u16::from_be_bytes([prefix[0], prefix[1]]), rest))
 }
 
 /// A number of four bytes.
@@ -25,8 +25,8 @@ pub fn u32_at(bytes: &[u8]) -> Result<(u32, &[u8]), Stop>
     if bytes.len() < 4 {
         return Err(Stop::Short);
     }
-    let (front, rest) = bytes.split_at(4);
-    let number = u32::from_be_bytes([front[0], front[1], front[2], front[3]]);
+    let (prefix, rest) = bytes.split_at(4);
+    let number = u32::from_be_bytes([prefix[0], prefix[1], prefix[2], prefix[3]]);
     Ok((number, rest))
 }
 
@@ -37,14 +37,14 @@ pub fn u64_at(bytes: &[u8]) -> Result<(u64, &[u8]), Stop>
     if bytes.len() < 8 {
         return Err(Stop::Short);
     }
-    let (front, rest) = bytes.split_at(8);
+    let (prefix, rest) = bytes.split_at(8);
     let number = u64::from_be_bytes([
-        front[0], front[1], front[2], front[3], front[4], front[5], front[6], front[7],
+        prefix[0], prefix[1], prefix[2], prefix[3], prefix[4], prefix[5], prefix[6], prefix[7],
     ]);
     Ok((number, rest))
 }
 
-/// The low byte behind a high one, of a number that is not 0.
+/// The low byte after a high one, of a number that is not 0.
 fn low_at(high: u8, bytes: &[u8]) -> Result<(u8, &[u8]), Stop>
     ensures { Gives (λ x. (x.0, x.1.now)) result (coded_at (low_from high) bytes.now) }
 {

@@ -1,7 +1,7 @@
 -- The table of builtins: numbers, names, prototypes, and which are in the interface of every cut.
 use Rattle.std.specs.Prelude.{◌≡◌, ℕ, Bool, true, false, List, [], ◌∷◌, ◌++◌, codes}
 use Rattle.r2_num.specs.declared.kinds.IntKind.TheVariants.{I8, I32, U64}
-use Rattle.c_type_model.specs.Types.{CType, CTypes, Void, Integer, PointerTo, FunctionOf, NoTypes, MoreTypes}
+use Rattle.c_types_model.specs.Types.{CType, CTypes, Void, Integer, PointerTo, FunctionOf, NoTypes, MoreTypes}
 use Rattle.c_builtins.specs.declared.builtin.Builtin.{Builtin}
 use Rattle.c_builtins.specs.declared.builtin.Builtin.TheVariants as builtins
 use Rattle.c_builtins.specs.declared.builtin.BuiltinType.{BuiltinType}

@@ -18,7 +18,7 @@ use Rattle.c_code.specs.Valid.{Leads, IsSteady, IsValid}
 use Rattle.c_code.specs.Fits.{with_address}
 use Rattle.c_code.specs.Laws.{AboveForgets, IsSeenAbove, MarksAnswerAbove, IsWanted, ReturnsValues, seen_above}
 use Rattle.c_code.proofs.Settles.{IsLoud, falls, stays, settled_is_loud}
-use Rattle.c_code.proofs.Fronts.{fronts, each_mark_is_wanted, right_on, state_settled}
+use Rattle.c_code.proofs.Prefixes.{prefixes, each_mark_is_wanted, right_on, state_settled}
 use Rattle.c_code.proofs.Sides as sides
 use Rattle.c_code.proofs.Sides.{Back as IsBack, IsPlain, IsUp}
 use Rattle.c_code.proofs.Stacks as matches
@@ -512,7 +512,7 @@ module _ (l : Laid) (height : ℕ → ℕ) (steady : IsSteady l.code height) whe
     forgets [] right = settled_both (Starting f args) (Done 0) (matches.starts f args 0)
     forgets (m ∷ past) right =
         let turned : lists Split (reverse past ++ (m ∷ [])) l (Starting f args) ≢ Wrong = subst (λ ms. lists Split ms l (Starting f args) ≢ Wrong) (reverse-append (m ∷ []) past) right in
-        let before = fronts Split l (reverse past) (m ∷ []) (Starting f args) turned in
+        let before = prefixes Split l (reverse past) (m ∷ []) (Starting f args) turned in
         let w = each_mark_is_wanted Split l (Starting f args) past m [] turned in
         let h = forgets past before in
         by (same_side m.side Replay) (moves l height (now past) (there (replay_part past)) (step Split l (now past)) (step Above l (there (replay_part past))) h (link past before h) m (answered (step Split l (now past)) m w))
@@ -532,7 +532,7 @@ module _ (l : Laid) (height : ℕ → ℕ) (steady : IsSteady l.code height) whe
 
     pub answered_above : MarksAnswerAbove l f args
     answered_above past m more right z =
-        let before = fronts Split l (reverse past) (m ∷ more) (Starting f args) right in
+        let before = prefixes Split l (reverse past) (m ∷ more) (Starting f args) right in
         let w = each_mark_is_wanted Split l (Starting f args) past m more right in
         answers_above l height (there (replay_part past)) (step Split l (now past)) (step Above l (there (replay_part past))) (link past before (forgets past before)) m (answered (step Split l (now past)) m w) z
 

@@ -51,7 +51,7 @@ computes = refl
 first : FuncInfo
 first = record { name = []; params = []; result = Int I32; sig = 1; frame = 16; entry = Some 0 }
 
--- `short x = 70000; return x;`, where x lies behind 4 bytes: no address waits below the first value, of which two bytes are stored
+-- `short x = 70000; return x;`, where x lies after 4 bytes: no address waits below the first value, of which two bytes are stored
 local : List Instr
 local = instr.Push (Number 70000) ∷ instr.StoreLocal I16 4 ∷ instr.Push (Local 4) ∷ instr.Load I16 None ∷ instr.Finish ∷ []
 

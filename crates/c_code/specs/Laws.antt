@@ -20,8 +20,8 @@ pub record IsWanted (next : Next) (m : Mark) : Type 0 where
   pub answers : reply side want m ≡ Some answer
 
 -- a right list stays right when it is cut short
-abbrev pub FrontsAreLists : Reading → Laid → Config → Type 0
-FrontsAreLists r l c = (ms more : List Mark) → lists r (ms ++ more) l c ≢ Wrong → lists r ms l c ≢ Wrong
+abbrev pub PrefixesAreLists : Reading → Laid → Config → Type 0
+PrefixesAreLists r l c = (ms more : List Mark) → lists r (ms ++ more) l c ≢ Wrong → lists r ms l c ≢ Wrong
 
 -- each mark of a right list answers what is wanted after those before it: what is wanted is a function of the marks so far
 abbrev pub EachMarkIsWanted : Reading → Laid → Config → Type 0

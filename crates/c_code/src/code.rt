@@ -3,7 +3,7 @@
 use crate::instr::Instr;
 use crate::lists::Shapes;
 use crate::shape::Shape;
-use places::Bytes8;
+use memory_map::Bytes8;
 use std::marker::Model;
 
 // Functions with numbers below it are builtins.
@@ -23,8 +23,9 @@ pub struct FuncInfo {
     pub entry: Option<u32>,
 }
 
-/// The code of a program. Each jump lands on an instruction, a backward one on a Turn. It is known at each place how many
-/// values wait, at most 64. A frame holds the parameters, and a call has one value per parameter.
+/// The code of a program. Each jump lands on an instruction, a backward one on a Turn. It is known at each
+/// place the depth of the evaluation
+/// stack, at most 64. A frame holds the parameters, and a call has one value per parameter.
 #[derive(Drop)]
 pub struct Code {
     builtins: Vec<FuncInfo>,

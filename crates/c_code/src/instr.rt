@@ -7,7 +7,7 @@ use r2_num::{IntKind, Op};
 pub enum Push {
     /// A number.
     Number(u64),
-    /// The address of the byte so far behind the first byte of the frame.
+    /// The address of the byte so far after the first byte of the frame.
     Local(u64),
     /// The address of a global, by its order in the source.
     Global(u32),
@@ -28,7 +28,7 @@ pub enum Change {
     Not,
     /// 0 where it is 0, else 1.
     Truth,
-    /// The address so many bytes behind it.
+    /// The address so many bytes after it.
     Offset(u64),
 }
 
@@ -37,7 +37,7 @@ pub enum Change {
 pub enum Combine {
     /// The result of the operator at the kind; faults with `Divide` or `Shift`.
     Arith(Op, IntKind),
-    /// The address so many items of this size behind the left operand, an address.
+    /// The address so many items of this size after the left operand, an address.
     Index(u64),
     /// The same with the operands the other way round.
     IndexOf(u64),
@@ -56,7 +56,7 @@ pub enum Instr {
     LoadKeep(IntKind, Option<u32>),
     /// Stores the topmost value at the address below it, and keeps the value alone.
     Store(IntKind, Option<u32>),
-    /// Stores the topmost value in the frame, so many bytes behind its first byte, and drops it. The access has no origin.
+    /// Stores the topmost value in the frame, so many bytes after its first byte, and drops it. The access has no origin.
     StoreLocal(IntKind, u64),
     /// Adds this number to the topmost value, at the kind, and stores the sum at the address below it. The old value
     /// is kept where the flag is set, else the sum.
@@ -72,7 +72,7 @@ pub enum Instr {
     GoOn(u32),
     /// The start of a round of a loop.
     Turn,
-    /// Goes back to the start of the next round, makes its Turn, and goes on behind it, this many instructions before.
+    /// Goes back to the start of the next round, makes its Turn, and goes on after it, this many instructions before.
     GoBack(u32),
     /// Calls the function with so many arguments, which lie on top.
     Call(u16, u8),

@@ -6,7 +6,7 @@ use Rattle.c_lexer.specs.declared.item.Fault.{Fault}
 use Rattle.c_lexer.specs.declared.item.Item.TheVariants as items
 use Rattle.c_lexer.specs.Items.{item_at}
 use Rattle.c_lexer.specs.Lexing as l
-use Rattle.c_lexer.specs.Lexing.{End, Whole, Stopped, Reads, IsTokens, IsRefused, error_at}
+use Rattle.c_lexer.specs.Lexing.{End, Whole, Stopped, Reads, IsTokens, IsLexError, error_at}
 
 pub one : {fresh : Bool} {at : ℕ} {bs : List ℕ} {ts us : List Token} {d e : End} → Reads fresh at bs ts d → Reads fresh at bs us e → (ts ≡ us) × (d ≡ e)
 one (l.finished p) (l.finished q) = (refl, refl)
@@ -57,5 +57,5 @@ rests_token whole done fresh at n k rest r h = record {
 pub rests_end : (whole : List ℕ) (done : List Token) (fresh : Bool) (at : ℕ) (rest : List ℕ) → Rests whole done fresh at rest → item_at fresh rest ≡ items.Finished → IsTokens whole done
 rests_end whole done fresh at rest r h = rw (append-nil done) at (r.goes_on [] Whole (l.finished h))
 
-pub rests_stop : (whole : List ℕ) (done : List Token) (fresh : Bool) (at n : ℕ) (rest : List ℕ) (f : Fault) → Rests whole done fresh at rest → item_at fresh rest ≡ items.Fault f n → IsRefused whole (error_at f (at + n))
+pub rests_stop : (whole : List ℕ) (done : List Token) (fresh : Bool) (at n : ℕ) (rest : List ℕ) (f : Fault) → Rests whole done fresh at rest → item_at fresh rest ≡ items.Fault f n → IsLexError whole (error_at f (at + n))
 rests_stop whole done fresh at n rest f r h = (done ++ [], r.goes_on [] (Stopped (error_at f (at + n))) (l.stopped h))

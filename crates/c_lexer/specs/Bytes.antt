@@ -31,7 +31,7 @@ digit_of b = if is_digit b then b - 48 else (if nat_le 97 b && nat_le b 102 then
 unfoldable pub is_digit_in : ℕ → ℕ → Bool
 is_digit_in base b = nat_lt (digit_of b) base
 
--- how many bytes at the front pass the test
+-- how many bytes at the prefix pass the test
 abbrev pub run : (ℕ → Bool) → List ℕ → ℕ
 run p [] = 0
 run p (b ∷ bs) = if p b then run p bs + 1 else 0

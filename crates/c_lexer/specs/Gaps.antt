@@ -20,7 +20,7 @@ abbrev pub comment : Option ℕ → Item
 comment None = items.Fault OpenText 0
 comment (Some n) = items.Skip (n + 2) false
 
--- the comment that begins with the `/*` at the front
+-- the comment that begins with the `/*` at the prefix
 unfoldable pub comment_at : List ℕ → Item
 comment_at bs = comment (comment_length (drop 2 bs))
 
@@ -28,7 +28,7 @@ abbrev pub is_empty : List ℕ → Bool
 is_empty [] = true
 is_empty (b ∷ bs) = false
 
--- the bytes after those at the front that pass the test
+-- the bytes after those at the prefix that pass the test
 abbrev pub after : (ℕ → Bool) → List ℕ → List ℕ
 after p bs = drop (run p bs) bs
 
@@ -52,6 +52,6 @@ is_marker line = begins is_blank line && is_marker_number (after is_blank line)
 abbrev pub line_of : List ℕ → List ℕ
 line_of bs = take (run is_line_byte bs) bs
 
--- the line that begins with the `#` at the front
+-- the line that begins with the `#` at the prefix
 unfoldable pub marker_at : List ℕ → Item
 marker_at bs = if is_marker (line_of (drop 1 bs)) then items.Skip (run is_line_byte (drop 1 bs) + 1) false else items.Fault Directive 0

@@ -16,7 +16,7 @@ use Rattle.c_lexer.specs.Numbers.{number_of}
 use Rattle.c_lexer.specs.Texts.{character_at, string_at}
 use Rattle.c_lexer.specs.Gaps.{comment_at, marker_at}
 
--- the letters, digits and `_` at the front
+-- the letters, digits and `_` at the prefix
 abbrev pub word_of : List ℕ → List ℕ
 word_of bs = take (run is_name_byte bs) bs
 

@@ -35,8 +35,8 @@ abbrev pub IsTokens : List ℕ → List Token → Type 0
 IsTokens source ts = Reads true 0 source ts Whole
 
 -- the source is tokens up to where it first breaks a rule, with this error
-abbrev pub IsRefused : List ℕ → LexError → Type 0
-IsRefused source error = (ts : List Token) × Reads true 0 source ts (Stopped error)
+abbrev pub IsLexError : List ℕ → LexError → Type 0
+IsLexError source error = (ts : List Token) × Reads true 0 source ts (Stopped error)
 
 -- the tokens stand one after another, from one offset up to another
 abbrev pub InOrder : ℕ → List Token → ℕ → Type 0
@@ -51,10 +51,10 @@ HasReading source = (ts : List Token) × (end : End) × Reads true 0 source ts e
 abbrev pub OneReading : Type 0
 OneReading = (fresh : Bool) (at : ℕ) (bs : List ℕ) (ts us : List Token) (d e : End) → Reads fresh at bs ts d → Reads fresh at bs us e → (ts ≡ us) × (d ≡ e)
 
--- what an error says of a source; want of memory says nothing
+-- what an error says of a source; out of memory says nothing
 abbrev pub Refuses : List ℕ → LexError → Type 0
 Refuses source errors.Memory = Unit {0}
-Refuses source (errors.BadByte at) = IsRefused source (errors.BadByte at)
-Refuses source (errors.OpenText at) = IsRefused source (errors.OpenText at)
-Refuses source (errors.BigNumber at) = IsRefused source (errors.BigNumber at)
-Refuses source (errors.Directive at) = IsRefused source (errors.Directive at)
+Refuses source (errors.BadByte at) = IsLexError source (errors.BadByte at)
+Refuses source (errors.OpenText at) = IsLexError source (errors.OpenText at)
+Refuses source (errors.BigNumber at) = IsLexError source (errors.BigNumber at)
+Refuses source (errors.Directive at) = IsLexError source (errors.Directive at)

@@ -60,7 +60,7 @@ all_signs = signs.ShiftLeftAssign ∷ signs.ShiftRightAssign ∷ signs.Arrow ∷
 abbrev pub begins_with : List ℕ → Sign → Bool
 begins_with bytes sign = starts_with nat_eq bytes (sign_text sign)
 
--- the sign at the front of the bytes
+-- the sign at the prefix of the bytes
 unfoldable pub sign_at : List ℕ → Option Sign
 sign_at bytes = find (λ s. begins_with bytes s) all_signs
 

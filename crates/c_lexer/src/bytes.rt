@@ -76,7 +76,7 @@ impl Class {
     }
 }
 
-/// How many bytes at the front belong to the class.
+/// How many bytes at the prefix belong to the class.
 #[tactic(auto, using(crate::proofs::Runs::run_on, crate::proofs::Runs::run_stop, crate::proofs::Runs::run_end))]
 pub fn run(class: Class, bytes: &[u8]) -> usize
     ensures bound { result ≤ length bytes.now }

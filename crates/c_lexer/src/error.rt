@@ -24,7 +24,7 @@ pub enum LexError {
     /// A line that begins with this `#` and is no line marker.
     #[error("the line at byte {0} is no line marker")]
     Directive(u32),
-    /// Want of memory.
+    /// Out of memory.
     #[error("no memory")]
     Memory,
 }

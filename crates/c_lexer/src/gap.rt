@@ -21,7 +21,7 @@ fn comment_len(bytes: &[u8]) -> Option<usize>
     None
 }
 
-/// The comment that begins with the `/*` at the front.
+/// The comment that begins with the `/*` at the prefix.
 #[tactic(auto, unfolding(crate::specs::Gaps::comment_at))]
 pub fn read_comment(bytes: &[u8]) -> Item
     requires { starts_with nat_eq bytes.now (codes "/*") ≡ true }
@@ -61,7 +61,7 @@ fn is_marker(line: &[u8]) -> bool
     blanks > 0 && is_marker_number(rest)
 }
 
-/// The line marker that begins with the `#` at the front.
+/// The line marker that begins with the `#` at the prefix.
 #[tactic(auto, unfolding(crate::specs::Gaps::marker_at))]
 pub fn read_marker(bytes: &[u8]) -> Item
     requires { 1 ≤ length bytes.now }

@@ -40,7 +40,7 @@ pub enum Item {
     Fault(Fault, usize),
 }
 
-// A name or keyword: the run of letters, digits and `_` at the front.
+// A name or keyword: the run of letters, digits and `_` at the prefix.
 #[tactic(auto, unfolding(crate::specs::Items::name_at))]
 fn read_name(alloc: Global, bytes: &[u8]) -> Result<Item, AllocError>
     ensures { IfOk result (λ x. x ≡ name_at bytes.now) }
@@ -119,7 +119,7 @@ fn read_item(alloc: Global, fresh: bool, first: u8, bytes: &[u8]) -> Result<Item
     }
 }
 
-/// What stands at the front of the bytes, where `fresh` says that only blanks of a line that
+/// What stands at the prefix of the bytes, where `fresh` says that only blanks of a line that
 /// begins outside a comment stand before it.
 pub fn item_at(alloc: Global, fresh: bool, bytes: &[u8]) -> Result<Item, AllocError>
     ensures { IfOk result (λ x. x ≡ item_seen fresh bytes.now) }

@@ -4,7 +4,7 @@ ghost use Rattle.std.specs.Prelude.{◌≡◌, ◌≢◌, ◌↔◌, ℕ, ◌≤
 ghost use Rattle.std.specs.Result.{IsErrOf};
 ghost use Rattle.c_lexer.specs.declared.token.Sign.{Sign};
 ghost use Rattle.c_lexer.specs.Signs.{sign_at, IsLongest};
-ghost use Rattle.c_lexer.specs.Lexing.{IsTokens, IsRefused, Refuses, InOrder, HasReading, OneReading};
+ghost use Rattle.c_lexer.specs.Lexing.{IsTokens, IsLexError, Refuses, InOrder, HasReading, OneReading};
 
 use crate::error::LexError;
 use crate::item::{Item, item_at};
@@ -60,10 +60,10 @@ pub fn lex(alloc: Global, source: &[u8]) -> Result<Vec<Token>, LexError>
     ensures tokens { IfOk result (λ v. IsTokens source.now v.items) }
     ensures places { IfOk result (λ v. InOrder 0 v.items (length source.now)) }
     ensures ok { result ≢ Err LexError.Memory → (IsOk result ↔ ((ts : List Token) × IsTokens source.now ts)) }
-    ensures bad_byte { (at : ℕ) → result ≢ Err LexError.Memory → (IsErrOf result (LexError.BadByte at) ↔ IsRefused source.now (LexError.BadByte at)) }
-    ensures open_text { (at : ℕ) → result ≢ Err LexError.Memory → (IsErrOf result (LexError.OpenText at) ↔ IsRefused source.now (LexError.OpenText at)) }
-    ensures big_number { (at : ℕ) → result ≢ Err LexError.Memory → (IsErrOf result (LexError.BigNumber at) ↔ IsRefused source.now (LexError.BigNumber at)) }
-    ensures directive { (at : ℕ) → result ≢ Err LexError.Memory → (IsErrOf result (LexError.Directive at) ↔ IsRefused source.now (LexError.Directive at)) }
+    ensures bad_byte { (at : ℕ) → result ≢ Err LexError.Memory → (IsErrOf result (LexError.BadByte at) ↔ IsLexError source.now (LexError.BadByte at)) }
+    ensures open_text { (at : ℕ) → result ≢ Err LexError.Memory → (IsErrOf result (LexError.OpenText at) ↔ IsLexError source.now (LexError.OpenText at)) }
+    ensures big_number { (at : ℕ) → result ≢ Err LexError.Memory → (IsErrOf result (LexError.BigNumber at) ↔ IsLexError source.now (LexError.BigNumber at)) }
+    ensures directive { (at : ℕ) → result ≢ Err LexError.Memory → (IsErrOf result (LexError.Directive at) ↔ IsLexError source.now (LexError.Directive at)) }
 {
     read_tokens(alloc, source)
 }

@@ -17,4 +17,3 @@ pub use error::LexError;
 pub use lexing::{lex, longest_sign, one_reading};
 pub use text::Text;
 pub use token::{Kind, Sign, Suffix, Token, Word};
-

@@ -65,7 +65,7 @@ fn is_plain(quote: u8, byte: u8) -> bool
     matches!(byte, b' '..=b'~') || (quote == b'"' && byte >= 128)
 }
 
-/// What stands at the front of the bytes, which follow an opening quote of this kind.
+/// What stands at the prefix of the bytes, which follow an opening quote of this kind.
 #[tactic(auto, unfolding(crate::specs::Texts::part_at))]
 pub fn part_at(quote: u8, bytes: &[u8]) -> Part
     ensures { result ≡ part_seen quote bytes.now }

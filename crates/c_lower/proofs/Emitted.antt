@@ -4,34 +4,34 @@ use Rattle.std.specs.Prelude.{slice_get}
 use Rattle.std.specs.Option.{option_map}
 use Rattle.std.proofs.lemmas.Option.{same_Some, slice_get_within, slice_get-map}
 use Rattle.std.proofs.lemmas.Bool.{le-ltb, leb-true, ltb-false, ne_eqb}
-use Rattle.places.specs.declared.placed.Placed.{Placed}
+use Rattle.memory_map.specs.declared.placed.Placed.{Placed}
 use Rattle.c_code.specs.declared.code.FuncInfo.{FuncInfo}
 use Rattle.c_code.specs.declared.instr.Instr.{Instr}
 use Rattle.c_code.specs.Machine.{Flat, entry, entry_of, func_of, has_sig}
 use Rattle.c_code.specs.MarkLists.{result_shape as known_result}
 use Rattle.c_scopes.specs.Scopes.{Scope}
-use Rattle.c_type_model.specs.Types.{CType, Void}
+use Rattle.c_types_model.specs.Types.{CType, Void}
 use Rattle.c_builtins.specs.declared.builtin.Builtin.{Builtin}
 use Rattle.c_builtins.specs.declared.builtin.Builtin.TheVariants.{Malloc, Free, Spawn, Join, Lock, Unlock, Print}
 use Rattle.c_builtins.specs.declared.lookup.TheConstants.{BUILTINS}
 use Rattle.c_builtins.specs.Table.{prototype_of}
-use Rattle.c_typing.specs.Environment.{Meaning}
-use Rattle.c_typing.specs.Sources as sources
-use Rattle.c_typing.specs.Limits.{frame_size}
-use Rattle.c_typing.specs.TypeTests.{same_type}
-use Rattle.c_typing.specs.TypedTree as typed
-use Rattle.c_meaning.specs.Context.{Source, body_of, builtin_of, is_function_of, local_offsets, param_shapes, result_shape, shape_of, shapes_of, type_of}
-use Rattle.c_placement.specs.Code.{Lies, body_code, making as making_at}
-use Rattle.c_placement.specs.Laws.{IsEmitted, IsFunction, laid}
-use Rattle.c_type_table.specs.Tables.{type_at}
-use Rattle.c_typed_program.specs.declared.function.Body.{Body}
-use Rattle.c_typed_program.specs.declared.function.Function.{Function}
-use Rattle.c_typed_program.specs.Declarations.{Declared, body_in, function_in}
-use Rattle.c_typed_program.specs.Programs.{program_in, texts_in}
-use Rattle.c_lower_index.specs.Sources.{fixed_types, place_among, sig_in, source_in, types_of_functions}
+use Rattle.c_types_rules.specs.Environment.{Meaning}
+use Rattle.c_types_rules.specs.Sources as sources
+use Rattle.c_types_rules.specs.Limits.{frame_size}
+use Rattle.c_types_rules.specs.TypeTests.{same_type}
+use Rattle.c_types_rules.specs.TypedTree as typed
+use Rattle.c_semantics.specs.Context.{Source, body_of, builtin_of, is_function_of, local_offsets, param_shapes, result_shape, shape_of, shapes_of, type_of}
+use Rattle.c_lower_rules.specs.Code.{Lies, body_code, making as making_at}
+use Rattle.c_lower_rules.specs.Laws.{IsEmitted, IsFunction, laid}
+use Rattle.c_types_table.specs.Tables.{type_at}
+use Rattle.c_types_program.specs.declared.function.Body.{Body}
+use Rattle.c_types_program.specs.declared.function.Function.{Function}
+use Rattle.c_types_program.specs.Declarations.{Declared, body_in, function_in}
+use Rattle.c_types_program.specs.Programs.{program_in, texts_in}
+use Rattle.c_lower_layout.specs.Sources.{fixed_types, place_among, sig_in, source_in, types_of_functions}
 use Rattle.c_lower.specs.Lowered.{builtin_info, code_of, codes_of, entry_at, frame_of, info_of, infos_from, locals_of, lowered}
 use Rattle.c_lower.proofs.Same.{body_same}
-use Rattle.c_lower_index.proofs.Numbers.{numbers_tell, within}
+use Rattle.c_lower_layout.proofs.Numbers.{numbers_tell, within}
 use Rattle.c_lower.proofs.Laid.{info_at, known_at, lies_at, none_at, start}
 
 -- the source of a program, with these names at file scope, whose objects lie there

@@ -3,8 +3,8 @@ use Rattle.std.proofs.Common.{◌≡◌, ℕ, ◌≤◌, List, ◌++◌, length,
 use Rattle.std.proofs.lemmas.List.{append-nil, drop_all}
 use Rattle.c_code.specs.declared.code.FuncInfo.{FuncInfo}
 use Rattle.c_code.specs.declared.instr.Instr.{Instr}
-use Rattle.c_typed_program.specs.declared.function.Function.{Function}
-use Rattle.c_typed_program.specs.Declarations.{Declared}
+use Rattle.c_types_program.specs.declared.function.Function.{Function}
+use Rattle.c_types_program.specs.Declarations.{Declared}
 use Rattle.c_lower.specs.Lowered.{codes_of, infos_from}
 
 module _ (p : Declared) (fs : List Function) (k : ℕ) where

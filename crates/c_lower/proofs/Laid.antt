@@ -5,15 +5,15 @@ use Rattle.std.proofs.lemmas.Option.{same_Some, slice_get_within}
 use Rattle.std.proofs.lemmas.Bool.{cases_lt}
 use Rattle.c_code.specs.declared.code.FuncInfo.{FuncInfo}
 use Rattle.c_code.specs.declared.instr.Instr.{Instr}
-use Rattle.c_placement.specs.Code.{Lies, body_code}
-use Rattle.c_placement.specs.Heights.{Stand, body_heights}
-use Rattle.c_typed_program.specs.declared.function.Body.{Body}
-use Rattle.c_typed_program.specs.declared.function.Function.{Function}
-use Rattle.c_typed_program.specs.Declarations.{Declared, body_in}
+use Rattle.c_lower_rules.specs.Code.{Lies, body_code}
+use Rattle.c_lower_rules.specs.Heights.{Stand, body_heights}
+use Rattle.c_types_program.specs.declared.function.Body.{Body}
+use Rattle.c_types_program.specs.declared.function.Function.{Function}
+use Rattle.c_types_program.specs.Declarations.{Declared, body_in}
 use Rattle.c_lower_bodies.specs.Making.{making}
 use Rattle.c_lower.specs.Lowered.{code_of, codes_of, info_of, infos_from}
 use Rattle.c_lower.proofs.Long.{body_long}
-use Rattle.c_lower.proofs.Standing.{get_second, height_in, lies_behind, stand_behind}
+use Rattle.c_lower.proofs.Standing.{get_second, height_in, lies_after, stand_after}
 
 module _ (p : Declared) where
   -- how much code stands before that of a function
@@ -50,7 +50,7 @@ module _ (p : Declared) where
   lies_from : (pre : List Instr) (fs : List Function) (k : ℕ) (f : Function) → slice_get fs k ≡ Some f → Lies (pre ++ codes_of p fs) (length pre + start k fs) (code_of p f.body)
   lies_from pre [] k f e = absurd cc
   lies_from pre (g ∷ fs) zero f e =
-      let here : Lies (pre ++ (code_of p g.body ++ codes_of p fs)) (length pre) (code_of p g.body) = lies_behind pre (code_of p g.body) (codes_of p fs) in
+      let here : Lies (pre ++ (code_of p g.body ++ codes_of p fs)) (length pre) (code_of p g.body) = lies_after pre (code_of p g.body) (codes_of p fs) in
       let n : length pre ≡ length pre + 0 = omega arith in
       subst (λ (h : Function). Lies (pre ++ (code_of p g.body ++ codes_of p fs)) (length pre + 0) (code_of p h.body)) (same_Some g f e)
       (subst (λ m. Lies (pre ++ (code_of p g.body ++ codes_of p fs)) m (code_of p g.body)) n here)
@@ -98,7 +98,7 @@ module _ (p : Declared) where
   stands_from : (pre : List ℕ) (fs : List Function) (k : ℕ) (f : Function) → slice_get fs k ≡ Some f → Stand (height_in (pre ++ all_heights fs)) (length pre + start k fs) (heights_of f.body)
   stands_from pre [] k f e = absurd cc
   stands_from pre (g ∷ fs) zero f e =
-      let here : Stand (height_in (pre ++ (heights_of g.body ++ all_heights fs))) (length pre) (heights_of g.body) = stand_behind pre (heights_of g.body) (all_heights fs) in
+      let here : Stand (height_in (pre ++ (heights_of g.body ++ all_heights fs))) (length pre) (heights_of g.body) = stand_after pre (heights_of g.body) (all_heights fs) in
       let n : length pre ≡ length pre + 0 = omega arith in
       subst (λ (h : Function). Stand (height_in (pre ++ (heights_of g.body ++ all_heights fs))) (length pre + 0) (heights_of h.body)) (same_Some g f e)
       (subst (λ m. Stand (height_in (pre ++ (heights_of g.body ++ all_heights fs))) m (heights_of g.body)) n here)

@@ -3,16 +3,16 @@ use Rattle.std.proofs.Common.{◌≡◌, ℕ, zero, suc, ◌+◌, ◌<◌, List,
 use Rattle.std.specs.Prelude.{slice_get}
 use Rattle.std.specs.List.{Contains}
 use Rattle.std.proofs.lemmas.List.Elements.{All-contains_itself, recursion_from_All}
-use Rattle.places.specs.declared.placed.Placed.{Placed}
+use Rattle.memory_map.specs.declared.placed.Placed.{Placed}
 use Rattle.c_code.specs.declared.instr.Instr.{Instr}
-use Rattle.c_meaning.specs.Context.{local_offsets}
-use Rattle.c_placement.specs.Code.{Lies}
-use Rattle.c_typed_program.specs.declared.function.Body.{Body}
-use Rattle.c_typed_program.specs.declared.function.Function.{Function}
-use Rattle.c_typed_program.specs.Declarations.{Declared, body_in}
-use Rattle.c_typed_program.specs.Programs.{texts_in}
-use Rattle.c_lower_index.specs.Sources.{source_in}
-use Rattle.c_lower_bodies.specs.Making.{making, scene}
+use Rattle.c_semantics.specs.Context.{local_offsets}
+use Rattle.c_lower_rules.specs.Code.{Lies}
+use Rattle.c_types_program.specs.declared.function.Body.{Body}
+use Rattle.c_types_program.specs.declared.function.Function.{Function}
+use Rattle.c_types_program.specs.Declarations.{Declared, body_in}
+use Rattle.c_types_program.specs.Programs.{texts_in}
+use Rattle.c_lower_layout.specs.Sources.{source_in}
+use Rattle.c_lower_bodies.specs.Making.{making, setting}
 use Rattle.c_lower.specs.Lowered.{code_of, codes_of, entry_at, info_of, locals_of, lowered}
 use Rattle.c_lower.specs.Named.{Among, IsOfFunction, Name, NamesNoMore, instr_names, statement_names}
 use Rattle.c_lower.proofs.Emitted.{known}
@@ -36,7 +36,7 @@ code_fine : (p : Declared) (b : Body) → Fine (names_of p b) (code_of p (Some b
 unfolding source_in
 code_fine p b =
     let ns = names_of p b in
-    body_fine ns (making (scene p (local_offsets (source_in p) (locals_of p b)))) (body_in p.table b) (recursion_from_All (Contains ns) ns (All-contains_itself ns))
+    body_fine ns (making (setting p (local_offsets (source_in p) (locals_of p b)))) (body_in p.table b) (recursion_from_All (Contains ns) ns (All-contains_itself ns))
 
 pub named : (p : Declared) → NamesNoMore p (lowered p)
 named p q i e = let h = among p p.functions q i e in of_body h.0 h.1 h.2 h.2.body refl h.3 h.4 h.5

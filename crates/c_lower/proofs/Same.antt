@@ -1,21 +1,21 @@
 -- The code of a function is the same wherever it and all objects lie.
 use Rattle.std.proofs.Common.{◌≡◌, ℕ, ◌+◌, List, ◌∷◌, ◌++◌, length, refl, ap, ◌∙◌}
-use Rattle.places.specs.declared.placed.Placed.{Placed}
+use Rattle.memory_map.specs.declared.placed.Placed.{Placed}
 use Rattle.c_code.specs.declared.instr.Change.TheVariants as change
 use Rattle.c_code.specs.declared.instr.Instr.{Instr}
 use Rattle.c_code.specs.declared.instr.Instr.TheVariants as instr
 use Rattle.c_code.specs.Machine.{Flat}
 use Rattle.c_scopes.specs.Scopes.{Scope}
-use Rattle.c_type_model.specs.Types.{CType}
-use Rattle.c_typing.specs.Environment.{Meaning}
-use Rattle.c_typing.specs.TypedTree.{Object, Value, Values, Callee, Sum, PointerPlus, PlusPointer, PointerMinus, GlobalObject, LocalObject, TextObject, Pointed, Element, MemberOf, Constant, FunctionAddress, ReadOf, AddressOf, Convert, Negate, Complement, Arithmetic, PointerSum, PointerDifference, PointerComparison, Not, Both, Either, Choice, Sequence, Assigned, Changed, Moved, Stepped, CallOf, NoValues, MoreValues, SourceFunction, BuiltinFunction, Through, MaybeValue, NoValue, OneValue, Statement, Statements, Block, Evaluate, Initialise, If, IfElse, While, Do, For, Break, Continue, Return, NoStatements, MoreStatements, object_type}
-use Rattle.c_meaning.specs.Context.{kind_of}
-use Rattle.c_placement.specs.Conversions.{reconverts}
-use Rattle.c_placement.specs.Placement.{count, loads}
-use Rattle.c_placement.specs.Code.{Making, body_code, call_code, callee_code, convert_code, last_code, object_code, one, return_code, statement_code, statements_code, sum_code, test_code, value_code, values_code}
-use Rattle.c_typing.specs.TypedTree as typed
-use Rattle.c_typed_program.specs.Declarations.{Declared}
-use Rattle.c_typed_program.specs.Programs.{program_in, texts_in}
+use Rattle.c_types_model.specs.Types.{CType}
+use Rattle.c_types_rules.specs.Environment.{Meaning}
+use Rattle.c_types_rules.specs.TypedTree.{Object, Value, Values, Callee, Sum, PointerPlus, PlusPointer, PointerMinus, GlobalObject, LocalObject, TextObject, Pointed, Element, MemberOf, Constant, FunctionAddress, ReadOf, AddressOf, Convert, Negate, Complement, Arithmetic, PointerSum, PointerDifference, PointerComparison, Not, Both, Either, Choice, Sequence, Assigned, Changed, Moved, Stepped, CallOf, NoValues, MoreValues, SourceFunction, BuiltinFunction, Through, MaybeValue, NoValue, OneValue, Statement, Statements, Block, Evaluate, Initialise, If, IfElse, While, Do, For, Break, Continue, Return, NoStatements, MoreStatements, object_type}
+use Rattle.c_semantics.specs.Context.{kind_of}
+use Rattle.c_lower_rules.specs.Conversions.{reconverts}
+use Rattle.c_lower_rules.specs.Placement.{count, loads}
+use Rattle.c_lower_rules.specs.Code.{Making, body_code, call_code, callee_code, convert_code, last_code, object_code, one, return_code, statement_code, statements_code, sum_code, test_code, value_code, values_code}
+use Rattle.c_types_rules.specs.TypedTree as typed
+use Rattle.c_types_program.specs.Declarations.{Declared}
+use Rattle.c_types_program.specs.Programs.{program_in, texts_in}
 
 -- one list before another
 cat : {a b c d : List Instr} → a ≡ b → c ≡ d → a ++ c ≡ b ++ d

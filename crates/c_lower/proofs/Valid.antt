@@ -1,37 +1,37 @@
--- The code of a program in which few values wait is valid.
+-- The code of a program whose evaluation stack is small is valid.
 use Rattle.std.proofs.Common.{◌≡◌, ℕ, zero, suc, ◌+◌, ◌^◌, ◌<◌, ◌≤◌, Bool, true, false, ◌||◌, cond, lit≤, List, [], ◌∷◌, ◌++◌, length, map, Option, Some, None, refl, sym, ap, ◌∙◌, subst, arith}
 use Rattle.std.specs.Prelude.{nat_lt, slice_get}
 use Rattle.std.specs.Option.{option_map}
 use Rattle.std.proofs.lemmas.List.{length-map}
 use Rattle.std.proofs.lemmas.Option.{same_Some}
 use Rattle.std.proofs.lemmas.Bool.{ltb-false}
-use Rattle.places.specs.declared.placed.Placed.{Placed}
+use Rattle.memory_map.specs.declared.placed.Placed.{Placed}
 use Rattle.c_code.specs.declared.code.FuncInfo.{FuncInfo}
 use Rattle.c_code.specs.declared.instr.Instr.{Instr}
 use Rattle.c_code.specs.Machine.{Flat, flat, func_of}
 use Rattle.c_code.specs.Valid.{IsSteady, IsValid}
-use Rattle.c_type_model.specs.Types.{CType}
+use Rattle.c_types_model.specs.Types.{CType}
 use Rattle.c_builtins.specs.declared.builtin.Builtin.{Builtin}
 use Rattle.c_builtins.specs.declared.builtin.Builtin.TheVariants.{Malloc, Free, Spawn, Join, Lock, Unlock, Print}
 use Rattle.c_builtins.specs.declared.lookup.TheConstants.{BUILTINS}
 use Rattle.c_builtins.specs.Table.{number_of}
-use Rattle.c_typing.specs.Sources as sources
-use Rattle.c_typing.specs.TypedTree as typed
-use Rattle.c_meaning.specs.Context.{Source, body_of, shape_of, shapes_of, type_of}
-use Rattle.c_placement.specs.Code.{body_code, making as making_at}
-use Rattle.c_placement.specs.Heights.{Stand, body_heights, statement_waits}
-use Rattle.c_placement.specs.Laws.{IsEmitted, IsMadeOf, IsWithin, MakesTheMarks}
-use Rattle.c_typed_table.specs.Tables.{Table}
-use Rattle.c_typed_program.specs.declared.function.Body.{Body}
-use Rattle.c_typed_program.specs.declared.function.Function.{Function}
-use Rattle.c_typed_program.specs.Declarations.{Declared, body_in, function_in}
-use Rattle.c_typed_program.specs.Programs.{texts_in}
-use Rattle.c_typed_program.specs.Statements.{statement_in}
-use Rattle.c_lower_index.specs.Sources.{fixed_types, sig_in, source_in, types_of_functions}
-use Rattle.c_fits.specs.Fits.{IsFit, Knows}
+use Rattle.c_types_rules.specs.Sources as sources
+use Rattle.c_types_rules.specs.TypedTree as typed
+use Rattle.c_semantics.specs.Context.{Source, body_of, shape_of, shapes_of, type_of}
+use Rattle.c_lower_rules.specs.Code.{body_code, making as making_at}
+use Rattle.c_lower_rules.specs.Heights.{Stand, body_heights, statement_depth}
+use Rattle.c_lower_rules.specs.Laws.{IsEmitted, IsMadeOf, IsWithin, MakesTheMarks}
+use Rattle.c_types_nodes.specs.Tables.{Table}
+use Rattle.c_types_program.specs.declared.function.Body.{Body}
+use Rattle.c_types_program.specs.declared.function.Function.{Function}
+use Rattle.c_types_program.specs.Declarations.{Declared, body_in, function_in}
+use Rattle.c_types_program.specs.Programs.{texts_in}
+use Rattle.c_types_program.specs.Statements.{statement_in}
+use Rattle.c_lower_layout.specs.Sources.{fixed_types, sig_in, source_in, types_of_functions}
+use Rattle.c_lower_laws.specs.Fits.{IsFit, Knows}
 use Rattle.c_lower.specs.Lowered.{IsSourceOf, builtin_info, code_of, codes_of, infos_from, lowered}
-use Rattle.c_lower.specs.Waits.{first_wide, is_wide, counted_at}
-use Rattle.c_lower_index.proofs.Numbers.{one_place}
+use Rattle.c_lower.specs.Depths.{first_wide, is_wide, counted_at}
+use Rattle.c_lower_layout.proofs.Numbers.{one_place}
 use Rattle.c_lower.proofs.Standing.{height_in}
 use Rattle.c_lower.proofs.Laid.{all_heights, among, heights_of, infos_counted, stands_at, start}
 use Rattle.c_lower.proofs.Emitted.{Found, body_found, body_here, code_means, emitted, entry_is, known, source, typed_at}
@@ -115,13 +115,13 @@ module _ (p : Declared) where
           let there : 0 + start p w.place p.functions + by ≡ q = let m : start p w.place p.functions ≡ start p k p.functions = ap (λ j. start p j p.functions) place in omega arith in
           record { func = 16 + k; body = b; defined = defined; by = by; inside = omega arith; there = ap (λ m. m + by) (entry_is p [] nowhere (16 + k) b defined) ∙ there }
 
-  few_in : (us : List ℕ) → first_wide p.table us 0 p.functions ≡ None → (f : ℕ) (b : typed.Body) → Found p [] nowhere f b → statement_waits b.statements ≤ 64
+  few_in : (us : List ℕ) → first_wide p.table us 0 p.functions ≡ None → (f : ℕ) (b : typed.Body) → Found p [] nowhere f b → statement_depth b.statements ≤ 64
   few_in us few f b w =
       let n = counted_at us (0 + w.place) in
       let no : is_wide p.table w.function.body n ≡ false = all_few p.table us 0 p.functions few w.place w.function w.there in
-      let test : nat_lt 64 (statement_waits (statement_in p.table w.body.statements)) ≡ false =
-      second_false (nat_lt 64 n) (nat_lt 64 (statement_waits (statement_in p.table w.body.statements))) (ap (λ o. is_wide p.table o n) (sym w.has) ∙ no) in
-      subst (λ (c : typed.Body). statement_waits c.statements ≤ 64) w.means (ltb-false 64 (statement_waits (statement_in p.table w.body.statements)) test)
+      let test : nat_lt 64 (statement_depth (statement_in p.table w.body.statements)) ≡ false =
+      second_false (nat_lt 64 n) (nat_lt 64 (statement_depth (statement_in p.table w.body.statements))) (ap (λ o. is_wide p.table o n) (sym w.has) ∙ no) in
+      subst (λ (c : typed.Body). statement_depth c.statements ≤ 64) w.means (ltb-false 64 (statement_depth (statement_in p.table w.body.statements)) test)
 
   made : (us : List ℕ) → IsFit p → first_wide p.table us 0 p.functions ≡ None → IsMadeOf s code sig height
   unfolding source_in

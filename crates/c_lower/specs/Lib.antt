@@ -1,3 +1,3 @@
 pub mod Lowered
-pub mod Waits
+pub mod Depths
 pub mod Named

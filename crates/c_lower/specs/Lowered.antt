@@ -3,21 +3,21 @@ use Rattle.std.specs.Prelude.{◌≡◌, ℕ, ◌+◌, List, [], ◌∷◌, ◌+
 use Rattle.c_code.specs.declared.code.FuncInfo.{FuncInfo}
 use Rattle.c_code.specs.declared.instr.Instr.{Instr}
 use Rattle.c_code.specs.Machine.{Flat, flat}
-use Rattle.c_type_model.specs.Types.{CType}
-use Rattle.c_type_table.specs.Tables.{type_at}
+use Rattle.c_types_model.specs.Types.{CType}
+use Rattle.c_types_table.specs.Tables.{type_at}
 use Rattle.c_builtins.specs.declared.builtin.Builtin.{Builtin}
 use Rattle.c_builtins.specs.declared.lookup.TheConstants.{BUILTINS}
 use Rattle.c_builtins.specs.Table.{name_of, params_of as params_of_prototype, prototype_of, result_of as result_of_prototype}
-use Rattle.c_typing.specs.Sources.{params_of, result_of}
-use Rattle.c_typing.specs.Limits.{frame_size}
-use Rattle.c_meaning.specs.Context.{Source, local_offsets, shape_of, shapes_of}
-use Rattle.c_placement.specs.Code.{body_code}
-use Rattle.c_typed_program.specs.declared.function.Body.{Body}
-use Rattle.c_typed_program.specs.declared.function.Function.{Function}
-use Rattle.c_typed_program.specs.Declarations.{Declared, body_in, types_in}
-use Rattle.c_typed_program.specs.Programs.{program_in, texts_in}
-use Rattle.c_lower_index.specs.Sources.{sig_in, source_in}
-use Rattle.c_lower_bodies.specs.Making.{making, scene}
+use Rattle.c_types_rules.specs.Sources.{params_of, result_of}
+use Rattle.c_types_rules.specs.Limits.{frame_size}
+use Rattle.c_semantics.specs.Context.{Source, local_offsets, shape_of, shapes_of}
+use Rattle.c_lower_rules.specs.Code.{body_code}
+use Rattle.c_types_program.specs.declared.function.Body.{Body}
+use Rattle.c_types_program.specs.declared.function.Function.{Function}
+use Rattle.c_types_program.specs.Declarations.{Declared, body_in, types_in}
+use Rattle.c_types_program.specs.Programs.{program_in, texts_in}
+use Rattle.c_lower_layout.specs.Sources.{sig_in, source_in}
+use Rattle.c_lower_bodies.specs.Making.{making, setting}
 
 -- the types of a function's parameters and locals
 abbrev pub locals_of : Declared → Body → List CType
@@ -26,7 +26,7 @@ locals_of p b = types_in p.table.types b.locals
 -- the code of a function; one without a body has none
 abbrev pub code_of : Declared → Option Body → List Instr
 code_of p None = []
-code_of p (Some b) = body_code (body_in p.table b) (making (scene p (local_offsets (source_in p) (locals_of p b))))
+code_of p (Some b) = body_code (body_in p.table b) (making (setting p (local_offsets (source_in p) (locals_of p b))))
 
 -- the code of functions, one after another
 abbrev pub codes_of : Declared → List Function → List Instr

@@ -8,12 +8,12 @@ use Rattle.c_code.specs.declared.instr.Push.{Push}
 use Rattle.c_code.specs.declared.instr.Push.TheVariants.{Global, Text}
 use Rattle.c_code.specs.Machine.{Flat, func_of}
 use Rattle.c_builtins.specs.Table.{first_source_function, number_of}
-use Rattle.c_typing.specs.TypedTree.{Object, Value, Values, Callee, GlobalObject, LocalObject, TextObject, Pointed, Element, MemberOf, Constant, FunctionAddress, ReadOf, AddressOf, Convert, Negate, Complement, Arithmetic, PointerSum, PointerDifference, PointerComparison, Not, Both, Either, Choice, Sequence, Assigned, Changed, Moved, Stepped, CallOf, NoValues, MoreValues, SourceFunction, BuiltinFunction, Through, MaybeValue, NoValue, OneValue, Statement, Statements, Block, Evaluate, Initialise, If, IfElse, While, Do, For, Break, Continue, Return, NoStatements, MoreStatements}
-use Rattle.c_meaning.specs.Context.{order_of}
-use Rattle.c_typed_program.specs.declared.function.Body.{Body}
-use Rattle.c_typed_program.specs.declared.function.Function.{Function}
-use Rattle.c_typed_program.specs.Declarations.{Declared, body_in}
-use Rattle.c_typed_program.specs.Programs.{texts_in}
+use Rattle.c_types_rules.specs.TypedTree.{Object, Value, Values, Callee, GlobalObject, LocalObject, TextObject, Pointed, Element, MemberOf, Constant, FunctionAddress, ReadOf, AddressOf, Convert, Negate, Complement, Arithmetic, PointerSum, PointerDifference, PointerComparison, Not, Both, Either, Choice, Sequence, Assigned, Changed, Moved, Stepped, CallOf, NoValues, MoreValues, SourceFunction, BuiltinFunction, Through, MaybeValue, NoValue, OneValue, Statement, Statements, Block, Evaluate, Initialise, If, IfElse, While, Do, For, Break, Continue, Return, NoStatements, MoreStatements}
+use Rattle.c_semantics.specs.Context.{order_of}
+use Rattle.c_types_program.specs.declared.function.Body.{Body}
+use Rattle.c_types_program.specs.declared.function.Function.{Function}
+use Rattle.c_types_program.specs.Declarations.{Declared, body_in}
+use Rattle.c_types_program.specs.Programs.{texts_in}
 use Rattle.c_lower.specs.Lowered.{code_of}
 
 -- a function by its number, or a global or a string by its place in the order of the source

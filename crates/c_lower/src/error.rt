@@ -15,7 +15,7 @@ pub enum LowerError {
     /// The source has more than 131,072 nodes.
     #[error("too many nodes")]
     Long,
-    /// More than 64 values wait in the function of this number, the first such.
+    /// The evaluation stack is deeper than 64 values in the function of this number, the first such.
     #[error("too many waiting values in function {0}")]
     Wide(u16),
 }

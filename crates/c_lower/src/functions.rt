@@ -2,17 +2,17 @@
 
 ghost use Rattle.std.specs.Prelude.{◌≡◌, ◌<◌, ◌++◌, length, map, Option, IfOk, OnOk};
 ghost use Rattle.c_builtins.specs.Table.{prototype_of};
-ghost use Rattle.c_typed_program.specs.Declarations.{Declared, IsFunction};
-ghost use Rattle.c_lower_index.specs.Sources.{sig_in};
+ghost use Rattle.c_types_program.specs.Declarations.{Declared, IsFunction};
+ghost use Rattle.c_lower_layout.specs.Sources.{sig_in};
 ghost use Rattle.c_lower.specs.Lowered.{builtin_info as builtin_info_of, code_of, info_of, known_info};
 
 use crate::shapes::{builtin_shape, builtin_shapes, params, result_shape};
 use c_builtins::{BUILTINS, Builtin};
 use c_code::{FuncInfo, Instr};
 use c_lower_bodies::Emitter;
-use c_lower_index::Index;
-use c_typed_program::Function;
-use places::Bytes8;
+use c_lower_layout::Index;
+use c_types_program::Function;
+use memory_map::Bytes8;
 use std::alloc::{AllocError, Global};
 
 // The number of the type of a builtin.

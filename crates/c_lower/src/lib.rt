@@ -1,11 +1,11 @@
 //! The code of a typed program.
 #![tactic(auto)]
 
+mod depth;
 mod error;
 mod functions;
 mod lowering;
 mod shapes;
-mod waits;
 mod wide;
 
 pub use error::LowerError;

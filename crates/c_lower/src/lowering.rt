@@ -1,26 +1,26 @@
 //! Lowering.
 
 ghost use Rattle.std.specs.Prelude.{◌≡◌, ◌↔◌, ◌<◌, ◌≤◌, ℕ, List, None, Some, IfOk, OnOk};
-ghost use Rattle.c_meaning.specs.Context.{Source};
-ghost use Rattle.c_placement.specs.Laws.{MakesTheMarks};
-ghost use Rattle.c_fits.specs.Fits.{IsFit};
+ghost use Rattle.c_semantics.specs.Context.{Source};
+ghost use Rattle.c_lower_rules.specs.Laws.{MakesTheMarks};
+ghost use Rattle.c_lower_laws.specs.Fits.{IsFit};
 ghost use Rattle.c_lower.specs.Lowered.{IsSourceOf, lowered};
 ghost use Rattle.c_lower.specs.Named.{NamesNoMore};
-ghost use Rattle.c_lower.specs.Waits.{first_wide as first_wide_of, most_nodes};
+ghost use Rattle.c_lower.specs.Depths.{first_wide as first_wide_of, most_nodes};
 
 use crate::error::LowerError;
 use crate::functions::{builtin_infos, function_info};
 use crate::wide::first_wide;
 use c_code::Code;
-use c_lower_index::Index;
-use c_placement::{emitted_code_is_steady, emitted_code_makes_the_marks};
-use c_typed_program::TypedProgram;
+use c_lower_layout::Index;
+use c_lower_rules::{emitted_code_is_steady, emitted_code_makes_the_marks};
+use c_types_program::TypedProgram;
 use std::alloc::{AllocError, Global};
 
 /// How many nodes a source may have.
 pub const MOST_NODES: usize = 131_072;
 
-// The code of a program in which few values wait.
+// The code of a program whose evaluation stack is small.
 fn code(alloc: Global, program: &TypedProgram) -> Result<Code, AllocError>
     requires fit { IsFit program.now }
     requires few { (us : List ℕ) × (first_wide_of program.now.table us 0 program.now.functions ≡ None) }
@@ -40,12 +40,16 @@ fn code(alloc: Global, program: &TypedProgram) -> Result<Code, AllocError>
     Ok(Code::new(builtins, sources, instrs))
 }
 
-/// The code of a program whose source has so many nodes. `counted` says of each function, in their order, how many values wait at
-/// most in the expressions of its body as the source says it, those under `sizeof` and in lengths of arrays among them; more than 255
+/// The code of a program whose source has so many nodes. `counted` says of each function, in their order,
+/// the greatest depth of the evaluation
+/// stack in the expressions of its body as the source says it, those under `sizeof` and in lengths of arrays
+/// among them; more than 255
 /// count as 255, and where it ends there are none.
 ///
-/// `Long` where the nodes are more than 131,072; else `Wide` with the number of the first function in which more than 64 values
-/// wait, as is counted or in its typed body; else the code, or `Memory` where there is no memory for it or a number is too great for
+/// `Long` where the nodes are more than 131,072; else `Wide` with the number of the first function whose
+/// evaluation stack is deeper than 64
+/// values, as is counted or in its typed body; else the code, or `Memory` where there is no memory for it or
+/// a number is too great for
 /// an instruction.
 pub fn lower(
     alloc: Global,

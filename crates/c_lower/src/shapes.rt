@@ -2,14 +2,14 @@
 
 ghost use Rattle.std.specs.Prelude.{◌≡◌, ◌<◌, length, IfOk};
 ghost use Rattle.std.specs.List.{All};
-ghost use Rattle.c_type_table.specs.Tables.{IsBelow, all_at, type_at, types_of};
+ghost use Rattle.c_types_table.specs.Tables.{IsBelow, all_at, type_at, types_of};
 ghost use Rattle.c_builtins.specs.Table.{ctype_of, ctypes_of};
-ghost use Rattle.c_typing.specs.Sources.{params_of as params_of_type, result_of as result_of_type};
-ghost use Rattle.c_meaning.specs.Context.{shape_of, shapes_of};
+ghost use Rattle.c_types_rules.specs.Sources.{params_of as params_of_type, result_of as result_of_type};
+ghost use Rattle.c_semantics.specs.Context.{shape_of, shapes_of};
 
 use c_builtins::BuiltinType;
 use c_code::{Shape, Shapes};
-use c_type_table::{Ty, TypeId, Types};
+use c_types_table::{Ty, TypeId, Types};
 use r2_num::IntKind;
 use std::alloc::{AllocError, Global};
 

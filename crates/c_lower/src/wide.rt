@@ -1,53 +1,53 @@
-//! Functions in which too many values wait.
+//! Functions whose evaluation stack is too deep.
 
 ghost use Rattle.std.specs.Prelude.{◌≡◌, ◌+◌, ◌^◌, ◌≤◌, length};
 ghost use Rattle.c_builtins.specs.Table.{first_source_function};
-ghost use Rattle.c_typed_program.specs.Declarations.{IsBody};
-ghost use Rattle.c_typed_program.specs.Statements.{AllStatements, IsMaybeAt, IsStatement, maybe_at, statement_in, statements_in};
-ghost use Rattle.c_typed_table.specs.Tables.{Table};
-ghost use Rattle.c_placement.specs.Heights.{maybe_waits as maybe_waits_of, statement_waits as statement_waits_of, statements_waits as statements_waits_of};
-ghost use Rattle.c_lower.specs.Waits.{capped, first_wide as first_wide_of, is_wide as is_wide_of, counted_at};
+ghost use Rattle.c_types_program.specs.Declarations.{IsBody};
+ghost use Rattle.c_types_program.specs.Statements.{AllStatements, IsMaybeAt, IsStatement, maybe_at, statement_in, statements_in};
+ghost use Rattle.c_types_nodes.specs.Tables.{Table};
+ghost use Rattle.c_lower_rules.specs.Heights.{maybe_depth as maybe_depth_of, statement_depth as statement_depth_of, statements_depth as statements_depth_of};
+ghost use Rattle.c_lower.specs.Depths.{capped, first_wide as first_wide_of, is_wide as is_wide_of, counted_at};
 
-use crate::waits::{either, value_waits};
+use crate::depth::{either, value_depth};
 use c_builtins::FIRST_SOURCE_FUNCTION;
-use c_typed_program::{Body, Statement, TypedProgram};
-use c_typed_table::{NodeId, TypedTable};
+use c_types_nodes::{NodeId, TypedTable};
+use c_types_program::{Body, Statement, TypedProgram};
 
-// So many values of one function may wait.
+// The evaluation stack of one function may be so deep.
 const MOST_VALUES: u8 = 64;
 
-fn maybe_waits(table: &TypedTable, value: Option<NodeId>) -> u8
+fn maybe_depth(table: &TypedTable, value: Option<NodeId>) -> u8
     requires { IsMaybeAt table.now value }
-    ensures { result ≡ capped (maybe_waits_of (maybe_at table.now value)) }
+    ensures { result ≡ capped (maybe_depth_of (maybe_at table.now value)) }
 {
     match value {
         None => 0,
-        Some(value) => value_waits(table, value),
+        Some(value) => value_depth(table, value),
     }
 }
 
-// How many values of a statement wait at most. More than 255 count as 255.
+// The greatest depth of the evaluation stack in a statement. More than 255 count as 255.
 #[cycle(statements)]
-fn statement_waits(table: &TypedTable, statement: &Statement) -> u8
+fn statement_depth(table: &TypedTable, statement: &Statement) -> u8
     requires { IsStatement table.now statement.now }
-    ensures { result ≡ capped (statement_waits_of (statement_in table.now statement.now)) }
+    ensures { result ≡ capped (statement_depth_of (statement_in table.now statement.now)) }
 {
     match statement {
-        Statement::Block(statements) => statements_waits(table, statements),
-        Statement::Evaluate(value) | Statement::Initialise { value, .. } => value_waits(
+        Statement::Block(statements) => statements_depth(table, statements),
+        Statement::Evaluate(value) | Statement::Initialise { value, .. } => value_depth(
             table, *value,
         ),
         Statement::If(value, body) | Statement::While(value, body) => either(
-            value_waits(table, *value),
-            statement_waits(table, body),
+            value_depth(table, *value),
+            statement_depth(table, body),
         ),
         Statement::IfElse(value, then, other) => either(
-            value_waits(table, *value),
-            either(statement_waits(table, then), statement_waits(table, other)),
+            value_depth(table, *value),
+            either(statement_depth(table, then), statement_depth(table, other)),
         ),
         Statement::Do(body, value) => either(
-            statement_waits(table, body),
-            value_waits(table, *value),
+            statement_depth(table, body),
+            value_depth(table, *value),
         ),
         Statement::For {
             first,
@@ -55,30 +55,30 @@ fn statement_waits(table: &TypedTable, statement: &Statement) -> u8
             last,
             body,
         } => either(
-            statements_waits(table, first),
+            statements_depth(table, first),
             either(
-                maybe_waits(table, *condition),
-                either(maybe_waits(table, *last), statement_waits(table, body)),
+                maybe_depth(table, *condition),
+                either(maybe_depth(table, *last), statement_depth(table, body)),
             ),
         ),
         Statement::Break | Statement::Continue => 0,
-        Statement::Return(value) => either(1, maybe_waits(table, *value)),
+        Statement::Return(value) => either(1, maybe_depth(table, *value)),
     }
 }
 
 #[cycle(statements)]
-fn statements_waits(table: &TypedTable, statements: &[Statement]) -> u8
+fn statements_depth(table: &TypedTable, statements: &[Statement]) -> u8
     requires { AllStatements table.now statements.now }
-    ensures { result ≡ capped (statements_waits_of (statements_in table.now statements.now)) }
+    ensures { result ≡ capped (statements_depth_of (statements_in table.now statements.now)) }
 {
     let mut most = 0;
     for i in (0..statements.len()).rev() {
-        most = either(statement_waits(table, &statements[i]), most);
+        most = either(statement_depth(table, &statements[i]), most);
     }
     most
 }
 
-// Whether more than 64 values wait in a function, where its source says that so many do.
+// Whether the evaluation stack is deeper than 64 values in a function, where its source says that so many do.
 fn is_wide(table: &TypedTable, body: &Option<Body>, counted: u8) -> bool
     requires { IsBody table.now body.now }
     ensures { result ≡ is_wide_of table.now body.now counted }
@@ -86,7 +86,7 @@ fn is_wide(table: &TypedTable, body: &Option<Body>, counted: u8) -> bool
     match body {
         None => counted > MOST_VALUES,
         Some(body) => counted > MOST_VALUES
-            || statement_waits(table, &body.statements) > MOST_VALUES,
+            || statement_depth(table, &body.statements) > MOST_VALUES,
     }
 }
 
@@ -97,7 +97,8 @@ fn count_at(counts: &[u8], place: usize) -> u8
     counts.get(place).copied().unwrap_or(0)
 }
 
-/// The number of the first function in which more than 64 values wait; `None` where there is none. It takes time linear in
+/// The number of the first function whose evaluation stack is deeper than 64 values; `None` where there is
+/// none. It takes time linear in
 /// the code.
 pub fn first_wide(program: &TypedProgram, counted: &[u8]) -> Option<u16>
     requires { first_source_function + length program.now.functions ≤ 2 ^ 16 }

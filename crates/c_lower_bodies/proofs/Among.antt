@@ -1,8 +1,8 @@
 -- One of several statements.
 use Rattle.std.proofs.Common.{◌≡◌, ℕ, zero, suc, ◌-◌, ◌<◌, ◌≤◌, List, [], ◌∷◌, length, drop, get_or, drop-cons, sym, ap, ◌∙◌, subst, arith}
-use Rattle.c_typed_table.specs.Tables.{Table}
-use Rattle.c_typed_program.specs.declared.statement.Statement.{Statement}
-use Rattle.c_typed_program.specs.Statements.{AllStatements, IsStatement, statement_in, statements_in}
+use Rattle.c_types_nodes.specs.Tables.{Table}
+use Rattle.c_types_program.specs.declared.statement.Statement.{Statement}
+use Rattle.c_types_program.specs.Statements.{AllStatements, IsStatement, statement_in, statements_in}
 use Rattle.c_lower_bodies.proofs.Weights.{statement_weight, statements_weight}
 
 at_place : (t : Table) (ss : List Statement) (i : ℕ) (d : Statement) → AllStatements t ss → i < length ss → IsStatement t (get_or ss i d)

@@ -1,12 +1,12 @@
 -- The code of a call, as it is put together.
 use Rattle.std.proofs.Common.{◌≡◌, ℕ, suc, List, [], ◌∷◌, ◌++◌, length, Some, refl, sym, ap, ◌∙◌, append_assoc}
 use Rattle.c_code.specs.declared.instr.Instr.{Instr}
-use Rattle.c_typing.specs.TypedTree.{Typed, Callee, Values, AFunction}
-use Rattle.c_typed_table.specs.declared.ids.NodeId.{NodeId}
-use Rattle.c_typed_table.specs.Parts.{typed_in, values}
-use Rattle.c_typed_table.specs.Tables.{IsFunctionAt, Table, callee_at, node_at, typed_of}
-use Rattle.c_placement.specs.Placement.{count}
-use Rattle.c_placement.specs.Code.{Making, call_code, callee_code, values_code}
+use Rattle.c_types_rules.specs.TypedTree.{Typed, Callee, Values, AFunction}
+use Rattle.c_types_nodes.specs.declared.ids.NodeId.{NodeId}
+use Rattle.c_types_nodes.specs.Parts.{typed_in, values}
+use Rattle.c_types_nodes.specs.Tables.{IsFunctionAt, Table, callee_at, node_at, typed_of}
+use Rattle.c_lower_rules.specs.Placement.{count}
+use Rattle.c_lower_rules.specs.Code.{Making, call_code, callee_code, values_code}
 use Rattle.c_lower_bodies.specs.TypedCode.{call_of, calling_code, typed_code}
 
 pub values_counted : (xs : List Typed) (ids : List NodeId) → count (values xs ids) ≡ length ids

@@ -2,7 +2,7 @@
 use Rattle.std.proofs.Common.{◌≡◌, ℕ, suc, ◌+◌, ◌-◌, ◌≤◌, List, [], ◌∷◌, ◌++◌, length, refl, sym, ap, ◌∙◌, append_assoc, length-append, arith}
 use Rattle.c_code.specs.declared.instr.Instr.{Instr}
 use Rattle.c_code.specs.declared.instr.Instr.TheVariants.{GoBack, GoOn, SkipIfZero, Turn}
-use Rattle.c_placement.specs.Code.{one}
+use Rattle.c_lower_rules.specs.Code.{one}
 use Rattle.c_lower_bodies.specs.TypedCode.{Turns}
 
 -- an instruction in the place of the one that so many follow
@@ -15,13 +15,13 @@ longer part old new e = let l : length new ≡ length part + length old = ap len
 
 module _ (old : List Instr) (end : ℕ) (at : end ≡ length old) where
   -- where a part was put before old and one instruction
-  behind : (part : List Instr) (i : Instr) → length (part ++ (i ∷ old)) ≡ length part + 1 + end
-  behind part i = omega (arith, length-append part (i ∷ old))
+  following : (part : List Instr) (i : Instr) → length (part ++ (i ∷ old)) ≡ length part + 1 + end
+  following part i = omega (arith, length-append part (i ∷ old))
 
   -- the way back is put right, and the Turn before the loop
   pub turned : (inner : List Instr) (code new last : List Instr) → code ≡ inner ++ (GoBack 0 ∷ old) → Replaced code end (GoBack (length code - end - 1)) new → last ≡ Turn ∷ new → last ≡ (Turn ∷ (inner ++ one (GoBack (length inner)))) ++ old
   turned inner code new last ec put el =
-      let long : length code ≡ length inner + 1 + end = ap length ec ∙ behind inner (GoBack 0) in
+      let long : length code ≡ length inner + 1 + end = ap length ec ∙ following inner (GoBack 0) in
       let by : length code - end - 1 ≡ length inner = omega arith in
       let right : new ≡ inner ++ (GoBack (length inner) ∷ old) = put inner old (GoBack 0) ec (sym at) ∙ ap (λ m. inner ++ (GoBack m ∷ old)) by in
       el ∙ ap (λ l. Turn ∷ l) (right ∙ sym (append_assoc inner (one (GoBack (length inner))) old))
@@ -58,7 +58,7 @@ module _ (old : List Instr) (end : ℕ) (at : end ≡ length old) where
       let s2 : c2 ≡ skip ∷ (GoBack 0 ∷ old) = e2 ∙ ap (λ l. skip ∷ l) e1 in
       let s3 : c3 ≡ (value ++ one skip) ++ (GoBack 0 ∷ old) = e3 ∙ (ap (λ l. value ++ l) s2 ∙ sym (append_assoc value (one skip) (GoBack 0 ∷ old))) in
       let lv : length (value ++ one skip) ≡ length value + 1 = omega (arith, length-append value (one skip)) in
-      let l3 : length c3 ≡ length value + 1 + 1 + end = ap length s3 ∙ (behind (value ++ one skip) (GoBack 0) ∙ ap (λ n. n + 1 + end) lv) in
+      let l3 : length c3 ≡ length value + 1 + 1 + end = ap length s3 ∙ (following (value ++ one skip) (GoBack 0) ∙ ap (λ n. n + 1 + end) lv) in
       let ds : length c3 - end ≡ length value + 2 = omega arith in
       let da : length c3 - test ≡ 0 = omega arith in
       let body = f (length value + 2) 0 in
@@ -79,14 +79,14 @@ module _ (old : List Instr) (end : ℕ) (at : end ≡ length old) where
       new ≡ (Turn ∷ (head ++ (body ++ (final ++ one (GoBack (length head + length body + length final)))))) ++ old)
   for_made test final f next c1 c2 c3 c4 new e1 e2 ea e3 e4 turns =
       let s2 : c2 ≡ final ++ (GoBack 0 ∷ old) = e2 ∙ ap (λ l. final ++ l) e1 in
-      let l2 : length c2 ≡ length final + 1 + end = ap length s2 ∙ behind final (GoBack 0) in
+      let l2 : length c2 ≡ length final + 1 + end = ap length s2 ∙ following final (GoBack 0) in
       let ds : length c2 - end ≡ length final + 1 = omega arith in
       let da : length c2 - next ≡ 0 = omega arith in
       let body = f (length final + 1) 0 in
       let s3 : c3 ≡ (body ++ final) ++ (GoBack 0 ∷ old) =
       e3 ∙ (ap (λ n. f n (length c2 - next) ++ c2) ds ∙ (ap (λ n. f (length final + 1) n ++ c2) da ∙ (ap (λ l. body ++ l) s2 ∙ sym (append_assoc body final (GoBack 0 ∷ old))))) in
       let lb : length (body ++ final) ≡ length body + length final = length-append body final in
-      let l3 : length c3 ≡ length body + length final + 1 + end = ap length s3 ∙ (behind (body ++ final) (GoBack 0) ∙ ap (λ n. n + 1 + end) lb) in
+      let l3 : length c3 ≡ length body + length final + 1 + end = ap length s3 ∙ (following (body ++ final) (GoBack 0) ∙ ap (λ n. n + 1 + end) lb) in
       let over : length c3 - end ≡ length body + length final + 1 = omega arith in
       let head = test (length body + length final + 1) in
       let inner = head ++ (body ++ final) in

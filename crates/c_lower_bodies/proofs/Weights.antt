@@ -1,7 +1,7 @@
 -- How many parts an expression has.
 use Rattle.std.proofs.Common.{ℕ, ◌+◌}
-use Rattle.c_typing.specs.TypedTree as tree
-use Rattle.c_typing.specs.TypedTree.{Object, Value, Values, Callee, Typed, AnObject, AFunction, AValue, GlobalObject, LocalObject, TextObject, Pointed, Element, MemberOf, Constant, FunctionAddress, ReadOf, AddressOf, Convert, Negate, Complement, Arithmetic, PointerSum, PointerDifference, PointerComparison, Not, Both, Either, Choice, Sequence, Assigned, Changed, Moved, Stepped, CallOf, NoValues, MoreValues, SourceFunction, BuiltinFunction, Through}
+use Rattle.c_types_rules.specs.TypedTree as tree
+use Rattle.c_types_rules.specs.TypedTree.{Object, Value, Values, Callee, Typed, AnObject, AFunction, AValue, GlobalObject, LocalObject, TextObject, Pointed, Element, MemberOf, Constant, FunctionAddress, ReadOf, AddressOf, Convert, Negate, Complement, Arithmetic, PointerSum, PointerDifference, PointerComparison, Not, Both, Either, Choice, Sequence, Assigned, Changed, Moved, Stepped, CallOf, NoValues, MoreValues, SourceFunction, BuiltinFunction, Through}
 
 abbrev mutual
   pub object_weight : Object → ℕ

@@ -2,10 +2,10 @@
 use Rattle.std.specs.Prelude.{◌≡◌, ℕ, ◌+◌, List, [], ◌∷◌, ◌++◌, length}
 use Rattle.c_code.specs.declared.instr.Instr.{Instr}
 use Rattle.c_code.specs.declared.instr.Instr.TheVariants.{GoBack, SkipIfZero, Turn}
-use Rattle.c_type_model.specs.Types.{CType}
-use Rattle.c_typing.specs.TypedTree.{Callee, Value, Values, Statement, Initialise, Typed, AnObject, AFunction, AValue}
-use Rattle.c_placement.specs.Placement.{count}
-use Rattle.c_placement.specs.Code.{Making, call_code, callee_code, object_code, one, statement_code, value_code, values_code}
+use Rattle.c_types_model.specs.Types.{CType}
+use Rattle.c_types_rules.specs.TypedTree.{Callee, Value, Values, Statement, Initialise, Typed, AnObject, AFunction, AValue}
+use Rattle.c_lower_rules.specs.Placement.{count}
+use Rattle.c_lower_rules.specs.Code.{Making, call_code, callee_code, object_code, one, statement_code, value_code, values_code}
 
 -- the address of an object, the value of a pointer to a function, or a value
 abbrev pub typed_code : Typed → Making → List Instr
@@ -27,12 +27,12 @@ calling_code (AValue v) x n = []
 abbrev pub initialise_code : (place : ℕ) → CType → Value → Making → List Instr
 initialise_code place t v x = statement_code (Initialise place t v) x 0 0
 
--- a statement that is passed with so many instructions behind it where a value is 0
+-- a statement that is passed with so many instructions after it where a value is 0
 abbrev pub guarded_code : Value → Statement → Making → (stop again more : ℕ) → List Instr
 guarded_code v s x stop again more =
     let body = statement_code s x stop again in
     value_code v x ++ (SkipIfZero (length body + more) ∷ body)
 
--- a loop has its head, and its way back leads there, where so many instructions are behind the loop
+-- a loop has its head, and its way back leads there, where so many instructions are after the loop
 abbrev pub Turns : (before after : List Instr) → (end : ℕ) → Type 0
 Turns before after end = (inner old : List Instr) → before ≡ inner ++ (GoBack 0 ∷ old) → length old ≡ end → after ≡ (Turn ∷ (inner ++ one (GoBack (length inner)))) ++ old

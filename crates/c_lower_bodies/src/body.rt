@@ -1,18 +1,18 @@
 //! Code of bodies.
 
 ghost use Rattle.std.specs.Prelude.{◌≡◌, IfOk};
-ghost use Rattle.c_typed_program.specs.Declarations.{body_in};
-ghost use Rattle.c_typed_program.specs.Statements.{IsStatement};
-ghost use Rattle.c_placement.specs.Code.{body_code};
+ghost use Rattle.c_types_program.specs.Declarations.{body_in};
+ghost use Rattle.c_types_program.specs.Statements.{IsStatement};
+ghost use Rattle.c_lower_rules.specs.Code.{body_code};
 ghost use Rattle.c_lower_bodies.specs.Making.{making};
 
 use crate::backward::Backward;
 use crate::emitter::Emitter;
-use c_typed_program::Body;
+use c_types_program::Body;
 use std::alloc::{AllocError, Global};
 
 impl Emitter<'_, '_, '_> {
-    /// The code of a body, behind whose statements the result 0 is given.
+    /// The code of a body, after whose statements the result 0 is given.
     ///
     /// `AllocError` where there is no memory, or where a number is too great for an instruction.
     pub fn body(&self, alloc: Global, body: &Body) -> Result<Backward, AllocError>

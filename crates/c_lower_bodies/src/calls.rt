@@ -2,15 +2,15 @@
 
 ghost use Rattle.std.specs.Prelude.{◌≡◌, ◌++◌, IfOk, OnOk};
 ghost use Rattle.std.specs.List.{All};
-ghost use Rattle.c_typed_table.specs.Parts.{values};
-ghost use Rattle.c_typed_table.specs.Tables.{IsFunctionAt, IsNode, IsValueAt, callee_at, node_at, typed_of};
+ghost use Rattle.c_types_nodes.specs.Parts.{values};
+ghost use Rattle.c_types_nodes.specs.Tables.{IsFunctionAt, IsNode, IsValueAt, callee_at, node_at, typed_of};
 ghost use Rattle.c_lower_bodies.specs.Making.{making};
 ghost use Rattle.c_lower_bodies.specs.TypedCode.{call_of, calling_code};
 
 use crate::backward::Backward;
 use crate::emitter::Emitter;
 use c_code::Instr;
-use c_typed_table::{Node, NodeId};
+use c_types_nodes::{Node, NodeId};
 use std::alloc::AllocError;
 
 // The number in 8 bits. `AllocError` where it has more.

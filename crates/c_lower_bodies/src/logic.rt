@@ -1,15 +1,15 @@
 //! Code of what is evaluated in part, or one after another.
 
 ghost use Rattle.std.specs.Prelude.{◌≡◌, ◌++◌, OnOk};
-ghost use Rattle.c_typed_table.specs.Tables.{IsValueAt, value_at};
-ghost use Rattle.c_typing.specs.TypedTree as tree;
-ghost use Rattle.c_placement.specs.Code.{value_code};
+ghost use Rattle.c_types_nodes.specs.Tables.{IsValueAt, value_at};
+ghost use Rattle.c_types_rules.specs.TypedTree as tree;
+ghost use Rattle.c_lower_rules.specs.Code.{value_code};
 ghost use Rattle.c_lower_bodies.specs.Making.{making};
 
 use crate::backward::Backward;
 use crate::emitter::Emitter;
 use c_code::{Change, Instr};
-use c_typed_table::NodeId;
+use c_types_nodes::NodeId;
 use std::alloc::AllocError;
 
 impl Emitter<'_, '_, '_> {

@@ -3,20 +3,20 @@
 ghost use Rattle.std.specs.Prelude.{◌≡◌, ◌<◌, ◌++◌, length, OnOk};
 ghost use Rattle.c_code.specs.declared.instr.Change.TheVariants as change;
 ghost use Rattle.c_code.specs.declared.instr.Instr.TheVariants as instr;
-ghost use Rattle.c_type_table.specs.Tables.{type_at};
-ghost use Rattle.c_typed_table.specs.Parts.{sum_in};
-ghost use Rattle.c_typed_table.specs.Tables.{IsObjectAt, IsValueAt, object_at, value_at};
-ghost use Rattle.c_typing.specs.TypedTree as tree;
-ghost use Rattle.c_typing.specs.TypedTree.{object_type};
-ghost use Rattle.c_meaning.specs.Context.{member_offset};
-ghost use Rattle.c_placement.specs.Code.{object_code, one, sum_code, value_code};
+ghost use Rattle.c_types_table.specs.Tables.{type_at};
+ghost use Rattle.c_types_nodes.specs.Parts.{sum_in};
+ghost use Rattle.c_types_nodes.specs.Tables.{IsObjectAt, IsValueAt, object_at, value_at};
+ghost use Rattle.c_types_rules.specs.TypedTree as tree;
+ghost use Rattle.c_types_rules.specs.TypedTree.{object_type};
+ghost use Rattle.c_semantics.specs.Context.{member_offset};
+ghost use Rattle.c_lower_rules.specs.Code.{object_code, one, sum_code, value_code};
 ghost use Rattle.c_lower_bodies.specs.Making.{making};
 
 use crate::backward::Backward;
 use crate::emitter::Emitter;
 use c_code::{Change, Combine, Instr};
-use c_type_table::TypeId;
-use c_typed_table::{NodeId, Sum};
+use c_types_nodes::{NodeId, Sum};
+use c_types_table::TypeId;
 use r2_num::IntKind;
 use std::alloc::AllocError;
 

@@ -2,18 +2,18 @@
 
 ghost use Rattle.std.specs.Prelude.{◌≡◌, ◌<◌, ◌++◌, length, OnOk};
 ghost use Rattle.c_code.specs.declared.instr.Instr.TheVariants.{Drop};
-ghost use Rattle.c_type_table.specs.Tables.{type_at};
-ghost use Rattle.c_typed_table.specs.Tables.{IsValueAt, value_at};
-ghost use Rattle.c_typed_program.specs.Statements.{IsMaybeAt, maybe_at};
-ghost use Rattle.c_placement.specs.Code.{last_code, one, return_code, test_code, value_code};
+ghost use Rattle.c_types_table.specs.Tables.{type_at};
+ghost use Rattle.c_types_nodes.specs.Tables.{IsValueAt, value_at};
+ghost use Rattle.c_types_program.specs.Statements.{IsMaybeAt, maybe_at};
+ghost use Rattle.c_lower_rules.specs.Code.{last_code, one, return_code, test_code, value_code};
 ghost use Rattle.c_lower_bodies.specs.Making.{making};
 ghost use Rattle.c_lower_bodies.specs.TypedCode.{initialise_code};
 
 use crate::backward::Backward;
 use crate::emitter::Emitter;
 use c_code::{Instr, Push};
-use c_type_table::TypeId;
-use c_typed_table::NodeId;
+use c_types_nodes::NodeId;
+use c_types_table::TypeId;
 use std::alloc::AllocError;
 
 impl Emitter<'_, '_, '_> {

@@ -1,21 +1,21 @@
 //! Code of statements.
 
 ghost use Rattle.std.specs.Prelude.{◌≡◌, ◌-◌, ◌<◌, ◌≤◌, ◌++◌, length, OnOk};
-ghost use Rattle.c_typed_table.specs.Tables.{IsValueAt, value_at};
-ghost use Rattle.c_typed_program.specs.Statements.{AllStatements, IsMaybeAt, IsStatement, maybe_at, statement_in, statements_in};
-ghost use Rattle.c_typing.specs.TypedTree as tree;
-ghost use Rattle.c_placement.specs.Code.{statement_code, statements_code};
+ghost use Rattle.c_types_nodes.specs.Tables.{IsValueAt, value_at};
+ghost use Rattle.c_types_program.specs.Statements.{AllStatements, IsMaybeAt, IsStatement, maybe_at, statement_in, statements_in};
+ghost use Rattle.c_types_rules.specs.TypedTree as tree;
+ghost use Rattle.c_lower_rules.specs.Code.{statement_code, statements_code};
 ghost use Rattle.c_lower_bodies.specs.Making.{making};
 ghost use Rattle.c_lower_bodies.specs.TypedCode.{Turns, guarded_code};
 
 use crate::backward::Backward;
 use crate::emitter::Emitter;
 use c_code::Instr;
-use c_typed_program::Statement;
-use c_typed_table::NodeId;
+use c_types_nodes::NodeId;
+use c_types_program::Statement;
 use std::alloc::AllocError;
 
-// The head of a loop, to which the way back leads; so many instructions are behind the loop.
+// The head of a loop, to which the way back leads; so many instructions are after the loop.
 fn turn(code: &mut Backward, end: u32) -> Result<(), AllocError>
     requires { end < length code.old }
     ensures { OnOk result (Turns code.old code.new end) }
@@ -119,7 +119,7 @@ impl Emitter<'_, '_, '_> {
         self.value(code, condition)
     }
 
-    // Each round begins behind the Turn: a `break` leads behind the way back, and a `continue` onto it.
+    // Each round begins after the Turn: a `break` leads after the way back, and a `continue` onto it.
     #[cycle(statements)]
     fn while_loop(
         &self,

@@ -1,18 +1,18 @@
 //! Code of what changes objects.
 
 ghost use Rattle.std.specs.Prelude.{◌≡◌, ◌++◌, IfOk, OnOk};
-ghost use Rattle.c_typed_table.specs.Parts.{given_in, way_in};
-ghost use Rattle.c_typed_table.specs.Tables.{IsObjectAt, IsValueAt, object_at, value_at};
-ghost use Rattle.c_typing.specs.TypedTree as tree;
-ghost use Rattle.c_placement.specs.Code.{move_code, value_code};
-ghost use Rattle.c_placement.specs.Placement.{keeps_old, step_by};
+ghost use Rattle.c_types_nodes.specs.Parts.{given_in, way_in};
+ghost use Rattle.c_types_nodes.specs.Tables.{IsObjectAt, IsValueAt, object_at, value_at};
+ghost use Rattle.c_types_rules.specs.TypedTree as tree;
+ghost use Rattle.c_lower_rules.specs.Code.{move_code, value_code};
+ghost use Rattle.c_lower_rules.specs.Placement.{keeps_old, step_by};
 ghost use Rattle.c_lower_bodies.specs.Making.{making};
 
 use crate::backward::Backward;
 use crate::conversions::put_conversion;
 use crate::emitter::Emitter;
 use c_code::{Change, Combine, Instr};
-use c_typed_table::{Given, NodeId, Way};
+use c_types_nodes::{Given, NodeId, Way};
 use r2_num::{IntKind, Op};
 use std::alloc::AllocError;
 

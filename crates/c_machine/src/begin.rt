@@ -6,7 +6,7 @@ ghost use Rattle.c_code.specs.declared.activation.Waiting.TheVariants.{ForBelow,
 ghost use Rattle.c_code.specs.Valid.{most_values};
 ghost use Rattle.c_code.specs.Fits.{values_of, waits_of};
 ghost use Rattle.c_code.specs.Machine.{Entering, uncover as uncovered};
-ghost use Rattle.c_stacks.specs.Stacks.{held, room_of};
+ghost use Rattle.c_machine_stack.specs.Stacks.{held, room_of};
 ghost use Rattle.c_machine.specs.declared.state.State.TheVariants.{Calling as AtCalling};
 ghost use Rattle.c_machine.specs.Positions.{laid, config};
 ghost use Rattle.c_machine.specs.Moves.{MayBegin, begun, crosses as crosses_in, kept, waiting as waiting_of};
@@ -15,7 +15,7 @@ use crate::position::Position;
 use crate::state::{Entry, State};
 use crate::tops::{has_args, is_face};
 use c_code::{Call, Code, Placed, Side, Waiting};
-use c_stacks::Stack;
+use c_machine_stack::Stack;
 
 impl Position {
     // A function begins, at a call or outside of all.

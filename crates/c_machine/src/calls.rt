@@ -16,7 +16,7 @@ use crate::thread::Thread;
 use crate::tops::check;
 use crate::wants::{Answer, Want};
 use c_code::{Code, Placed, Side};
-use c_stacks::Stack;
+use c_machine_stack::Stack;
 use std::alloc::{AllocError, Global};
 
 impl Thread {

@@ -2,13 +2,13 @@
 
 ghost use Rattle.std.specs.Prelude.{◌≡◌, ◌+◌, ◌<◌, ◌^◌, length, slice_get};
 ghost use Rattle.c_code.specs.Machine.{Flat, next, at_place, address_of, in_frame as frame_address, push as pushed};
-ghost use Rattle.c_stacks.specs.Stacks.{held, room_of};
+ghost use Rattle.c_machine_stack.specs.Stacks.{held, room_of};
 ghost use Rattle.c_machine.specs.Positions.{laid};
 ghost use Rattle.c_machine.specs.Silent.{Leads, passes};
 
 use crate::operators::{change, combine};
 use c_code::{Activation, Instr, Place, Placed, Push};
-use c_stacks::Stack;
+use c_machine_stack::Stack;
 
 // What an instruction does that makes no mark: the one that it leads to; `None` where it is another one, and nothing changes.
 pub(crate) fn effect(
@@ -92,7 +92,7 @@ fn push_value(what: &Push, a: &Activation, placed: &Placed) -> u64
     }
 }
 
-// The address of the byte so far behind the first byte of the frame.
+// The address of the byte so far after the first byte of the frame.
 pub(crate) fn in_frame(a: &Activation, offset: u64) -> u64
     ensures { result ≡ frame_address a.now offset }
 {

@@ -1,11 +1,11 @@
 // What an answer does to a thread.
 
 ghost use Rattle.std.specs.Prelude.{◌≡◌, ◌<◌, [], ◌∷◌, length, drop};
-ghost use Rattle.places.specs.declared.placed.Placed.{Placed as Places};
+ghost use Rattle.memory_map.specs.declared.placed.Placed.{Placed as Places};
 ghost use Rattle.c_code.specs.Machine.{Going, close, framed, give as given, Laid, take_args, with_args, awaiting, returning, uncover as uncovered};
 ghost use Rattle.c_code.specs.Fits.{values_of};
 ghost use Rattle.c_code.specs.Valid.{IsValid};
-ghost use Rattle.c_stacks.specs.Stacks.{held, room_of};
+ghost use Rattle.c_machine_stack.specs.Stacks.{held, room_of};
 ghost use Rattle.c_machine.specs.Positions.{laid, config, IsElsewhere};
 ghost use Rattle.marks.specs.Wants.{Answer as Answers};
 ghost use Rattle.c_machine.specs.Wants.{told};

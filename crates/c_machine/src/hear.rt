@@ -3,7 +3,7 @@
 ghost use Rattle.std.specs.Prelude.{◌≡◌, ◌+◌, ◌<◌, ◌^◌, length};
 ghost use Rattle.c_code.specs.Machine.{Laid};
 ghost use Rattle.c_code.specs.declared.instr.Instr.TheVariants.{Call as ByNumber};
-ghost use Rattle.c_stacks.specs.Stacks.{held, room_of};
+ghost use Rattle.c_machine_stack.specs.Stacks.{held, room_of};
 ghost use Rattle.c_machine.specs.Heard.{Hears};
 ghost use Rattle.c_machine.specs.Wants.{told};
 
@@ -11,7 +11,7 @@ use crate::operators::convert;
 use crate::tops::{has_args, is_pool};
 use crate::wants::Answer;
 use c_code::{Activation, Instr};
-use c_stacks::Stack;
+use c_machine_stack::Stack;
 
 // What the answer does at an instruction: the one that it leads to; `None` where the activation ends, and nothing changes.
 pub(crate) fn hear(

@@ -2,7 +2,7 @@
 
 ghost use Rattle.std.specs.Prelude.{◌≡◌, ◌%◌, ◌^◌, Bool, ℕ, List, [], length, Some, Option};
 ghost use Rattle.marks.specs.Ranges.{number_of_bytes, bytes_of_number};
-ghost use Rattle.places.specs.declared.placed.Placed.{Placed as Places};
+ghost use Rattle.memory_map.specs.declared.placed.Placed.{Placed as Places};
 ghost use Rattle.c_code.specs.declared.instr.Instr.TheVariants as instrs;
 ghost use Rattle.c_code.specs.Values.{bytes_of};
 ghost use Rattle.c_code.specs.Valid.{IsValid};
@@ -10,7 +10,7 @@ ghost use Rattle.c_code.specs.declared.activation.Activation.{Activation as Acti
 ghost use Rattle.c_code.specs.declared.activation.Waiting.{Waiting as Waits};
 ghost use Rattle.c_code.specs.Machine.{Laid, act, action, close, first, take_args, with_args, returning};
 ghost use Rattle.c_machine.specs.declared.wants.Want.TheVariants.{Store as ShownStore};
-ghost use Rattle.c_stacks.specs.Stacks.{held};
+ghost use Rattle.c_machine_stack.specs.Stacks.{held};
 ghost use Rattle.c_machine.specs.Positions.{laid, config};
 ghost use Rattle.c_machine.specs.Wants.{shown};
 

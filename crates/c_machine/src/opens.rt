@@ -1,7 +1,7 @@
 //! How many activations of functions are open.
 
 ghost use Rattle.std.specs.Prelude.{◌≡◌, ◌+◌, ◌≤◌, [], ◌∷◌};
-ghost use Rattle.c_stacks.specs.Stacks.{held};
+ghost use Rattle.c_machine_stack.specs.Stacks.{held};
 ghost use Rattle.c_machine.specs.Positions.{config};
 ghost use Rattle.c_machine.specs.Moves.{one as one_of, waits_on, open_on};
 

@@ -12,7 +12,6 @@ ghost use Rattle.c_machine.specs.Operators.{number, written_unless};
 use c_code::{Change, Combine};
 use r2_num::{IntKind, Op};
 
-
 // The bits of a kind, and how far its least value is below 0.
 #[derive(Clone, Copy)]
 struct Bits {

@@ -2,7 +2,7 @@
 
 use crate::state::State;
 use c_code::Waiting;
-use c_stacks::Stack;
+use c_machine_stack::Stack;
 
 /// Where a thread is, its values, and what waits for the ends of the functions that it is in.
 #[derive(Drop)]

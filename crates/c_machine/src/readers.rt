@@ -1,12 +1,12 @@
 //! What a thread tells of itself.
 
 ghost use Rattle.std.specs.Prelude.{◌≡◌, IsTrue, IsFalse};
-ghost use Rattle.places.specs.declared.placed.Placed.{Placed as Places};
+ghost use Rattle.memory_map.specs.declared.placed.Placed.{Placed as Places};
 ghost use Rattle.c_code.specs.Frames.{are_values as values_are};
 ghost use Rattle.c_machine.specs.Callers.{crosses_at};
 ghost use Rattle.c_machine.specs.Moves.{IsCallOf};
 ghost use Rattle.c_machine.specs.Positions.{laid, config};
-ghost use Rattle.c_stacks.specs.Stacks.{held};
+ghost use Rattle.c_machine_stack.specs.Stacks.{held};
 ghost use Rattle.c_machine.specs.Readers.{args_of, returned_args, side_of, is_indirect};
 
 use crate::begin::crosses;

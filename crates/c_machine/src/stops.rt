@@ -2,12 +2,12 @@
 
 ghost use Rattle.std.specs.Prelude.{◌≡◌, ◌+◌, ◌^◌, ◌<◌, List, Some, IfSome, IfNone};
 ghost use Rattle.marks.specs.declared.side.Side.{Side};
-ghost use Rattle.places.specs.declared.placed.Placed.{Placed as Places};
+ghost use Rattle.memory_map.specs.declared.placed.Placed.{Placed as Places};
 ghost use Rattle.c_code.specs.declared.activation.Waiting.{Waiting};
 ghost use Rattle.c_code.specs.declared.instr.Instr.TheVariants.{Call as ByNumber, CallPointer as ByPointer};
 ghost use Rattle.c_code.specs.Machine.{Laid, Config, Under, act};
 ghost use Rattle.c_code.specs.Valid.{IsValid};
-ghost use Rattle.c_stacks.specs.Stacks.{held};
+ghost use Rattle.c_machine_stack.specs.Stacks.{held};
 ghost use Rattle.c_machine.specs.Positions.{laid, config};
 ghost use Rattle.c_machine.specs.Moves.{EntersBody, open_on, ready, at_call};
 

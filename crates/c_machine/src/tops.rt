@@ -1,18 +1,18 @@
 // The arguments on top of the values, and what is known of the functions that are called with them.
 
 ghost use Rattle.std.specs.Prelude.{◌≡◌, ℕ, ◌+◌, ◌<◌, ◌≤◌, List, [], length, take, drop, reverse, IsTrue, IsFalse, IfSome, IfNone, Some, None};
-ghost use Rattle.places.specs.declared.placed.Placed.{Placed as Places};
+ghost use Rattle.memory_map.specs.declared.placed.Placed.{Placed as Places};
 ghost use Rattle.c_code.specs.declared.activation.Activation.{Activation};
 ghost use Rattle.c_code.specs.declared.activation.Waiting.{Waiting};
 ghost use Rattle.c_code.specs.Valid.{IsValid};
 ghost use Rattle.c_code.specs.Machine.{Flat, Laid, take_args, with_args, pointer_act, to_callee, Stuck, is_pool as pool_of, is_face as face_of, callee as callee_of, func_of, entry_of, has_sig as has_type};
 ghost use Rattle.c_code.specs.MarkLists.{result_shape as shape_of};
-ghost use Rattle.c_stacks.specs.Stacks.{held};
+ghost use Rattle.c_machine_stack.specs.Stacks.{held};
 ghost use Rattle.c_machine.specs.Positions.{laid};
 ghost use Rattle.c_machine.specs.Wants.{frame_size as size_of};
 
 use c_code::{Code, Placed, Shape, Side};
-use c_stacks::Stack;
+use c_machine_stack::Stack;
 use marks::function_address;
 
 // Whether there are so many values.

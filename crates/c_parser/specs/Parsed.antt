@@ -5,7 +5,7 @@ use Rattle.c_syntax.specs.Nodes.{Nodes}
 use Rattle.c_syntax.specs.Syntax.{Decls}
 use Rattle.c_syntax.specs.Sources.{Spells}
 use Rattle.c_syntax.specs.Stands.{Holds}
-use Rattle.c_depth.specs.Deep.{IsShallow, IsDeepAt}
+use Rattle.c_parser_depth.specs.Deep.{IsShallow, IsDeepAt}
 use Rattle.c_parser.specs.declared.parsing.ParseError.{ParseError}
 use Rattle.c_parser.specs.declared.parsing.ParseError.TheVariants as errors
 
@@ -14,7 +14,7 @@ abbrev pub IsParsed : List Token → Nodes → Type 0
 IsParsed ts t = (ds : Decls) × Spells ts ds × Holds t ds × IsShallow ds
 
 -- no source has the tokens, or one that is deep there; nothing where memory was wanting
-abbrev pub IsRefused : List Token → ParseError → Type 0
-IsRefused ts (errors.Token o) = (ds : Decls) → Spells ts ds → ⊥
-IsRefused ts (errors.Deep o) = (ds : Decls) × Spells ts ds × IsDeepAt ds o
-IsRefused ts errors.Memory = Unit {0}
+abbrev pub IsParseError : List Token → ParseError → Type 0
+IsParseError ts (errors.Token o) = (ds : Decls) → Spells ts ds → ⊥
+IsParseError ts (errors.Deep o) = (ds : Decls) × Spells ts ds × IsDeepAt ds o
+IsParseError ts errors.Memory = Unit {0}

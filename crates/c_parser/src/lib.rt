@@ -4,4 +4,3 @@
 mod parsing;
 
 pub use parsing::{ParseError, parse};
-

@@ -1,14 +1,14 @@
 // Whole sources.
 
 ghost use Rattle.std.specs.Prelude.{◌≡◌, IfOk, IfErr};
-ghost use Rattle.c_parser.specs.Parsed.{IsParsed, IsRefused};
-ghost use Rattle.c_postfix.specs.Builds.{Found};
+ghost use Rattle.c_parser.specs.Parsed.{IsParsed, IsParseError};
+ghost use Rattle.c_parser_actions.specs.Builds.{Found};
 
-use c_depth::too_deep;
 use c_lexer::Token;
-use c_postfix::{Action, PostfixError, actions};
+use c_parser_actions::{Action, PostfixError, actions};
+use c_parser_depth::too_deep;
+use c_parser_tree::{BuildError, build};
 use c_syntax::Tree;
-use c_tree::{BuildError, build};
 use std::alloc::{AllocError, Global};
 
 /// Why tokens have no tree.
@@ -39,7 +39,7 @@ impl From<AllocError> for ParseError {
 /// The actions that build the source which has these tokens.
 fn postfix(alloc: Global, tokens: &[Token]) -> Result<Vec<Action>, ParseError>
     ensures found { IfOk result (λ v. Found tokens.now v.items) }
-    ensures refused { IfErr result (λ e. IsRefused tokens.now e) }
+    ensures refused { IfErr result (λ e. IsParseError tokens.now e) }
 {
     match actions(alloc, tokens) {
         Ok(actions) => Ok(actions),
@@ -48,14 +48,14 @@ fn postfix(alloc: Global, tokens: &[Token]) -> Result<Vec<Action>, ParseError>
     }
 }
 
-/// The tree of the source that has these tokens. Tokens are those of one source at most (`c_postfix::one_tree`).
+/// The tree of the source that has these tokens. Tokens are those of one source at most (`c_parser_actions::one_tree`).
 ///
 /// Depth is tested before a tree is built, so that a tree's values in braces are dropped without deep recursion.
 pub fn parse(alloc: Global, tokens: &[Token]) -> Result<Tree, ParseError>
     // The tree is that of the source which has these tokens, and no more than 200 nodes hold any of its nodes.
     ensures tree { IfOk result (λ t. IsParsed tokens.now t) }
     // Tokens are refused that no source has, or a source with a node that more than 200 others hold.
-    ensures refused { IfErr result (λ e. IsRefused tokens.now e) }
+    ensures refused { IfErr result (λ e. IsParseError tokens.now e) }
 {
     let actions = postfix(alloc, tokens)?;
     if let Some(place) = too_deep(alloc, actions.as_slice())? {

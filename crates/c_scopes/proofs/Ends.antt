@@ -1,4 +1,4 @@
--- Places after a binding is put behind all others, or taken from there.
+-- Places after a binding is put after all others, or taken from there.
 use Rattle.std.proofs.Common.{◌≡◌, ℕ, ◌+◌, ◌<◌, List, [], ◌∷◌, ◌++◌, length, take, Option, Some, sym, ap, subst, ◌∙◌, arith, length-append}
 use Rattle.std.specs.Prelude.{reverse, slice_set}
 use Rattle.std.proofs.lemmas.List.{length-reverse, take-append-le}
@@ -19,7 +19,7 @@ module _ {V : Type 0} where
       let turned : reverse old ≡ b ∷ reverse new = ap reverse grown ∙ reverse_push new b in
       ties_taken places b (reverse new) (subst (Ties places) turned ties)
 
-  pub front_popped : (start : ℕ) (old new : List (Binding V)) (b : Binding V) → old ≡ new ++ b ∷ [] → start < length old → take start new ≡ take start old
-  front_popped start old new b grown lt =
+  pub prefix_popped : (start : ℕ) (old new : List (Binding V)) (b : Binding V) → old ≡ new ++ b ∷ [] → start < length old → take start new ≡ take start old
+  prefix_popped start old new b grown lt =
       let size : length old ≡ length new + 1 = ap length grown ∙ length-append new (b ∷ []) in
       sym (ap (take start) grown ∙ take-append-le start new (b ∷ []) (omega arith))

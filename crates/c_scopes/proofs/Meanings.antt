@@ -10,7 +10,7 @@ use Rattle.c_scopes.specs.declared.binding.Binding.{Binding}
 use Rattle.c_scopes.specs.Scopes.{Scope, same_name, meaning_in, meaning_of, innermost}
 use Rattle.c_scopes.specs.Bindings.{Name, index_of, text_at, place_in, named, scopes_of, newest, IsNumbered, Ties, AreStarts, AreKept, innermost_start}
 use Rattle.c_scopes.proofs.Numbers.{index_within, other_name, same_number}
-use Rattle.c_scopes.proofs.Places.{newest_within, read_front, read_last}
+use Rattle.c_scopes.proofs.Places.{newest_within, read_prefix, read_last}
 
 -- a list falls into two parts, each reversed
 pub parts : {A : Type 0} (xs : List A) (n : ℕ) → reverse xs ≡ reverse (drop n xs) ++ reverse (take n xs)
@@ -66,10 +66,10 @@ module _ {V : Type 0} where
   nowhere name names [] h e = refl
   nowhere name names (b ∷ bs) h e = ap (λ t. cond t (Some b.meaning) (meaning_in name (named names bs))) (other_name name names b h.0 e) ∙ nowhere name names bs h.1 e
 
-  at_front : (b : Binding V) (bs : List (Binding V)) (p : ℕ) → p < length bs → meaning_at (reverse (b ∷ bs)) p ≡ meaning_at (reverse bs) p
-  at_front b bs p lt =
+  at_prefix : (b : Binding V) (bs : List (Binding V)) (p : ℕ) → p < length bs → meaning_at (reverse (b ∷ bs)) p ≡ meaning_at (reverse bs) p
+  at_prefix b bs p lt =
       ap (λ (xs : List (Binding V)). meaning_at xs p) (reverse-append (b ∷ []) bs)
-      ∙ ap (option_map (λ (b : Binding V). b.meaning)) (read_front (reverse bs) (b ∷ []) p (let l = length-reverse bs in omega arith))
+      ∙ ap (option_map (λ (b : Binding V). b.meaning)) (read_prefix (reverse bs) (b ∷ []) p (let l = length-reverse bs in omega arith))
 
   at_last : (b : Binding V) (bs : List (Binding V)) → meaning_at (reverse (b ∷ bs)) (length bs) ≡ Some b.meaning
   at_last b bs =
@@ -88,7 +88,7 @@ module _ {V : Type 0} where
     where
       by : (o : Option ℕ) → newest n bs ≡ o → option_and_then (meaning_from limit (reverse bs)) o ≡ option_and_then (meaning_from limit (reverse (b ∷ bs))) o
       by None e = refl
-      by (Some p) e = ap (λ m. cond (ltb p limit) None m) (sym (at_front b bs p (newest_within n bs p e)))
+      by (Some p) e = ap (λ m. cond (ltb p limit) None m) (sym (at_prefix b bs p (newest_within n bs p e)))
 
   -- the newest binding of a name says what it means in the newest part of the bindings, where it is in that part
   newest_means : (name : List ℕ) (names : List Name) (n limit : ℕ) (xs ys : List (Binding V)) → AllByRecursion (IsNumbered names) xs → index_of name names ≡ Some n → length ys ≡ limit

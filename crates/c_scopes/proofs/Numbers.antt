@@ -21,7 +21,7 @@ position_stays : {X : Type 0} (p : X → Bool) (xs ys : List X) (i : ℕ) (d : X
 position_stays p xs ys i d e =
     let h = position-Some p xs i d e in
     let longer : i < length (xs ++ ys) = let l = length-append xs ys in let a = h.0 in omega arith in
-    position_from p (xs ++ ys) i d longer (ap p (get_or-append xs ys d i h.0) ∙ h.1) (λ k lt. let in_front : k < length xs = let a = h.0 in omega arith in ap p (get_or-append xs ys d k in_front) ∙ h.2 k lt)
+    position_from p (xs ++ ys) i d longer (ap p (get_or-append xs ys d i h.0) ∙ h.1) (λ k lt. let stands_before : k < length xs = let a = h.0 in omega arith in ap p (get_or-append xs ys d k stands_before) ∙ h.2 k lt)
 
 -- a name keeps its number
 pub index_stays : (name : List ℕ) (names more : List Name) (n : ℕ) → index_of name names ≡ Some n → index_of name (names ++ more) ≡ Some n

@@ -18,10 +18,10 @@ read_other (y ∷ xs) zero (suc k) x ne = refl
 read_other (y ∷ xs) (suc i) zero x ne = refl
 read_other (y ∷ xs) (suc i) (suc k) x ne = read_other xs i k x (λ e. ne (ap suc e))
 
-pub read_front : {X : Type 0} (xs ys : List X) (k : ℕ) → k < length xs → slice_get (xs ++ ys) k ≡ slice_get xs k
-read_front [] ys k lt = absurd (omega arith)
-read_front (x ∷ xs) ys zero lt = refl
-read_front (x ∷ xs) ys (suc k) lt = read_front xs ys k (omega arith)
+pub read_prefix : {X : Type 0} (xs ys : List X) (k : ℕ) → k < length xs → slice_get (xs ++ ys) k ≡ slice_get xs k
+read_prefix [] ys k lt = absurd (omega arith)
+read_prefix (x ∷ xs) ys zero lt = refl
+read_prefix (x ∷ xs) ys (suc k) lt = read_prefix xs ys k (omega arith)
 
 pub read_last : {X : Type 0} (xs : List X) (y : X) (k : ℕ) → k ≡ length xs → slice_get (xs ++ y ∷ []) k ≡ Some y
 read_last [] y zero e = refl
@@ -58,7 +58,7 @@ module _ {V : Type 0} where
   }
     where
       by : (n : ℕ) → n < length (places ++ None ∷ []) → (n < length places) ⊎ (length places ≤ n) → slice_get (places ++ None ∷ []) n ≡ Some (newest n bs)
-      by n lt (inl in_front) = read_front places (None ∷ []) n in_front ∙ h.newest_of n in_front
+      by n lt (inl stands_before) = read_prefix places (None ∷ []) n stands_before ∙ h.newest_of n stands_before
       by n lt (inr past) = read_last places None n (let l : length (places ++ None ∷ []) ≡ length places + 1 = length-append places (None ∷ []) in omega arith) ∙ ap Some (sym (newest_past (length places) n bs h.chain past))
 
   -- after one more binding

@@ -121,7 +121,7 @@ module _ {V : Type 0} where
     ties = ties;
   }
 
-  -- after a binding was put behind the others, or refused
+  -- after a binding was put after the others, or refused
   pub kept_declared : {T E : Type 0} (r : Result T E) (names : List Name) (places new_places : List (Option ℕ)) (starts : List ℕ) (bs new_bs : List (Binding V)) (now : List (Scope V)) (name : List ℕ) (n : ℕ) (meaning : V)
       → AreKept names places starts bs → scopes_of names starts bs ≡ now → index_of name names ≡ Some n
       → OnOk r (new_bs ≡ bound n meaning bs) → OnErr r (new_bs ≡ bs) → Ties new_places (reverse new_bs) → length new_places ≡ length places

@@ -10,7 +10,7 @@ use Rattle.c_scopes.specs.Scopes.{Scope, same_name}
 abbrev pub Name : Type 0
 Name = Vec ℕ Global
 
--- the second list is the first, with more behind it
+-- the second list is the first, with more after it
 abbrev pub Continues : List Name → List Name → Type 0
 Continues old new = (more : List Name) × (new ≡ old ++ more)
 
@@ -66,7 +66,7 @@ abbrev pub innermost_start : List ℕ → ℕ
 innermost_start [] = 0
 innermost_start (start ∷ starts) = start
 
--- starts of scopes, the innermost first: none behind the end, and none behind an inner one
+-- starts of scopes, the innermost first: none after the end, and none after an inner one
 abbrev pub AreStarts : List ℕ → ℕ → Type 0
 AreStarts [] end = Unit {0}
 AreStarts (start ∷ starts) end = (start ≤ end) × AreStarts starts start

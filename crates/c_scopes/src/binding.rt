@@ -14,7 +14,7 @@ pub(crate) struct Binding<V: Copy> {
     pub(crate) hidden: Option<usize>,
 }
 
-/// Puts a binding of a name behind all others.
+/// Puts a binding of a name after all others.
 pub(crate) fn bind<V: Copy>(
     bindings: &mut Vec<Binding<V>>,
     places: &mut [Option<usize>],

@@ -6,26 +6,26 @@ use borrow.Author.Tests.{leb-true}
 use Rattle.std.specs.List.{All}
 use Rattle.std.proofs.lemmas.List.Elements.{All-nil, All-cons, All-append}
 use Rattle.c_scopes.specs.Scopes.{innermost}
-use Rattle.c_type_model.specs.Types.{CType}
-use Rattle.c_type_model.specs.Layouts.{greatest_align}
-use Rattle.c_type_model.specs.Limits.{greatest_object, most_members}
-use Rattle.c_type_table.specs.Tables.{at, types_of}
-use Rattle.c_type_model.specs.declared.extent.Extent.{Extent}
-use Rattle.c_typing.specs.Checked.{Checked, Fine, small, ◌>>◌}
-use Rattle.c_typing.specs.Environment as environment
-use Rattle.c_typing.specs.Environment.{Environment, extents}
-use Rattle.c_typing.specs.Limits.{all_keep, few_members}
-use Rattle.c_typing.specs.Sources.{Program, extents_of}
-use Rattle.c_operators.specs.declared.error.TypeError.{TypeError}
-use Rattle.c_operators.specs.declared.error.TypeError.TheVariants.{Rule, Memory}
-use Rattle.c_operators.specs.Answers.{IsNothing}
-use Rattle.c_typed_table.specs.Tables.{Keeps}
-use Rattle.c_typed_program.specs.Declarations.{IsFunction, IsGlobal, function_in, global_in}
-use Rattle.c_structs.specs.Members.{MemberList}
-use Rattle.c_environment.specs.Reading.{struct_with}
-use Rattle.c_environment.specs.States.{State, is_small_struct, with_struct}
-use Rattle.c_expressions.specs.Found.{Found}
-use Rattle.c_expressions.proofs.Kept.{same_table}
+use Rattle.c_types_model.specs.Types.{CType}
+use Rattle.c_types_model.specs.Layouts.{greatest_align}
+use Rattle.c_types_model.specs.Limits.{greatest_object, most_members}
+use Rattle.c_types_table.specs.Tables.{at, types_of}
+use Rattle.c_types_model.specs.declared.extent.Extent.{Extent}
+use Rattle.c_types_rules.specs.Checked.{Checked, Fine, small, ◌>>◌}
+use Rattle.c_types_rules.specs.Environment as environment
+use Rattle.c_types_rules.specs.Environment.{Environment, extents}
+use Rattle.c_types_rules.specs.Limits.{all_keep, few_members}
+use Rattle.c_types_rules.specs.Sources.{Program, extents_of}
+use Rattle.c_types_operators.specs.declared.error.TypeError.{TypeError}
+use Rattle.c_types_operators.specs.declared.error.TypeError.TheVariants.{Rule, Memory}
+use Rattle.c_types_operators.specs.Answers.{IsNothing}
+use Rattle.c_types_nodes.specs.Tables.{Keeps}
+use Rattle.c_types_program.specs.Declarations.{IsFunction, IsGlobal, function_in, global_in}
+use Rattle.c_types_structs.specs.Members.{MemberList}
+use Rattle.c_types_environment.specs.Reading.{struct_with}
+use Rattle.c_types_environment.specs.States.{State, is_small_struct, with_struct}
+use Rattle.c_types_expressions.specs.Found.{Found}
+use Rattle.c_types_expressions.proofs.Kept.{same_table}
 use Rattle.c_types.specs.declared.declarations.Declarations.{Declarations}
 use Rattle.c_types.specs.States.{GoesOn, IsAligned, IsSound, Steps, program_of}
 use Rattle.c_types.specs.Sources.{IsSmall}
@@ -111,7 +111,7 @@ module _ (d : Declarations) (s : State) (m : MemberList) (n : Declarations)
       by true q = (struct_program, large_is ∙ q.1)
       by false q = (struct_program, large_is ∙ q.1)
 
--- where no struct is defined there is want of memory
+-- where no struct is defined the answer is out of memory
 pub struct_stops : (d n : Declarations) (m : MemberList) (s : State) (e : TypeError) → Found {A = Unit {0}} {B = Unit {0}} d.env.found_large s.found_large IsNothing (small (is_small_struct d.env.env (members_in d.env.table m))) (Err e)
     → Steps {B = Unit {0}} d n (λ p _. program_of n ≡ p) (one_struct d.env.env (program_of d) (members_in d.env.table m)) (Err e)
 struct_stops d n m s e h = by (is_small_struct d.env.env (members_in d.env.table m)) e h

@@ -7,19 +7,19 @@ use Rattle.c_syntax.specs.declared.id.DeclId.{DeclId}
 use Rattle.c_syntax.specs.Nodes.{Nodes}
 use Rattle.c_syntax.specs.Syntax.{Decl, Decls, NoDecls, MoreDecls}
 use Rattle.c_syntax.specs.Stands.{StandsDecl, StandDecls}
-use Rattle.c_typing.specs.Checked.{Checked, Fine, Large, Broken, keep, large, ◌>>=◌, ◌>>◌}
-use Rattle.c_typing.specs.Sources as sources
-use Rattle.c_typing.specs.Sources.{Program, declaration, declarations, has_main, main, nothing, program, tags_of}
-use Rattle.c_typing.specs.Limits as limits
-use Rattle.c_typing.specs.Limits.{Outcome, Which, decided, first_limit, outcome, unless}
-use Rattle.c_operators.specs.declared.error.TypeError.{TypeError}
-use Rattle.c_operators.specs.declared.error.TypeError.TheVariants as operators
-use Rattle.c_typed_table.specs.Tables.{Table}
-use Rattle.c_typed_program.specs.declared.function.Function.{Function}
-use Rattle.c_typed_program.specs.declared.text.TextLiteral.{TextLiteral}
-use Rattle.c_typed_program.specs.Declarations.{body_in, function_in, global_in}
-use Rattle.c_expressions.specs.Found.{Found}
-use Rattle.c_expressions.proofs.Sequences.{gone_on, stopped_in}
+use Rattle.c_types_rules.specs.Checked.{Checked, Fine, Large, Broken, keep, large, ◌>>=◌, ◌>>◌}
+use Rattle.c_types_rules.specs.Sources as sources
+use Rattle.c_types_rules.specs.Sources.{Program, declaration, declarations, has_main, main, nothing, program, tags_of}
+use Rattle.c_types_rules.specs.Limits as limits
+use Rattle.c_types_rules.specs.Limits.{Outcome, Which, decided, first_limit, outcome, unless}
+use Rattle.c_types_operators.specs.declared.error.TypeError.{TypeError}
+use Rattle.c_types_operators.specs.declared.error.TypeError.TheVariants as operators
+use Rattle.c_types_nodes.specs.Tables.{Table}
+use Rattle.c_types_program.specs.declared.function.Function.{Function}
+use Rattle.c_types_program.specs.declared.text.TextLiteral.{TextLiteral}
+use Rattle.c_types_program.specs.Declarations.{body_in, function_in, global_in}
+use Rattle.c_types_expressions.specs.Found.{Found}
+use Rattle.c_types_expressions.proofs.Sequences.{gone_on, stopped_in}
 use Rattle.c_types.specs.declared.declarations.Declarations.{Declarations}
 use Rattle.c_types.specs.declared.error.CheckError.{CheckError}
 use Rattle.c_types.specs.declared.source.TypedSource.{TypedSource}

@@ -2,12 +2,12 @@
 use Rattle.std.proofs.Common.{◌≡◌, Bool, false, [], ◌∷◌, map, Ok, sym, ap, ◌∙◌, subst}
 use Rattle.std.specs.List.{All}
 use Rattle.c_scopes.specs.Scopes.{innermost}
-use Rattle.c_typing.specs.Checked.{Checked, Fine, Large, Broken}
-use Rattle.c_typing.specs.Limits.{all_keep, few_members}
-use Rattle.c_typing.specs.Sources.{at_file}
-use Rattle.c_typed_program.specs.Declarations.{function_in, global_in}
-use Rattle.c_environment.specs.States.{State}
-use Rattle.c_expressions.specs.Found.{Found, Stays}
+use Rattle.c_types_rules.specs.Checked.{Checked, Fine, Large, Broken}
+use Rattle.c_types_rules.specs.Limits.{all_keep, few_members}
+use Rattle.c_types_rules.specs.Sources.{at_file}
+use Rattle.c_types_program.specs.Declarations.{function_in, global_in}
+use Rattle.c_types_environment.specs.States.{State}
+use Rattle.c_types_expressions.specs.Found.{Found, Stays}
 use Rattle.c_types.specs.declared.declarations.Declarations.{Declarations}
 use Rattle.c_types.specs.States.{IsAligned, IsSound, program_of}
 use Rattle.c_types.specs.Sources.{IsSmall}

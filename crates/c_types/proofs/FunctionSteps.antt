@@ -15,31 +15,31 @@ use Rattle.c_syntax.specs.Nodes.{Nodes, decl_at}
 use Rattle.c_syntax.specs.Syntax.{Annots, Decl, Parts, Rest, Stmt, Declare, NoRest, Initial, Body, Members}
 use Rattle.c_syntax.specs.Stands.{StandParts, StandsDecl, StandsRest, StandsStmt}
 use Rattle.r2_num.specs.declared.kinds.IntKind.TheVariants.{I32}
-use Rattle.c_type_model.specs.Types.{CType, Integer}
-use Rattle.c_type_table.specs.declared.ids.TypeId.{TypeId}
-use Rattle.c_type_table.specs.declared.ty.Ty.TheVariants as nodes
-use Rattle.c_type_table.specs.Tables.{at, made, type_at}
-use Rattle.c_typing.specs.Checked.{Checked, Fine, Broken, keep, ◌>>=◌, ◌>>◌}
-use Rattle.c_typing.specs.Environment.{Meaning, FunctionNamed, is_reserved}
-use Rattle.c_typing.specs.Expressions.{declared_name}
-use Rattle.c_typing.specs.TypeTests.{same_type}
-use Rattle.c_typing.proofs.SameTypes.{types_compared}
-use Rattle.c_typing.specs.TypedTree as typed
-use Rattle.c_typing.specs.Sources.{Program, at_file, body_at, body_of, declared_again, function_declared, function_defined, function_rest, is_main, main, main_type, with_body}
-use Rattle.c_operators.specs.declared.error.TypeError.{TypeError}
-use Rattle.c_operators.specs.declared.error.TypeError.TheVariants as operators
-use Rattle.c_operators.specs.Answers.{Agrees}
-use Rattle.c_typed_table.specs.Tables.{Table}
-use Rattle.c_typed_program.specs.declared.function.Body.{Body as TypedBody}
-use Rattle.c_typed_program.specs.declared.function.Function.{Function}
-use Rattle.c_typed_program.specs.Declarations.{IsBody, IsFunction, body_in, function_in}
-use Rattle.c_environment.specs.declared.meaning.Meaning.{Meaning as Known}
-use Rattle.c_environment.specs.declared.meaning.Meaning.TheVariants as knowns
-use Rattle.c_environment.specs.Reading.{meaning_by}
-use Rattle.c_environment.specs.States.{State}
-use Rattle.c_expressions.specs.Found.{Finds, Found, Stays}
-use Rattle.c_expressions.proofs.Kept.{same_table}
-use Rattle.c_statements.specs.Typed.{BodyStands}
+use Rattle.c_types_model.specs.Types.{CType, Integer}
+use Rattle.c_types_table.specs.declared.ids.TypeId.{TypeId}
+use Rattle.c_types_table.specs.declared.ty.Ty.TheVariants as nodes
+use Rattle.c_types_table.specs.Tables.{at, made, type_at}
+use Rattle.c_types_rules.specs.Checked.{Checked, Fine, Broken, keep, ◌>>=◌, ◌>>◌}
+use Rattle.c_types_rules.specs.Environment.{Meaning, FunctionNamed, is_reserved}
+use Rattle.c_types_rules.specs.Expressions.{declared_name}
+use Rattle.c_types_rules.specs.TypeTests.{same_type}
+use Rattle.c_types_rules.proofs.SameTypes.{types_compared}
+use Rattle.c_types_rules.specs.TypedTree as typed
+use Rattle.c_types_rules.specs.Sources.{Program, at_file, body_at, body_of, declared_again, function_declared, function_defined, function_rest, is_main, main, main_type, with_body}
+use Rattle.c_types_operators.specs.declared.error.TypeError.{TypeError}
+use Rattle.c_types_operators.specs.declared.error.TypeError.TheVariants as operators
+use Rattle.c_types_operators.specs.Answers.{Agrees}
+use Rattle.c_types_nodes.specs.Tables.{Table}
+use Rattle.c_types_program.specs.declared.function.Body.{Body as TypedBody}
+use Rattle.c_types_program.specs.declared.function.Function.{Function}
+use Rattle.c_types_program.specs.Declarations.{IsBody, IsFunction, body_in, function_in}
+use Rattle.c_types_environment.specs.declared.meaning.Meaning.{Meaning as Known}
+use Rattle.c_types_environment.specs.declared.meaning.Meaning.TheVariants as knowns
+use Rattle.c_types_environment.specs.Reading.{meaning_by}
+use Rattle.c_types_environment.specs.States.{State}
+use Rattle.c_types_expressions.specs.Found.{Finds, Found, Stays}
+use Rattle.c_types_expressions.proofs.Kept.{same_table}
+use Rattle.c_types_statements.specs.Typed.{BodyStands}
 use Rattle.c_types.specs.declared.declarations.Declarations.{Declarations}
 use Rattle.c_types.specs.States.{Follows, GoesOn, IsFunctionPlace, IsSound, Steps, program_of}
 use Rattle.c_types.specs.Pieces.{defined_of, function_of}
@@ -91,8 +91,8 @@ module _ (N : Nodes) (i : DeclId) (e : DeclNode) (there : decl_at N i ≡ Some e
         by from ps n (Body b) (x, p, o) = absurd cc
         by from ps n (Members ds) (x, p, o) = absurd cc
 
-    pub value_behind : (g : Given) → e.rest ≡ rests.Value g → (y : Decl) → StandsDecl N i y → Follows d m (function_of tags (program_of d) t y) (Err (operators.Rule e.from 16))
-    value_behind g w = rest_follows m (Err (operators.Rule e.from 16)) (λ from an b ps n q z k. by from ps n q k.offset k.rest)
+    pub value_after : (g : Given) → e.rest ≡ rests.Value g → (y : Decl) → StandsDecl N i y → Follows d m (function_of tags (program_of d) t y) (Err (operators.Rule e.from 16))
+    value_after g w = rest_follows m (Err (operators.Rule e.from 16)) (λ from an b ps n q z k. by from ps n q k.offset k.rest)
       where
         by : (from : ℕ) (ps : Parts) (n : Option (List ℕ)) (q : Rest) → e.from ≡ from → StandsRest N e.rest q → Steps m m (IsProgramOf m) (function_rest tags (program_of m) from place (declared_name n) t ps q) (Err (operators.Rule e.from 16))
         by from ps n NoRest f p = absurd cc
@@ -100,8 +100,8 @@ module _ (N : Nodes) (i : DeclId) (e : DeclNode) (there : decl_at N i ≡ Some e
         by from ps n (Body b) f (x, p, o) = absurd cc
         by from ps n (Members ds) f (x, p, o) = absurd cc
 
-    pub members_behind : (is : List DeclId) → e.rest ≡ rests.Members is → (y : Decl) → StandsDecl N i y → Follows d m (function_of tags (program_of d) t y) (Err (operators.Rule e.from 3))
-    members_behind is w = rest_follows m (Err (operators.Rule e.from 3)) (λ from an b ps n q z k. by from ps n q k.offset k.rest)
+    pub members_after : (is : List DeclId) → e.rest ≡ rests.Members is → (y : Decl) → StandsDecl N i y → Follows d m (function_of tags (program_of d) t y) (Err (operators.Rule e.from 3))
+    members_after is w = rest_follows m (Err (operators.Rule e.from 3)) (λ from an b ps n q z k. by from ps n q k.offset k.rest)
       where
         by : (from : ℕ) (ps : Parts) (n : Option (List ℕ)) (q : Rest) → e.from ≡ from → StandsRest N e.rest q → Steps m m (IsProgramOf m) (function_rest tags (program_of m) from place (declared_name n) t ps q) (Err (operators.Rule e.from 3))
         by from ps n NoRest f p = absurd cc
@@ -109,9 +109,9 @@ module _ (N : Nodes) (i : DeclId) (e : DeclNode) (there : decl_at N i ≡ Some e
         by from ps n (Body b) f (x, p, o) = absurd cc
         by from ps n (Members ds) f (x, p, o) = breaks m m (IsProgramOf m) (Broken from 3) e.from 3 (ap (λ v. Broken v 3) (sym f))
 
-    pub body_behind : (j : StmtId) → e.rest ≡ rests.Body j → (new : Declarations) (r : Result (Unit {0}) TypeError) → ((y : Decl) (b : Stmt) → StandsDecl N i y → StandsStmt N j b → Follows m new (defined_of m.env.env.tags (program_of m) place t y b) r)
+    pub body_after : (j : StmtId) → e.rest ≡ rests.Body j → (new : Declarations) (r : Result (Unit {0}) TypeError) → ((y : Decl) (b : Stmt) → StandsDecl N i y → StandsStmt N j b → Follows m new (defined_of m.env.env.tags (program_of m) place t y b) r)
         → (y : Decl) → StandsDecl N i y → Follows d new (function_of tags (program_of d) t y) r
-    body_behind j w new r g = rest_follows new r (λ from an b ps n q z k. by from an b ps n q z k.rest)
+    body_after j w new r g = rest_follows new r (λ from an b ps n q z k. by from an b ps n q z k.rest)
       where
         by : (from : ℕ) (an : Annots) (b : Base) (ps : Parts) (n : Option (List ℕ)) (q : Rest) → StandsDecl N i (Declare from an b ps n q) → StandsRest N e.rest q → Steps m new (IsProgramOf new) (function_rest tags (program_of m) from place (declared_name n) t ps q) r
         by from an b ps n NoRest z p = absurd cc

@@ -3,29 +3,29 @@ use Rattle.std.proofs.Common.{◌≡◌, ℕ, ◌<◌, Bool, true, false, cond, 
 use Rattle.std.proofs.lemmas.List.{map-append}
 use Rattle.std.specs.List.{All}
 use Rattle.std.proofs.lemmas.List.Elements.{All-nil, All-cons, All-append}
-use Rattle.c_type_model.specs.Types.{CType}
-use Rattle.c_type_table.specs.declared.ids.TypeId.{TypeId}
-use Rattle.c_type_table.specs.Tables.{at, type_at, types_of}
+use Rattle.c_types_model.specs.Types.{CType}
+use Rattle.c_types_table.specs.declared.ids.TypeId.{TypeId}
+use Rattle.c_types_table.specs.Tables.{at, type_at, types_of}
 use Rattle.c_scopes.specs.Scopes.{meaning_in, same_name}
 use Rattle.c_syntax.specs.declared.id.DeclId.{DeclId}
 use Rattle.c_syntax.specs.declared.declaration.Decl.{Decl as DeclNode}
 use Rattle.c_syntax.specs.Nodes.{Nodes, decl_at}
 use Rattle.c_syntax.specs.Syntax.{Decl, Decls, Declare, NoDecls, MoreDecls}
 use Rattle.c_syntax.specs.Stands.{StandsDecl, StandDecls}
-use Rattle.c_typing.specs.Checked.{Checked, Fine, Large, Broken, keep, ◌>>◌}
-use Rattle.c_typing.specs.Environment.{Environment, extents, is_reserved}
-use Rattle.c_typing.specs.Expressions.{complete, declared_name, declared_type}
-use Rattle.c_typing.specs.Sources.{member_of, members_from}
-use Rattle.c_typed_table.specs.Tables.{Table, Keeps}
-use Rattle.c_typed_table.proofs.Growing.{same_types}
-use Rattle.c_structs.specs.Members.{MemberList, read_members}
-use Rattle.c_environment.specs.Reading.{IsMemberBelow, members_by}
-use Rattle.c_environment.proofs.Kept.{members_below, members_same}
-use Rattle.c_operators.specs.declared.error.TypeError.{TypeError}
-use Rattle.c_operators.specs.Answers.{Agrees, IsNothing}
-use Rattle.c_environment.specs.States.{State}
-use Rattle.c_expressions.specs.Found.{Finds, Found, IsType, Stays}
-use Rattle.c_expressions.proofs.Sequences.{gone_on, gone_on_after, noted_nothing, stopped_before, stopped_in}
+use Rattle.c_types_rules.specs.Checked.{Checked, Fine, Large, Broken, keep, ◌>>◌}
+use Rattle.c_types_rules.specs.Environment.{Environment, extents, is_reserved}
+use Rattle.c_types_rules.specs.Expressions.{complete, declared_name, declared_type}
+use Rattle.c_types_rules.specs.Sources.{member_of, members_from}
+use Rattle.c_types_nodes.specs.Tables.{Table, Keeps}
+use Rattle.c_types_nodes.proofs.Growing.{same_types}
+use Rattle.c_types_structs.specs.Members.{MemberList, read_members}
+use Rattle.c_types_environment.specs.Reading.{IsMemberBelow, members_by}
+use Rattle.c_types_environment.proofs.Kept.{members_below, members_same}
+use Rattle.c_types_operators.specs.declared.error.TypeError.{TypeError}
+use Rattle.c_types_operators.specs.Answers.{Agrees, IsNothing}
+use Rattle.c_types_environment.specs.States.{State}
+use Rattle.c_types_expressions.specs.Found.{Finds, Found, IsType, Stays}
+use Rattle.c_types_expressions.proofs.Sequences.{gone_on, gone_on_after, noted_nothing, stopped_before, stopped_in}
 use Rattle.c_types.specs.Members.{AreBelow, members_in}
 use Rattle.c_types.specs.Pieces.{named_member}
 use Rattle.c_types.proofs.Parts.{node_is}

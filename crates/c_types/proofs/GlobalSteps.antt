@@ -11,25 +11,25 @@ use Rattle.c_syntax.specs.declared.declaration.Value.{Value as Given}
 use Rattle.c_syntax.specs.Nodes.{Nodes, decl_at}
 use Rattle.c_syntax.specs.Syntax.{Annots, Decl, Parts, Rest, Value, Declare, NoRest, Initial, Body, Members}
 use Rattle.c_syntax.specs.Stands.{StandsDecl, StandsRest, StandsValue}
-use Rattle.c_type_model.specs.Types.{CType}
-use Rattle.c_type_table.specs.declared.ids.TypeId.{TypeId}
-use Rattle.c_type_table.specs.Tables.{type_at}
-use Rattle.c_typing.specs.Checked.{Checked, Fine, Large, Broken, ◌>>=◌, ◌>>◌}
-use Rattle.c_typing.specs.Environment.{Meaning, GlobalNamed, declarable, extents}
-use Rattle.c_typing.specs.Expressions.{complete, declared_name}
-use Rattle.c_typing.specs.Initials as initials
-use Rattle.c_typing.specs.Sources as sources
-use Rattle.c_typing.specs.Sources.{Program, at_file, global_value}
-use Rattle.c_operators.specs.declared.error.TypeError.{TypeError}
-use Rattle.c_operators.specs.declared.error.TypeError.TheVariants as operators
-use Rattle.c_operators.specs.Answers.{Agrees, IsNothing}
-use Rattle.c_typed_program.specs.declared.global.Global.{Global}
-use Rattle.c_typed_program.specs.declared.global.Initial.{Initial as TypedInitial}
-use Rattle.c_typed_program.specs.Declarations.{global_in, initial_in}
-use Rattle.c_environment.specs.States.{State}
-use Rattle.c_expressions.specs.Found.{Finds, Found, Stays}
-use Rattle.c_expressions.proofs.Kept.{type_inside, type_stays}
-use Rattle.c_expressions.proofs.Sequences.{gone_on, noted_nothing, stopped_in}
+use Rattle.c_types_model.specs.Types.{CType}
+use Rattle.c_types_table.specs.declared.ids.TypeId.{TypeId}
+use Rattle.c_types_table.specs.Tables.{type_at}
+use Rattle.c_types_rules.specs.Checked.{Checked, Fine, Large, Broken, ◌>>=◌, ◌>>◌}
+use Rattle.c_types_rules.specs.Environment.{Meaning, GlobalNamed, declarable, extents}
+use Rattle.c_types_rules.specs.Expressions.{complete, declared_name}
+use Rattle.c_types_rules.specs.Initials as initials
+use Rattle.c_types_rules.specs.Sources as sources
+use Rattle.c_types_rules.specs.Sources.{Program, at_file, global_value}
+use Rattle.c_types_operators.specs.declared.error.TypeError.{TypeError}
+use Rattle.c_types_operators.specs.declared.error.TypeError.TheVariants as operators
+use Rattle.c_types_operators.specs.Answers.{Agrees, IsNothing}
+use Rattle.c_types_program.specs.declared.global.Global.{Global}
+use Rattle.c_types_program.specs.declared.global.Initial.{Initial as TypedInitial}
+use Rattle.c_types_program.specs.Declarations.{global_in, initial_in}
+use Rattle.c_types_environment.specs.States.{State}
+use Rattle.c_types_expressions.specs.Found.{Finds, Found, Stays}
+use Rattle.c_types_expressions.proofs.Kept.{type_inside, type_stays}
+use Rattle.c_types_expressions.proofs.Sequences.{gone_on, noted_nothing, stopped_in}
 use Rattle.c_types.specs.declared.declarations.Declarations.{Declarations}
 use Rattle.c_types.specs.States.{Follows, IsSound, Steps, program_of}
 use Rattle.c_types.specs.Pieces.{global_of}

@@ -3,15 +3,15 @@ use Rattle.std.proofs.Common.{◌≡◌, List, [], ◌∷◌, length, map, Optio
 use Rattle.std.specs.Option.{option_map}
 use Rattle.std.specs.List.{All}
 use Rattle.std.proofs.lemmas.List.Elements.{All-head, All-tail, All-weaker}
-use Rattle.c_type_table.specs.declared.ids.TypeId.{TypeId}
-use Rattle.c_type_table.specs.Tables.{IsBelow, type_at}
-use Rattle.c_typed_table.specs.Tables.{Table, Keeps}
-use Rattle.c_typed_program.specs.declared.function.Body.{Body}
-use Rattle.c_typed_program.specs.declared.function.Function.{Function}
-use Rattle.c_typed_program.specs.declared.global.Global.{Global}
-use Rattle.c_typed_program.specs.Declarations.{IsBody, IsFunction, IsGlobal, body_in, function_in, global_in, initial_in, types_in}
-use Rattle.c_typed_program.specs.Statements.{statement_in}
-use Rattle.c_typed_program.proofs.Kept.{is_statement_kept, is_type_kept, statement_kept, type_kept}
+use Rattle.c_types_table.specs.declared.ids.TypeId.{TypeId}
+use Rattle.c_types_table.specs.Tables.{IsBelow, type_at}
+use Rattle.c_types_nodes.specs.Tables.{Table, Keeps}
+use Rattle.c_types_program.specs.declared.function.Body.{Body}
+use Rattle.c_types_program.specs.declared.function.Function.{Function}
+use Rattle.c_types_program.specs.declared.global.Global.{Global}
+use Rattle.c_types_program.specs.Declarations.{IsBody, IsFunction, IsGlobal, body_in, function_in, global_in, initial_in, types_in}
+use Rattle.c_types_program.specs.Statements.{statement_in}
+use Rattle.c_types_program.proofs.Kept.{is_statement_kept, is_type_kept, statement_kept, type_kept}
 
 module _ (t u : Table) (k : Keeps t u) where
   types_kept : (ids : List TypeId) → All (IsBelow (length t.types)) ids → types_in u.types ids ≡ types_in t.types ids

@@ -1,4 +1,4 @@
--- Numbers that a source may not go past, as the code finds them.
+-- Limits that a source may not exceed, as the code finds them.
 use Rattle.std.proofs.Common.{◌≡◌, ℕ, zero, suc, ◌+◌, ◌-◌, ◌^◌, ◌<◌, ◌≤◌, Bool, true, false, ◌&&◌, max, List, [], ◌∷◌, length, map, drop, get_or, Option, Some, None, refl, sym, ap, ◌∙◌, subst, arith, add-one}
 use Rattle.std.specs.Prelude.{nat_le, if◌then◌else◌, slice_get}
 use Rattle.std.specs.Int.{next_multiple_of}
@@ -8,21 +8,21 @@ use Rattle.std.proofs.lemmas.List.{drop_all, get_or-map, length-map}
 use Rattle.std.proofs.lemmas.List.Elements.{All-head, All-tail}
 use borrow.Author.Tests.{leb-true, leb-false}
 use Rattle.r2_num.specs.declared.kinds.IntKind.TheVariants.{I8, U8, I16, U16, I32, U32, I64, U64}
-use Rattle.c_type_model.specs.Types.{CType, Void, Integer, PointerTo, ArrayOf, StructOf, UndefinedStruct, FunctionOf}
-use Rattle.c_type_model.specs.Layouts.{capped, capped_extent, end_from, extent_of, repeated, scalar}
-use Rattle.c_type_model.specs.Limits.{greatest_object}
-use Rattle.c_type_model.specs.declared.extent.Extent.{Extent}
-use Rattle.c_type_model.proofs.Steps.{end_of_all, end_step}
-use Rattle.c_type_table.specs.declared.ids.TypeId.{TypeId}
-use Rattle.c_type_table.specs.declared.ty.Ty.{Ty}
-use Rattle.c_type_table.specs.Tables.{all_at, type_at}
-use Rattle.c_type_table.proofs.Extents.{extents_capped}
-use Rattle.c_typing.specs.Environment.{Environment, Struct, extents}
-use Rattle.c_typing.specs.Sources.{Program, extent_or, extents_in}
-use Rattle.c_typing.specs.Limits as limits
-use Rattle.c_typing.specs.Limits.{Which, all_keep, count, few_members, few_params, first_limit, frame_size, globals_end, most_functions, greatest_frame, small_frame, type_of}
-use Rattle.c_typed_program.specs.declared.global.Global.{Global}
-use Rattle.c_typed_program.specs.Declarations.{global_in, types_in}
+use Rattle.c_types_model.specs.Types.{CType, Void, Integer, PointerTo, ArrayOf, StructOf, UndefinedStruct, FunctionOf}
+use Rattle.c_types_model.specs.Layouts.{capped, capped_extent, end_from, extent_of, repeated, scalar}
+use Rattle.c_types_model.specs.Limits.{greatest_object}
+use Rattle.c_types_model.specs.declared.extent.Extent.{Extent}
+use Rattle.c_types_model.proofs.Steps.{end_of_all, end_step}
+use Rattle.c_types_table.specs.declared.ids.TypeId.{TypeId}
+use Rattle.c_types_table.specs.declared.ty.Ty.{Ty}
+use Rattle.c_types_table.specs.Tables.{all_at, type_at}
+use Rattle.c_types_table.proofs.Extents.{extents_capped}
+use Rattle.c_types_rules.specs.Environment.{Environment, Struct, extents}
+use Rattle.c_types_rules.specs.Sources.{Program, extent_or, extents_in}
+use Rattle.c_types_rules.specs.Limits as limits
+use Rattle.c_types_rules.specs.Limits.{Which, all_keep, count, few_members, few_params, first_limit, frame_size, globals_end, most_functions, greatest_frame, small_frame, type_of}
+use Rattle.c_types_program.specs.declared.global.Global.{Global}
+use Rattle.c_types_program.specs.Declarations.{global_in, types_in}
 use Rattle.c_types.specs.States.{IsAligned}
 
 -- ---- sizes and alignments
@@ -111,7 +111,7 @@ global_at types gs i g lt e = ap (λ x. type_at types x.ty) e ∙ sym (get_or-ma
 pub local_at : (types : List Ty) (ids : List TypeId) (i : ℕ) (z : TypeId) → i < length ids → type_at types (get_or ids i z) ≡ get_or (types_in types ids) i (type_at types (get_or ids i z))
 local_at types ids i z lt = sym (get_or-map (type_at types) ids i z (type_at types (get_or ids i z)) lt)
 
--- one more object lies behind those before it
+-- one more object lies after those before it
 pub end_goes_on : (es : List Extent) (ts : List CType) (i n e y : ℕ) (t : CType) → i < length ts → t ≡ get_or ts i t → e ≡ capped (next_multiple_of n (extent_or (extent_of es t)).align + (extent_or (extent_of es t)).size)
     → capped (end_from n (drop i (extents_by es ts))) ≡ y → capped (end_from e (drop (i + 1) (extents_by es ts))) ≡ y
 end_goes_on es ts i n e y t lt same h p =
@@ -245,7 +245,7 @@ module _ (small : Bool) (p : Program) where
       ∙ (ap (λ x. nested true true true true x (all_keep (small_frame p) p.functions)) g
       ∙ (ap (λ x. nested true true true true true x) h ∙ e)))
 
--- where an object is too large, a number is gone past
+-- where an object is too large, a limit is exceeded
 some_limit : (a b c g f : Bool) → nested a b c false g f ≡ None → ⊥
 unfolding nested
 some_limit true true true g f h = absurd cc

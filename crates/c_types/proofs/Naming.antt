@@ -8,21 +8,21 @@ use Rattle.c_syntax.specs.declared.declaration.Rest.TheVariants as rests
 use Rattle.c_syntax.specs.Nodes.{Nodes, decl_at}
 use Rattle.c_syntax.specs.Syntax.{Annots, Decl, Decls, Parts, Rest, Declare, NoRest, Initial, Body, Members}
 use Rattle.c_syntax.specs.Stands.{StandAnnots, StandDecls, StandsDecl, StandsRest}
-use Rattle.c_type_model.specs.Types.{CType}
-use Rattle.c_type_table.specs.declared.ids.TypeId.{TypeId}
-use Rattle.c_type_table.specs.declared.ty.Ty.{Ty}
-use Rattle.c_type_table.specs.declared.ty.Ty.TheVariants as nodes
-use Rattle.c_type_table.specs.Tables.{made, type_at, types_of}
-use Rattle.c_typing.specs.Checked.{Checked, ◌>>=◌}
-use Rattle.c_typing.specs.Environment.{Environment}
-use Rattle.c_typing.specs.Expressions.{annotation_types, declared_name, declared_type}
-use Rattle.c_typing.specs.Sources.{Program, at_file, declaration, function_or_global, struct_defined}
-use Rattle.c_operators.specs.declared.error.TypeError.{TypeError}
-use Rattle.c_operators.specs.Answers.{IsNothing}
-use Rattle.c_environment.specs.States.{State}
-use Rattle.c_expressions.specs.Found.{Finds, Found, IsType, Stays}
-use Rattle.c_expressions.proofs.Kept.{then_stay}
-use Rattle.c_expressions.proofs.Sequences.{stopped_before}
+use Rattle.c_types_model.specs.Types.{CType}
+use Rattle.c_types_table.specs.declared.ids.TypeId.{TypeId}
+use Rattle.c_types_table.specs.declared.ty.Ty.{Ty}
+use Rattle.c_types_table.specs.declared.ty.Ty.TheVariants as nodes
+use Rattle.c_types_table.specs.Tables.{made, type_at, types_of}
+use Rattle.c_types_rules.specs.Checked.{Checked, ◌>>=◌}
+use Rattle.c_types_rules.specs.Environment.{Environment}
+use Rattle.c_types_rules.specs.Expressions.{annotation_types, declared_name, declared_type}
+use Rattle.c_types_rules.specs.Sources.{Program, at_file, declaration, function_or_global, struct_defined}
+use Rattle.c_types_operators.specs.declared.error.TypeError.{TypeError}
+use Rattle.c_types_operators.specs.Answers.{IsNothing}
+use Rattle.c_types_environment.specs.States.{State}
+use Rattle.c_types_expressions.specs.Found.{Finds, Found, IsType, Stays}
+use Rattle.c_types_expressions.proofs.Kept.{then_stay}
+use Rattle.c_types_expressions.proofs.Sequences.{stopped_before}
 use Rattle.c_types.specs.declared.declarations.Declarations.{Declarations}
 use Rattle.c_types.specs.States.{Follows, IsSound, Steps, program_of}
 use Rattle.c_types.specs.Pieces.{function_of, global_of, named, typed}

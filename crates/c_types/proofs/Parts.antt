@@ -11,10 +11,10 @@ use Rattle.c_syntax.specs.declared.declaration.Value.{Value as Given}
 use Rattle.c_syntax.specs.Nodes.{Nodes, decl_at}
 use Rattle.c_syntax.specs.Syntax.{Decl, Decls, Annots, Parts, Rest, Declare, NoDecls, MoreDecls, NoRest, Initial, Body, Members}
 use Rattle.c_syntax.specs.Stands.{StandsDecl, StandDecls, StandAnnots, StandParts, StandsRest, StandsStmt, StandsValue}
-use Rattle.c_walks.specs.Numbers.{FitsDecls}
-use Rattle.c_expressions.specs.Walks.{IsDecl, AreDecls, AreAnnots, AreParts}
-use Rattle.c_statements.specs.Walks.{IsRest, IsStmt}
-use Rattle.c_initials.specs.Values.{IsValue}
+use Rattle.c_syntax_laws.specs.Numbers.{FitsDecls}
+use Rattle.c_types_expressions.specs.Walks.{IsDecl, AreDecls, AreAnnots, AreParts}
+use Rattle.c_types_statements.specs.Walks.{IsRest, IsStmt}
+use Rattle.c_types_initializers.specs.Values.{IsValue}
 
 -- the parts of a node are those of a declaration
 pub record IsNode (N : Nodes) (e : DeclNode) (from : ℕ) (an : Annots) (b : Base) (ps : Parts) (n : Option (List ℕ)) (r : Rest) : Type 0 where

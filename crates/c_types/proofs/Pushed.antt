@@ -4,19 +4,19 @@ use Rattle.std.proofs.lemmas.List.{map-append}
 use Rattle.std.specs.List.{All}
 use Rattle.std.proofs.lemmas.List.Elements.{All-nil, All-cons, All-append}
 use Rattle.c_scopes.specs.Scopes.{Scope, declared, innermost, meaning_in}
-use Rattle.c_typing.specs.Checked.{Checked, Fine, Large, Broken, keep, ◌>>◌}
-use Rattle.c_typing.specs.Environment.{Environment, Meaning, declarable, is_reserved, with_name}
-use Rattle.c_typing.specs.Sources.{at_file}
-use Rattle.c_operators.specs.declared.error.TypeError.{TypeError}
-use Rattle.c_operators.specs.declared.error.TypeError.TheVariants.{Rule, Memory}
-use Rattle.c_operators.specs.Answers.{Agrees}
-use Rattle.c_typed_program.specs.declared.function.Function.{Function}
-use Rattle.c_typed_program.specs.declared.global.Global.{Global}
-use Rattle.c_typed_program.specs.Declarations.{IsFunction, IsGlobal, function_in, global_in}
-use Rattle.c_environment.specs.States.{State}
+use Rattle.c_types_rules.specs.Checked.{Checked, Fine, Large, Broken, keep, ◌>>◌}
+use Rattle.c_types_rules.specs.Environment.{Environment, Meaning, declarable, is_reserved, with_name}
+use Rattle.c_types_rules.specs.Sources.{at_file}
+use Rattle.c_types_operators.specs.declared.error.TypeError.{TypeError}
+use Rattle.c_types_operators.specs.declared.error.TypeError.TheVariants.{Rule, Memory}
+use Rattle.c_types_operators.specs.Answers.{Agrees}
+use Rattle.c_types_program.specs.declared.function.Function.{Function}
+use Rattle.c_types_program.specs.declared.global.Global.{Global}
+use Rattle.c_types_program.specs.Declarations.{IsFunction, IsGlobal, function_in, global_in}
+use Rattle.c_types_environment.specs.States.{State}
 use Rattle.c_types.specs.declared.declarations.Declarations.{Declarations}
 use Rattle.c_types.specs.States.{GoesOn, IsSound, program_of}
-use Rattle.c_expressions.proofs.Kept.{same_table}
+use Rattle.c_types_expressions.proofs.Kept.{same_table}
 use Rattle.c_types.proofs.Followed.{going_on}
 
 -- ---- names
@@ -75,7 +75,7 @@ agreed (Fine x) h = h
 agreed (Large x) h = absurd h
 agreed (Broken from rule) h = absurd h
 
--- where nothing is broken there is want of memory
+-- where nothing is broken the answer is out of memory
 pub only_memory : {A B : Type 0} (is : A → B → Type 0) (c : Checked A) (x : A) (e : TypeError) → c ≡ Fine x → Agrees is c (Err e) → e ≡ Memory
 only_memory is c x Memory h p = refl
 only_memory is (Fine y) x (Rule a b) h p = absurd p

@@ -2,23 +2,23 @@
 use Rattle.std.proofs.Common.{◌≡◌, ℕ, suc, ◌≤◌, false, List, [], ◌∷◌, ◌++◌, length, map, Ok, Err, refl, sym, ap, ◌∙◌, subst, arith, append_assoc}
 use Rattle.std.specs.List.{All}
 use Rattle.std.proofs.lemmas.List.Elements.{All-head, All-tail}
-use Rattle.c_type_model.specs.Layouts.{capped, capped_extent}
-use Rattle.c_type_model.specs.Limits.{greatest_object}
-use Rattle.c_type_model.specs.declared.extent.Extent.{Extent}
-use Rattle.c_type_table.specs.declared.ty.Ty.{Ty}
-use Rattle.c_type_table.specs.Tables.{type_at, types_of}
-use Rattle.c_structs.specs.Members.{Definitions, MemberList, members_at, read_members}
-use Rattle.c_typing.specs.Environment.{Struct, extents}
-use Rattle.c_typing.specs.Sources.{Program}
-use Rattle.c_typing.specs.Limits as limits
-use Rattle.c_typing.specs.Limits.{Outcome}
-use Rattle.c_typed_table.specs.Tables.{Table}
-use Rattle.c_typed_program.specs.declared.text.TextLiteral.{TextLiteral}
-use Rattle.c_typed_program.specs.Declarations.{Declared, IsFunction, IsGlobal, declared, function_in, global_in, struct_in, structs_from}
-use Rattle.c_typed_program.specs.Programs.{IsProgram}
-use Rattle.c_environment.specs.Reading.{members_by, struct_with, structs_by}
-use Rattle.c_environment.specs.States.{State}
-use Rattle.c_expressions.specs.Found.{Stays}
+use Rattle.c_types_model.specs.Layouts.{capped, capped_extent}
+use Rattle.c_types_model.specs.Limits.{greatest_object}
+use Rattle.c_types_model.specs.declared.extent.Extent.{Extent}
+use Rattle.c_types_table.specs.declared.ty.Ty.{Ty}
+use Rattle.c_types_table.specs.Tables.{type_at, types_of}
+use Rattle.c_types_structs.specs.Members.{Definitions, MemberList, members_at, read_members}
+use Rattle.c_types_rules.specs.Environment.{Struct, extents}
+use Rattle.c_types_rules.specs.Sources.{Program}
+use Rattle.c_types_rules.specs.Limits as limits
+use Rattle.c_types_rules.specs.Limits.{Outcome}
+use Rattle.c_types_nodes.specs.Tables.{Table}
+use Rattle.c_types_program.specs.declared.text.TextLiteral.{TextLiteral}
+use Rattle.c_types_program.specs.Declarations.{Declared, IsFunction, IsGlobal, declared, function_in, global_in, struct_in, structs_from}
+use Rattle.c_types_program.specs.Programs.{IsProgram}
+use Rattle.c_types_environment.specs.Reading.{members_by, struct_with, structs_by}
+use Rattle.c_types_environment.specs.States.{State}
+use Rattle.c_types_expressions.specs.Found.{Stays}
 use Rattle.c_types.specs.declared.declarations.Declarations.{Declarations}
 use Rattle.c_types.specs.declared.error.CheckError.{CheckError}
 use Rattle.c_types.specs.declared.error.CheckError.TheVariants as errors
@@ -44,28 +44,28 @@ as_they_are (s ∷ ss) h =
     ∙ ap (λ xs. s ∷ xs) (as_they_are ss (All-tail IsSmall s ss h))
 
 -- the members of a struct, by its number
-its_members : (front : List MemberList) (ms : MemberList) (rest : List MemberList) → members_at (front ++ ms ∷ rest) (length front) ≡ ms
+its_members : (prefix : List MemberList) (ms : MemberList) (rest : List MemberList) → members_at (prefix ++ ms ∷ rest) (length prefix) ≡ ms
 its_members [] ms rest = refl
-its_members (x ∷ front) ms rest = its_members front ms rest
+its_members (x ∷ prefix) ms rest = its_members prefix ms rest
 
-one_longer : (front : List MemberList) (ms : MemberList) → length (front ++ ms ∷ []) ≡ suc (length front)
+one_longer : (prefix : List MemberList) (ms : MemberList) → length (prefix ++ ms ∷ []) ≡ suc (length prefix)
 one_longer [] ms = refl
-one_longer (x ∷ front) ms = ap suc (one_longer front ms)
+one_longer (x ∷ prefix) ms = ap suc (one_longer prefix ms)
 
 -- structs are as they are stored
-stored_so : (types : List Ty) (front rest : List MemberList) (before : List Extent)
-    → structs_from types (front ++ rest) (length front) (map capped_extent (map (λ s. s.extent) (structs_by (types_of types) before rest))) ≡ map as_stored (structs_by (types_of types) before rest)
-stored_so types front [] before = refl
-stored_so types front (ms ∷ rest) before =
+stored_so : (types : List Ty) (prefix rest : List MemberList) (before : List Extent)
+    → structs_from types (prefix ++ rest) (length prefix) (map capped_extent (map (λ s. s.extent) (structs_by (types_of types) before rest))) ≡ map as_stored (structs_by (types_of types) before rest)
+stored_so types prefix [] before = refl
+stored_so types prefix (ms ∷ rest) before =
     let s : Struct = struct_with before (members_by (types_of types) ms) in
     let ss : List Struct = structs_by (types_of types) (before ++ s.extent ∷ []) rest in
     let es : List Extent = map capped_extent (map (λ x. x.extent) ss) in
-    let here : struct_in types (front ++ ms ∷ rest) (length front) (capped_extent s.extent) ≡ as_stored s = ap (λ l. record { members = read_members (type_at types) l; extent = capped_extent s.extent }) (its_members front ms rest) in
-    let longer : front ++ ms ∷ rest ≡ (front ++ ms ∷ []) ++ rest = sym (append_assoc front (ms ∷ []) rest) in
-    let later : structs_from types (front ++ ms ∷ rest) (suc (length front)) es ≡ map as_stored ss =
-    ap (λ l. structs_from types l (suc (length front)) es) longer
-    ∙ (ap (λ k. structs_from types ((front ++ ms ∷ []) ++ rest) k es) (sym (one_longer front ms)) ∙ stored_so types (front ++ ms ∷ []) rest (before ++ s.extent ∷ [])) in
-    ap (λ x. x ∷ structs_from types (front ++ ms ∷ rest) (suc (length front)) es) here ∙ ap (λ xs. as_stored s ∷ xs) later
+    let here : struct_in types (prefix ++ ms ∷ rest) (length prefix) (capped_extent s.extent) ≡ as_stored s = ap (λ l. record { members = read_members (type_at types) l; extent = capped_extent s.extent }) (its_members prefix ms rest) in
+    let longer : prefix ++ ms ∷ rest ≡ (prefix ++ ms ∷ []) ++ rest = sym (append_assoc prefix (ms ∷ []) rest) in
+    let later : structs_from types (prefix ++ ms ∷ rest) (suc (length prefix)) es ≡ map as_stored ss =
+    ap (λ l. structs_from types l (suc (length prefix)) es) longer
+    ∙ (ap (λ k. structs_from types ((prefix ++ ms ∷ []) ++ rest) k es) (sym (one_longer prefix ms)) ∙ stored_so types (prefix ++ ms ∷ []) rest (before ++ s.extent ∷ [])) in
+    ap (λ x. x ∷ structs_from types (prefix ++ ms ∷ rest) (suc (length prefix)) es) here ∙ ap (λ xs. as_stored s ∷ xs) later
 
 -- ---- programs
 

@@ -1,15 +1,15 @@
 -- How steps go on one from another.
 use Rattle.std.proofs.Common.{◌≡◌, ℕ, ◌<◌, Bool, length, true, false, Result, Ok, Err, refl, sym, ap, ◌∙◌, subst}
-use Rattle.c_typing.specs.Checked.{Checked, Fine, Large, Broken, keep, ◌>>=◌, ◌>>◌}
-use Rattle.c_operators.specs.declared.error.TypeError.{TypeError}
-use Rattle.c_operators.specs.declared.error.TypeError.TheVariants.{Rule, Memory}
-use Rattle.c_typed_table.specs.Tables.{Table}
-use Rattle.c_environment.specs.States.{State}
-use Rattle.c_type_model.specs.Types.{CType}
-use Rattle.c_type_table.specs.declared.ids.TypeId.{TypeId}
-use Rattle.c_expressions.specs.Found.{Found, IsType, Stays}
-use Rattle.c_expressions.proofs.Kept.{same_table, then_kept}
-use Rattle.c_expressions.proofs.Sequences.{gone_on, gone_on_after, stopped_in, stopped_before}
+use Rattle.c_types_rules.specs.Checked.{Checked, Fine, Large, Broken, keep, ◌>>=◌, ◌>>◌}
+use Rattle.c_types_operators.specs.declared.error.TypeError.{TypeError}
+use Rattle.c_types_operators.specs.declared.error.TypeError.TheVariants.{Rule, Memory}
+use Rattle.c_types_nodes.specs.Tables.{Table}
+use Rattle.c_types_environment.specs.States.{State}
+use Rattle.c_types_model.specs.Types.{CType}
+use Rattle.c_types_table.specs.declared.ids.TypeId.{TypeId}
+use Rattle.c_types_expressions.specs.Found.{Found, IsType, Stays}
+use Rattle.c_types_expressions.proofs.Kept.{same_table, then_kept}
+use Rattle.c_types_expressions.proofs.Sequences.{gone_on, gone_on_after, stopped_in, stopped_before}
 use Rattle.c_types.specs.declared.declarations.Declarations.{Declarations}
 use Rattle.c_types.specs.States.{GoesOn, IsSound, Steps}
 use Rattle.c_types.proofs.Followed.{going_on}

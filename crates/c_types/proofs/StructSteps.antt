@@ -4,20 +4,20 @@ use Rattle.c_syntax.specs.declared.id.DeclId.{DeclId}
 use Rattle.c_syntax.specs.Nodes.{Nodes}
 use Rattle.c_syntax.specs.Syntax.{Decls}
 use Rattle.c_syntax.specs.Stands.{StandDecls}
-use Rattle.c_type_model.specs.Types.{CType}
-use Rattle.c_type_table.specs.declared.ty.Ty.{Ty}
-use Rattle.c_type_table.specs.declared.ty.Ty.TheVariants as nodes
-use Rattle.c_type_table.specs.Tables.{made}
-use Rattle.c_typing.specs.Checked.{Checked, Fine, Large, Broken}
-use Rattle.c_typing.specs.Environment.{Environment, is_reserved, place_in, struct_type}
-use Rattle.c_typing.specs.Sources.{Program, at_file, is_next, members_from, struct_defined}
-use Rattle.c_operators.specs.declared.error.TypeError.{TypeError}
-use Rattle.c_operators.specs.declared.error.TypeError.TheVariants as operators
-use Rattle.c_operators.specs.Answers.{IsNothing}
-use Rattle.c_structs.specs.Members.{MemberList}
-use Rattle.c_environment.specs.States.{KeepsAll, State}
-use Rattle.c_expressions.specs.Found.{Finds, Found, Stays}
-use Rattle.c_expressions.proofs.Kept.{all_stay}
+use Rattle.c_types_model.specs.Types.{CType}
+use Rattle.c_types_table.specs.declared.ty.Ty.{Ty}
+use Rattle.c_types_table.specs.declared.ty.Ty.TheVariants as nodes
+use Rattle.c_types_table.specs.Tables.{made}
+use Rattle.c_types_rules.specs.Checked.{Checked, Fine, Large, Broken}
+use Rattle.c_types_rules.specs.Environment.{Environment, is_reserved, place_in, struct_type}
+use Rattle.c_types_rules.specs.Sources.{Program, at_file, is_next, members_from, struct_defined}
+use Rattle.c_types_operators.specs.declared.error.TypeError.{TypeError}
+use Rattle.c_types_operators.specs.declared.error.TypeError.TheVariants as operators
+use Rattle.c_types_operators.specs.Answers.{IsNothing}
+use Rattle.c_types_structs.specs.Members.{MemberList}
+use Rattle.c_types_environment.specs.States.{KeepsAll, State}
+use Rattle.c_types_expressions.specs.Found.{Finds, Found, Stays}
+use Rattle.c_types_expressions.proofs.Kept.{all_stay}
 use Rattle.c_types.specs.declared.declarations.Declarations.{Declarations}
 use Rattle.c_types.specs.States.{Follows, IsSound, Steps, program_of}
 use Rattle.c_types.specs.Members.{AreBelow, members_in}

@@ -9,7 +9,7 @@ use Rattle.c_syntax.specs.declared.declaration.Rest.{Rest as After}
 use Rattle.c_syntax.specs.Nodes.{Nodes, decl_at}
 use Rattle.c_syntax.specs.Syntax.{Decl, Decls, Annots, Parts, Rest, Declare, NoDecls, MoreDecls, NoRest, Initial, Body, Members}
 use Rattle.c_syntax.specs.Stands.{StandsDecl, StandDecls, StandsRest}
-use Rattle.c_typing.specs.Sources.{tag_of, tags_of}
+use Rattle.c_types_rules.specs.Sources.{tag_of, tags_of}
 use Rattle.c_types.specs.Pieces.{defined_tag}
 use Rattle.c_types.proofs.Parts.{node_is}
 
@@ -27,7 +27,7 @@ tag_is N i (Declare from an b ps n r) e s h =
     let k = node_is N i e from an b ps n r s h in
     by_parts N from an b ps n e.rest r k.rest ∙ ap (λ x. option_to_list (defined_tag x e.rest)) (sym k.base)
 
--- the tags of the declarations that are left come behind those that were read
+-- the tags of the declarations that are left come after those that were read
 pub record RestOfTags (N : Nodes) (is : List DeclId) (ds : Decls) (tags : List (List ℕ)) : Type 0 where
   pub rest : Decls
   pub stand : StandDecls N is rest

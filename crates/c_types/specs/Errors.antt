@@ -1,6 +1,6 @@
 -- Errors of one sort as those of another.
-use Rattle.c_operators.specs.declared.error.TypeError.{TypeError}
-use Rattle.c_operators.specs.declared.error.TypeError.TheVariants as operators
+use Rattle.c_types_operators.specs.declared.error.TypeError.{TypeError}
+use Rattle.c_types_operators.specs.declared.error.TypeError.TheVariants as operators
 use Rattle.c_types.specs.declared.error.CheckError.{CheckError}
 use Rattle.c_types.specs.declared.error.CheckError.TheVariants as checks
 

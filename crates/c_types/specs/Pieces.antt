@@ -5,15 +5,15 @@ use Rattle.c_syntax.specs.declared.declaration.Base.TheVariants as bases
 use Rattle.c_syntax.specs.declared.declaration.Rest.{Rest as After}
 use Rattle.c_syntax.specs.declared.declaration.Rest.TheVariants as rests
 use Rattle.c_syntax.specs.Syntax.{Decl, Decls, Declare, Stmt}
-use Rattle.c_type_model.specs.Types.{CType}
-use Rattle.c_type_model.specs.Limits.{greatest_object}
+use Rattle.c_types_model.specs.Types.{CType}
+use Rattle.c_types_model.specs.Limits.{greatest_object}
 use Rattle.c_scopes.specs.Scopes.{meaning_in}
-use Rattle.c_typing.specs.Checked.{Checked, Fine, keep, large, small, ◌>>=◌, ◌>>◌}
-use Rattle.c_typing.specs.Environment.{extents, is_reserved}
-use Rattle.c_typing.specs.Expressions.{annotation_types, declared_name, declared_type}
-use Rattle.c_typing.specs.Sources.{Program, at_file, function, function_defined, function_or_global, global, has_main, members_from}
-use Rattle.c_typing.specs.Limits.{Outcome, decided}
-use Rattle.c_environment.specs.Reading.{struct_with}
+use Rattle.c_types_rules.specs.Checked.{Checked, Fine, keep, large, small, ◌>>=◌, ◌>>◌}
+use Rattle.c_types_rules.specs.Environment.{extents, is_reserved}
+use Rattle.c_types_rules.specs.Expressions.{annotation_types, declared_name, declared_type}
+use Rattle.c_types_rules.specs.Sources.{Program, at_file, function, function_defined, function_or_global, global, has_main, members_from}
+use Rattle.c_types_rules.specs.Limits.{Outcome, decided}
+use Rattle.c_types_environment.specs.Reading.{struct_with}
 
 -- a function or a global
 abbrev pub named : (tags : List (List ℕ)) → Program → Decl → Checked Program

@@ -1,10 +1,10 @@
 -- What a typed source stands for.
 use Rattle.std.specs.Prelude.{◌≡◌, ℕ, ◌≤◌, List, map}
 use Rattle.std.specs.List.{All}
-use Rattle.c_type_model.specs.Limits.{greatest_object}
-use Rattle.c_typing.specs.Environment.{Struct}
-use Rattle.c_typing.specs.Sources.{Program, at_file}
-use Rattle.c_typed_program.specs.Declarations.{IsFunction, IsGlobal, function_in, global_in}
+use Rattle.c_types_model.specs.Limits.{greatest_object}
+use Rattle.c_types_rules.specs.Environment.{Struct}
+use Rattle.c_types_rules.specs.Sources.{Program, at_file}
+use Rattle.c_types_program.specs.Declarations.{IsFunction, IsGlobal, function_in, global_in}
 use Rattle.c_types.specs.declared.source.TypedSource.{TypedSource}
 
 -- sizes up to this one are as they are stored

@@ -3,14 +3,14 @@ use Rattle.std.specs.Prelude.{◌≡◌, ℕ, ◌-◌, ◌<◌, true, false, Lis
 use Rattle.std.specs.List.{All}
 use Rattle.c_builtins.specs.Table.{first_source_function}
 use Rattle.c_scopes.specs.Scopes.{innermost}
-use Rattle.c_typing.specs.Checked.{Checked}
-use Rattle.c_typing.specs.Environment.{Struct}
-use Rattle.c_typing.specs.Limits.{all_keep, few_members}
-use Rattle.c_typing.specs.Sources.{Program}
-use Rattle.c_typed_table.specs.Tables.{Keeps}
-use Rattle.c_operators.specs.declared.error.TypeError.{TypeError}
-use Rattle.c_typed_program.specs.Declarations.{IsFunction, IsGlobal, function_in, global_in}
-use Rattle.c_expressions.specs.Found.{Finds, Found}
+use Rattle.c_types_rules.specs.Checked.{Checked}
+use Rattle.c_types_rules.specs.Environment.{Struct}
+use Rattle.c_types_rules.specs.Limits.{all_keep, few_members}
+use Rattle.c_types_rules.specs.Sources.{Program}
+use Rattle.c_types_nodes.specs.Tables.{Keeps}
+use Rattle.c_types_operators.specs.declared.error.TypeError.{TypeError}
+use Rattle.c_types_program.specs.Declarations.{IsFunction, IsGlobal, function_in, global_in}
+use Rattle.c_types_expressions.specs.Found.{Finds, Found}
 use Rattle.c_types.specs.declared.declarations.Declarations.{Declarations}
 use Rattle.c_types.specs.Sources.{IsSmall}
 

@@ -3,7 +3,7 @@ use Rattle.std.specs.Prelude.{ℕ, List, [], ◌∷◌}
 use Rattle.c_lexer.specs.declared.token.Kind.{Kind}
 use Rattle.c_lexer.specs.declared.token.Kind.TheVariants as kinds
 use Rattle.c_lexer.specs.declared.token.Token.{Token}
-use Rattle.c_typed_program.specs.declared.text.TextLiteral.{TextLiteral}
+use Rattle.c_types_program.specs.declared.text.TextLiteral.{TextLiteral}
 
 abbrev pub if_text : (from : ℕ) → Kind → List TextLiteral → List TextLiteral
 if_text from (kinds.Text bytes) rest = record { from = from; bytes = bytes } ∷ rest

@@ -3,19 +3,19 @@
 ghost use Rattle.std.specs.Prelude.{◌<◌, IfOk, length};
 ghost use Rattle.c_syntax.specs.Stands.{StandsDecl};
 ghost use Rattle.c_syntax.specs.Syntax.{Decl};
-ghost use Rattle.c_type_table.specs.Tables.{type_at};
-ghost use Rattle.c_typing.specs.Sources.{declaration as declaration_by_rules};
-ghost use Rattle.c_expressions.specs.Walks.{IsDecl};
+ghost use Rattle.c_types_table.specs.Tables.{type_at};
+ghost use Rattle.c_types_rules.specs.Sources.{declaration as declaration_by_rules};
+ghost use Rattle.c_types_expressions.specs.Walks.{IsDecl};
 ghost use Rattle.c_types.specs.States.{DeclaresNothing, Follows, IsSound, program_of};
 ghost use Rattle.c_types.specs.Pieces.{named as named_by_rules, typed as typed_by_rules};
 
-use c_environment::Environment;
-use c_expressions::{annotation_types, declared_type};
-use c_operators::TypeError;
-use c_structs::Tags;
 use c_syntax::{Base, DeclId, Rest, Tree};
-use c_type_table::{Ty, TypeId};
-use c_typed_program::{Function, Global};
+use c_types_environment::Environment;
+use c_types_expressions::{annotation_types, declared_type};
+use c_types_operators::TypeError;
+use c_types_program::{Function, Global};
+use c_types_structs::Tags;
+use c_types_table::{Ty, TypeId};
 use std::alloc::AllocError;
 
 /// What a source declares so far: what names mean, whether no struct has too many members, and functions and globals in order.

@@ -3,11 +3,11 @@
 ghost use Rattle.std.specs.Prelude.{◌≡◌};
 ghost use Rattle.c_types.specs.Errors.{by_type_error};
 
-use c_operators::TypeError;
+use c_types_operators::TypeError;
 use std::alloc::AllocError;
 use thiserror::Error;
 
-/// A number that a source may go past.
+/// A limit that a source may exceed.
 #[derive(Clone, Copy, Debug, PartialEq, Eq)]
 pub enum Which {
     /// More than 1,000 functions.
@@ -30,7 +30,7 @@ pub enum CheckError {
     /// The node at this offset breaks this rule.
     #[error("the node at {0} breaks rule {1}")]
     Rule(u32, u8),
-    /// The source keeps all rules, and goes past this number, but past none that stands before it in the list.
+    /// The source keeps all rules, and exceeds this limit, but none that stands before it in the list.
     #[error("the source is too large: {0:?}")]
     Limit(Which),
     /// Also where a source would have 2^32 nodes or types or more, which no number names.

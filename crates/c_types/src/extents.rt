@@ -3,15 +3,15 @@
 ghost use Rattle.std.specs.Prelude.{◌≡◌, ◌+◌, ◌<◌, length};
 ghost use Rattle.std.specs.List.{All};
 ghost use Rattle.std.specs.Int.{next_multiple_of};
-ghost use Rattle.c_type_model.specs.Layouts.{capped, capped_extent, extent_of};
-ghost use Rattle.c_type_table.specs.Tables.{type_at};
-ghost use Rattle.c_typing.specs.Environment.{extents};
-ghost use Rattle.c_typing.specs.Sources.{extent_or as extent_by_rules};
+ghost use Rattle.c_types_model.specs.Layouts.{capped, capped_extent, extent_of};
+ghost use Rattle.c_types_table.specs.Tables.{type_at};
+ghost use Rattle.c_types_rules.specs.Environment.{extents};
+ghost use Rattle.c_types_rules.specs.Sources.{extent_or as extent_by_rules};
 ghost use Rattle.c_types.specs.States.{IsAligned};
 
-use c_environment::Environment;
-use c_type_model::Extent;
-use c_type_table::TypeId;
+use c_types_environment::Environment;
+use c_types_model::Extent;
+use c_types_table::TypeId;
 
 // The size and alignment of a complete object type; of any other those of a byte. A size past 2^64 - 1 counts as 2^64 - 1.
 fn extent_or(env: &Environment, ty: TypeId) -> Extent

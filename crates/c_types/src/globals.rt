@@ -5,25 +5,25 @@ ghost use Rattle.std.specs.Option.{option_map};
 ghost use Rattle.c_syntax.specs.Stands.{StandsDecl, StandsRest};
 ghost use Rattle.c_syntax.specs.Syntax as syntax;
 ghost use Rattle.c_syntax.specs.Syntax.{Decl};
-ghost use Rattle.c_type_table.specs.Tables.{type_at};
-ghost use Rattle.c_typing.specs.Sources.{Program, at_file, global_value as value_by_rules};
-ghost use Rattle.c_typed_program.specs.Declarations.{initial_in};
-ghost use Rattle.c_expressions.specs.Found.{Finds, Stays};
-ghost use Rattle.c_expressions.specs.Walks.{IsDecl};
-ghost use Rattle.c_statements.specs.Walks.{IsRest};
+ghost use Rattle.c_types_table.specs.Tables.{type_at};
+ghost use Rattle.c_types_rules.specs.Sources.{Program, at_file, global_value as value_by_rules};
+ghost use Rattle.c_types_program.specs.Declarations.{initial_in};
+ghost use Rattle.c_types_expressions.specs.Found.{Finds, Stays};
+ghost use Rattle.c_types_expressions.specs.Walks.{IsDecl};
+ghost use Rattle.c_types_statements.specs.Walks.{IsRest};
 ghost use Rattle.c_types.specs.States.{Follows, IsSound, program_of};
 ghost use Rattle.c_types.specs.Pieces.{global_of};
 
 use crate::declarations::Declarations;
 use crate::growing::append;
 use crate::members::name_of;
-use c_environment::{Environment, Meaning};
-use c_initials::initial;
 use c_lexer::Text;
-use c_operators::TypeError;
 use c_syntax::{DeclId, Rest, Tree};
-use c_type_table::TypeId;
-use c_typed_program::{Global, Initial};
+use c_types_environment::{Environment, Meaning};
+use c_types_initializers::initial;
+use c_types_operators::TypeError;
+use c_types_program::{Global, Initial};
+use c_types_table::TypeId;
 use std::alloc::AllocError;
 
 impl Declarations {

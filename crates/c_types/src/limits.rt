@@ -1,13 +1,13 @@
-//! Numbers that a source may go past.
+//! Limits that a source may exceed.
 
 ghost use Rattle.std.specs.Prelude.{◌≡◌, List, length, map, not};
 ghost use Rattle.std.specs.Option.{option_map};
 ghost use Rattle.std.specs.List.{All};
-ghost use Rattle.c_type_model.specs.Layouts.{capped, end_from};
-ghost use Rattle.c_type_table.specs.Tables.{IsBelow};
-ghost use Rattle.c_typing.specs.Limits.{all_keep, few_params as few_params_by_rules, first_limit as first_by_rules, globals_end as globals_end_by_rules, small_frame as small_frame_by_rules};
-ghost use Rattle.c_typing.specs.Sources.{Program, extents_in};
-ghost use Rattle.c_typed_program.specs.Declarations.{IsFunction, IsGlobal, function_in, global_in, types_in};
+ghost use Rattle.c_types_model.specs.Layouts.{capped, end_from};
+ghost use Rattle.c_types_table.specs.Tables.{IsBelow};
+ghost use Rattle.c_types_rules.specs.Limits.{all_keep, few_params as few_params_by_rules, first_limit as first_by_rules, globals_end as globals_end_by_rules, small_frame as small_frame_by_rules};
+ghost use Rattle.c_types_rules.specs.Sources.{Program, extents_in};
+ghost use Rattle.c_types_program.specs.Declarations.{IsFunction, IsGlobal, function_in, global_in, types_in};
 ghost use Rattle.c_types.specs.Answers.{which_in};
 ghost use Rattle.c_types.specs.States.{IsAligned, IsSound, program_of};
 
@@ -15,10 +15,10 @@ use crate::declarations::Declarations;
 use crate::error::Which;
 use crate::extents::end_after;
 use crate::signature::param_count;
-use c_environment::Environment;
-use c_type_model::GREATEST_OBJECT;
-use c_type_table::TypeId;
-use c_typed_program::{Function, Global};
+use c_types_environment::Environment;
+use c_types_model::GREATEST_OBJECT;
+use c_types_program::{Function, Global};
+use c_types_table::TypeId;
 
 /// How many functions a source has at most.
 const MOST_FUNCTIONS: usize = 1_000;
@@ -95,7 +95,7 @@ fn small_frames(env: &Environment, functions: &[Function]) -> bool
 }
 
 impl Declarations {
-    /// The first number that is gone past; `None` where none is.
+    /// The first limit that is exceeded; `None` where none is.
     pub(crate) fn first_limit(&self) -> Option<Which>
         requires sound { IsSound self.now }
         ensures { option_map which_in result ≡ first_by_rules (not self.now.env.found_large) (program_of self.now) }

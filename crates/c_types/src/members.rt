@@ -4,22 +4,22 @@ ghost use Rattle.std.specs.Prelude.{◌≡◌, ◌∷◌, ◌++◌, ◌<◌, [],
 ghost use Rattle.c_syntax.specs.Stands.{StandDecls, StandsDecl};
 ghost use Rattle.c_syntax.specs.Syntax as syntax;
 ghost use Rattle.c_syntax.specs.Syntax.{Decls};
-ghost use Rattle.c_type_table.specs.Tables.{type_at};
-ghost use Rattle.c_typing.specs.Expressions.{declared_name};
-ghost use Rattle.c_typing.specs.Sources.{member_of as member_by_rules, members_from as members_by_rules};
-ghost use Rattle.c_typed_table.specs.Tables.{Table};
-ghost use Rattle.c_operators.specs.Answers.{Agrees};
-ghost use Rattle.c_expressions.specs.Found.{Finds, Stays};
-ghost use Rattle.c_expressions.specs.Walks.{AreDecls, IsDecl};
+ghost use Rattle.c_types_table.specs.Tables.{type_at};
+ghost use Rattle.c_types_rules.specs.Expressions.{declared_name};
+ghost use Rattle.c_types_rules.specs.Sources.{member_of as member_by_rules, members_from as members_by_rules};
+ghost use Rattle.c_types_nodes.specs.Tables.{Table};
+ghost use Rattle.c_types_operators.specs.Answers.{Agrees};
+ghost use Rattle.c_types_expressions.specs.Found.{Finds, Stays};
+ghost use Rattle.c_types_expressions.specs.Walks.{AreDecls, IsDecl};
 ghost use Rattle.c_types.specs.Members.{AreBelow, members_in};
 ghost use Rattle.c_types.specs.Pieces.{named_member};
 
-use c_environment::{Environment, is_reserved};
-use c_expressions::declared_type;
-use c_operators::TypeError;
-use c_structs::Members;
 use c_syntax::{Decl, DeclId, Tree};
-use c_type_table::TypeId;
+use c_types_environment::{Environment, is_reserved};
+use c_types_expressions::declared_type;
+use c_types_operators::TypeError;
+use c_types_structs::Members;
+use c_types_table::TypeId;
 
 /// The name that a declaration declares, which is empty where it has none.
 pub(crate) fn name_of(decl: &Decl) -> &[u8]
@@ -31,7 +31,7 @@ pub(crate) fn name_of(decl: &Decl) -> &[u8]
     }
 }
 
-// Puts one more behind the others, whose types are in a table t. `from` is the offset of its declaration.
+// Puts one more after the others, whose types are in a table t. `from` is the offset of its declaration.
 //
 // `Rule` where its name begins with `r2_`, or is that of another.
 fn add(members: &mut Members, from: u32, name: &[u8], ty: TypeId) -> Result<(), TypeError>

@@ -1,13 +1,13 @@
 //! Types of functions.
 
 ghost use Rattle.std.specs.Prelude.{◌≡◌, ◌<◌, length};
-ghost use Rattle.c_type_table.specs.Tables.{type_at};
-ghost use Rattle.c_typing.specs.Limits.{count};
-ghost use Rattle.c_typing.specs.Sources.{main_type, params_of};
-ghost use Rattle.c_typing.specs.TypeTests.{same_type};
+ghost use Rattle.c_types_table.specs.Tables.{type_at};
+ghost use Rattle.c_types_rules.specs.Limits.{count};
+ghost use Rattle.c_types_rules.specs.Sources.{main_type, params_of};
+ghost use Rattle.c_types_rules.specs.TypeTests.{same_type};
 
-use c_environment::Environment;
-use c_type_table::{Ty, TypeId};
+use c_types_environment::Environment;
+use c_types_table::{Ty, TypeId};
 use r2_num::IntKind;
 
 /// Whether a type is that of the function where a program begins: `int (void)` (C11 5.1.2.2.1).

@@ -2,19 +2,19 @@
 
 ghost use Rattle.std.specs.Prelude.{◌≡◌, ℕ, List};
 ghost use Rattle.std.specs.List.{All};
-ghost use Rattle.c_typing.specs.Sources.{Program};
-ghost use Rattle.c_typed_program.specs.Declarations.{IsFunction, IsGlobal};
-ghost use Rattle.c_typed_program.specs.Programs.{IsProgram};
-ghost use Rattle.c_environment.specs.States.{State};
-ghost use Rattle.c_expressions.specs.Found.{Stays};
+ghost use Rattle.c_types_rules.specs.Sources.{Program};
+ghost use Rattle.c_types_program.specs.Declarations.{IsFunction, IsGlobal};
+ghost use Rattle.c_types_program.specs.Programs.{IsProgram};
+ghost use Rattle.c_types_environment.specs.States.{State};
+ghost use Rattle.c_types_expressions.specs.Found.{Stays};
 ghost use Rattle.c_types.specs.declared.source.TypedSource as sources;
 ghost use Rattle.c_types.specs.Sources.{IsTypedAs};
 
-use c_environment::Environment;
 use c_syntax::Seq;
-use c_typed_program::{Function, Global, TextLiteral, TypedProgram};
+use c_types_environment::Environment;
+use c_types_program::{Function, Global, TextLiteral, TypedProgram};
 
-/// A source that keeps all rules of types and goes past no number: what is declared at its end, its functions by number less 16, its
+/// A source that keeps all rules of types and exceeds no limit: what is declared at its end, its functions by number less 16, its
 /// globals by place, and its strings in order, each once.
 #[derive(Drop)]
 pub struct TypedSource {

@@ -3,13 +3,13 @@
 ghost use Rattle.std.specs.Prelude.{◌≡◌, IfOk};
 ghost use Rattle.c_syntax.specs.Stands.{StandDecls};
 ghost use Rattle.c_syntax.specs.Syntax.{Decls};
-ghost use Rattle.c_typing.specs.Sources.{tags_of as tags_by_rules};
+ghost use Rattle.c_types_rules.specs.Sources.{tags_of as tags_by_rules};
 ghost use Rattle.std.specs.Option.{option_copied};
-ghost use Rattle.c_expressions.specs.Walks.{AreDecls};
+ghost use Rattle.c_types_expressions.specs.Walks.{AreDecls};
 ghost use Rattle.c_types.specs.Pieces.{defined_tag as tag_by_parts};
 
-use c_structs::Tags;
 use c_syntax::{Base, Decl, DeclId, Rest, Tree};
+use c_types_structs::Tags;
 use std::alloc::{AllocError, Global};
 
 /// The tag of a declaration that defines a struct; `None` of any other.

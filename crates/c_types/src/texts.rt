@@ -5,7 +5,7 @@ ghost use Rattle.c_types.specs.Texts.{texts_among};
 
 use c_lexer::{Kind, Text, Token};
 use c_syntax::Seq;
-use c_typed_program::TextLiteral;
+use c_types_program::TextLiteral;
 use std::alloc::{AllocError, Global};
 
 /// The strings among the tokens of a source, in their order. `AllocError` where there is no memory for them.

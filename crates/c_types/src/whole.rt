@@ -3,10 +3,10 @@
 ghost use Rattle.std.specs.Prelude.{◌≡◌, map};
 ghost use Rattle.c_syntax.specs.Stands.{Holds};
 ghost use Rattle.c_syntax.specs.Syntax.{Decls};
-ghost use Rattle.c_typing.specs.Limits.{outcome};
-ghost use Rattle.c_typing.specs.Sources.{declarations as declarations_by_rules, has_main as has_main_by_rules, tags_of as tags_by_rules};
-ghost use Rattle.c_typed_program.specs.Declarations.{function_in};
-ghost use Rattle.c_typed_table.specs.Tables.{Table};
+ghost use Rattle.c_types_rules.specs.Limits.{outcome};
+ghost use Rattle.c_types_rules.specs.Sources.{declarations as declarations_by_rules, has_main as has_main_by_rules, tags_of as tags_by_rules};
+ghost use Rattle.c_types_program.specs.Declarations.{function_in};
+ghost use Rattle.c_types_nodes.specs.Tables.{Table};
 ghost use Rattle.c_types.specs.Answers.{IsChecked, IsCheckedSource, IsSource};
 ghost use Rattle.c_types.specs.States.{Ends, IsSound, program_of};
 ghost use Rattle.c_types.specs.Pieces.{finished as finished_by_rules};
@@ -18,9 +18,9 @@ use crate::source::TypedSource;
 use crate::tags::tags_of;
 use crate::texts::texts_of;
 use c_lexer::Token;
-use c_operators::TypeError;
 use c_syntax::{Seq, Tree};
-use c_typed_program::{Function, TextLiteral, TypedProgram};
+use c_types_operators::TypeError;
+use c_types_program::{Function, TextLiteral, TypedProgram};
 use std::alloc::Global;
 
 // Whether one of the functions is main, and has a body.
@@ -77,7 +77,7 @@ fn all_declared(declared: Declarations, tree: &Tree) -> Result<Declarations, Typ
 /// still be read.
 ///
 /// `Rule` names the first rule that is broken in it, with the offset of the node that breaks it. `Limit` where it keeps all rules and
-/// goes past a number. `Memory` where there is no memory.
+/// exceeds a limit. `Memory` where there is no memory.
 pub fn check_source(alloc: Global, tokens: &[Token], tree: &Tree) -> Result<TypedSource, CheckError>
     // The tree is that of a source whose numbers are such as tokens are.
     requires { IsSource tree.now }

@@ -9,25 +9,25 @@ use thread_runs::{Below, Run, marks_of, marks_with};
 
 // A call of the function `f`, with these marks.
 #[derive(Clone, Copy)]
-struct Row<'a> {
+struct Case<'a> {
     source: &'a str,
     args: &'a [u64],
     below: &'a [Below<'a>],
     marks: &'a str,
 }
 
-// That each row has its marks, where `f` runs on the side.
-fn check(rt: &(impl Abort + AllocGlobal), side: Side, rows: &[Row<'_>]) -> Result<(), Fail> {
-    for row in rows {
+// That each case has its marks, where `f` runs on the side.
+fn check(rt: &(impl Abort + AllocGlobal), side: Side, cases: &[Case<'_>]) -> Result<(), Fail> {
+    for case in cases {
         let run = Run {
-            source: row.source,
+            source: case.source,
             func: "f",
-            args: row.args,
+            args: case.args,
             side,
-            below: row.below,
+            below: case.below,
         };
         let made = run.marks(rt.alloc())?;
-        assert_eq!(rt; made.as_str(), row.marks, "{}", row.source);
+        assert_eq!(rt; made.as_str(), case.marks, "{}", case.source);
     }
     Ok(())
 }
@@ -113,7 +113,7 @@ fn a_function_calls_itself_as_deep_as_its_thread_may_go(rt: HostRuntime) -> Resu
     Ok(())
 }
 
-// `h` is number 16, `e` 17, `f` 18, and behind them `seam` and `main` are 19 and 20.
+// `h` is number 16, `e` 17, `f` 18, and after them `seam` and `main` are 19 and 20.
 const THROUGH: &str =
     "int h(int a) { return a; } int e(int a); int f(int (*p)(int)) { return p(7); }";
 
@@ -156,7 +156,7 @@ fn an_address_of_no_function_of_the_type_is_a_fault(rt: HostRuntime) -> Result<(
 }
 
 #[test]
-fn a_fault_of_an_address_comes_behind_the_arguments(rt: HostRuntime) -> Result<(), Fail> {
+fn a_fault_of_an_address_comes_after_the_arguments(rt: HostRuntime) -> Result<(), Fail> {
     let source = "int (*p)(int); int x; int f(void) { return p(x); }";
     let made = marks_of(rt.alloc(), source)?;
     assert_eq!(rt; made.as_str(), "enter.f() load.p.8=0 load.x.4=0 fault.6");
@@ -165,70 +165,70 @@ fn a_fault_of_an_address_comes_behind_the_arguments(rt: HostRuntime) -> Result<(
 
 #[test]
 fn a_call_of_the_interface_is_an_event(rt: HostRuntime) -> Result<(), Fail> {
-    let rows = [
-        Row {
+    let cases = [
+        Case {
             source: "[cut(c)] int ask(int n); int f(int n) { return ask(n); }",
             args: &[3],
             below: &[Below::Gives(9)],
             marks: "enter.f(3) load.@0.4=3 call.ask(3) ret.ask=9 leave ends=9",
         },
-        Row {
+        Case {
             source: "[cut(c)] int ask(int n) { return n + 1; } int f(void) { return ask(4); }",
             args: &[],
             below: &[Below::Runs],
             marks: "enter.f() call.ask(4) enter.ask(4) load.@0.4=4 leave ret.ask=5 leave ends=5",
         },
-        Row {
+        Case {
             source: "[cut(c)] int ask(int n); int f(int (*p)(int)) { return p(7); }",
             args: &[function_address(16)],
             below: &[Below::Gives(u64::MAX)],
             marks: "enter.f(4352) load.@0.8=4352 call.ask(7) ret.ask=-1 leave ends=-1",
         },
-        Row {
+        Case {
             source: "[cut(c)] void ask(void); int f(void) { ask(); return 1; }",
             args: &[],
             below: &[Below::Gives(0)],
             marks: "enter.f() call.ask() ret.ask=0 leave ends=1",
         },
         // what isn't of the type of the result isn't given
-        Row {
+        Case {
             source: "[cut(c)] char ask(void); int f(void) { return ask(); }",
             args: &[],
             below: &[Below::Gives(128)],
             marks: "enter.f() call.ask() stuck",
         },
-        Row {
+        Case {
             source: "[cut(c)] int ask(int n); int f(int n) { return ask(n); }",
             args: &[3],
             below: &[Below::Runs],
             marks: "enter.f(3) load.@0.4=3 call.ask(3) stuck",
         },
-        Row {
+        Case {
             source: "int f(void) { return r2_lock(3); }",
             args: &[],
             below: &[Below::Gives(0)],
             marks: "enter.f() call.r2_lock(3) ret.r2_lock=0 leave ends=0",
         },
-        Row {
+        Case {
             source: "int h(void *p) { return 0; } int f(void) { return r2_join(r2_spawn(h, 0)); }",
             args: &[],
             below: &[Below::Gives(1), Below::Gives(5)],
             marks: "enter.f() call.r2_spawn(4352,0) ret.r2_spawn=1 call.r2_join(1) ret.r2_join=5 leave ends=5",
         },
-        Row {
+        Case {
             source: "void f(void) { r2_print(\"ab\", 2); }",
             args: &[],
             below: &[Below::Gives(0)],
             marks: "enter.f() call.r2_print(&string0,2) ret.r2_print=0 leave ends=0",
         },
     ];
-    check(&rt, Side::Replay, rows.as_slice())
+    check(&rt, Side::Replay, cases.as_slice())
 }
 
 #[test]
 fn code_below_a_call_calls_back(rt: HostRuntime) -> Result<(), Fail> {
-    let rows = [
-        Row {
+    let cases = [
+        Case {
             source: "int twice(int n) { return n * 2; } [cut(c)] int ask(int n); int f(int n) { return ask(n); }",
             args: &[3],
             below: &[Below::CallsBack("twice", 4), Below::Gives(9)],
@@ -236,7 +236,7 @@ fn code_below_a_call_calls_back(rt: HostRuntime) -> Result<(), Fail> {
                     ret.ask=9 leave ends=9",
         },
         // once more, with another function of the interface below it
-        Row {
+        Case {
             source: "[cut(c)] int ask(int n); int back(int n) { return ask(n) + 1; } int f(void) { return ask(1); }",
             args: &[],
             below: &[
@@ -250,7 +250,7 @@ fn code_below_a_call_calls_back(rt: HostRuntime) -> Result<(), Fail> {
                     up.back(3) enter.back(3) load.@0.4=3 call.ask(3) ret.ask=20 leave upret=21 \
                     ret.ask=30 leave ends=30",
         },
-        Row {
+        Case {
             source: "[cut(c)] int ask(int n); int back(int n) { return ask(n) + 1; } int f(void) { return ask(1); }",
             args: &[],
             below: &[
@@ -265,14 +265,14 @@ fn code_below_a_call_calls_back(rt: HostRuntime) -> Result<(), Fail> {
                     ret.ask=20 leave upret=21 ret.ask=30 leave ends=30",
         },
         // the body of the interface calls an address back
-        Row {
+        Case {
             source: "int h(int n) { return n; } [cut(c)] int ask(int (*g)(int)) { return g(2); } int f(void) { return ask(h); }",
             args: &[],
             below: &[Below::Runs, Below::GoesUp],
             marks: "enter.f() call.ask(4352) enter.ask(4352) load.@0.8=4352 up.h(2) enter.h(2) load.@0.4=2 leave upret=2 \
                     leave ret.ask=2 leave ends=2",
         },
-        Row {
+        Case {
             source: "int h(int n) { return n; } [cut(c)] int ask(int (*g)(int)) { return g(2); } int f(void) { return ask(h); }",
             args: &[],
             below: &[Below::Runs],
@@ -280,7 +280,7 @@ fn code_below_a_call_calls_back(rt: HostRuntime) -> Result<(), Fail> {
                     leave ret.ask=2 leave ends=2",
         },
     ];
-    check(&rt, Side::Replay, rows.as_slice())
+    check(&rt, Side::Replay, cases.as_slice())
 }
 
 #[test]
@@ -308,68 +308,68 @@ fn replay_code_takes_its_blocks_from_the_pool(rt: HostRuntime) -> Result<(), Fai
 #[test]
 fn system_code_makes_no_events_but_calls_back(rt: HostRuntime) -> Result<(), Fail> {
     let through = "int h(int a) { return a; } int f(int (*p)(int)) { return p(7); }";
-    let rows = [
-        Row {
+    let cases = [
+        Case {
             source: "int f(void) { r2_lock(1); return r2_unlock(1); }",
             args: &[],
             below: &[Below::Gives(0), Below::Gives(u64::MAX)],
             marks: "enter.f() step.r2_lock(1)=0 step.r2_unlock(1)=-1 leave ends=-1",
         },
-        Row {
+        Case {
             source: "void *f(void) { r2_free(0); return r2_malloc(5); }",
             args: &[],
             below: &[Below::Gives(0), Below::Gives(100)],
             marks: "enter.f() step.r2_free(0)=0 step.r2_malloc(5)=100 leave ends=100",
         },
-        Row {
+        Case {
             source: "int ext(int n); int x; int f(void) { return ext(x) - ext(3); }",
             args: &[],
             below: &[Below::Gives(5), Below::Gives(6)],
             marks: "enter.f() load.x.4=0 step.ext(0)=5 step.ext(3)=6 leave ends=-1",
         },
-        Row {
+        Case {
             source: "[cut(c)] int ask(int n); int f(void) { return ask(4); }",
             args: &[],
             below: &[Below::Gives(7)],
             marks: "enter.f() step.ask(4)=7 leave ends=7",
         },
-        Row {
+        Case {
             source: "[cut(c)] int ask(int n) { return n; } int f(void) { return ask(4); }",
             args: &[],
             below: &[],
             marks: "enter.f() enter.ask(4) load.@0.4=4 leave leave ends=4",
         },
-        Row {
+        Case {
             source: through,
             args: &[function_address(16)],
             below: &[],
             marks: "enter.f(4352) load.@0.8=4352 enter.h(7) load.@0.4=7 leave leave ends=7",
         },
-        Row {
+        Case {
             source: through,
             args: &[function_address(16)],
             below: &[Below::GoesUp],
             marks: "enter.f(4352) load.@0.8=4352 up.h(7) enter.h(7) load.@0.4=7 leave upret=7 leave ends=7",
         },
-        Row {
+        Case {
             source: through,
             args: &[0],
             below: &[Below::GoesUp],
             marks: "enter.f(0) load.@0.8=0 fault.6",
         },
-        Row {
+        Case {
             source: "int ext(int n); int f(int (*p)(int)) { return p(7); }",
             args: &[function_address(16)],
             below: &[Below::Gives(8)],
             marks: "enter.f(4352) load.@0.8=4352 step.ext(7)=8 leave ends=8",
         },
         // a call by its name never calls back
-        Row {
+        Case {
             source: "int h(int a) { return a; } int f(void) { return h(7); }",
             args: &[],
             below: &[Below::GoesUp],
             marks: "enter.f() enter.h(7) load.@0.4=7 leave leave ends=7",
         },
     ];
-    check(&rt, Side::System, rows.as_slice())
+    check(&rt, Side::System, cases.as_slice())
 }

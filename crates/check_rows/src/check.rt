@@ -1,6 +1,6 @@
 use program_runs::{
-    POOL, check_cut, check_of, empty_statements, front, run_words, signs_before_zero, waiting_ones,
-    zero_in_brackets,
+    POOL, check_cut, check_of, empty_statements, prefix, run_words, signs_before_zero,
+    waiting_ones, zero_in_brackets,
 };
 use r2_base::{MemFiles, MemSink};
 use r2_cli::Status;
@@ -174,7 +174,7 @@ fn a_source_has_at_most_1_mebibyte(rt: HostRuntime) -> Result<(), AllocError> {
         left.err.as_slice(),
         b"r2: limit source 1048576\n".as_slice()
     );
-    let left = check_of(alloc, front(&spaces, 1_048_576))?;
+    let left = check_of(alloc, prefix(&spaces, 1_048_576))?;
     assert_eq!(rt; left.err.as_slice(), b"r2: source 0 rule 18\n".as_slice());
     Ok(())
 }

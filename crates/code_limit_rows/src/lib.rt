@@ -1,4 +1,4 @@
-//! Sources just within each limit of flat code, and just past it.
+//! Sources just within each limit of flat code, and just above it.
 #![tactic(auto)]
 
 #[cfg(test)]

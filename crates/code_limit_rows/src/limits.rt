@@ -1,4 +1,5 @@
-//! How large the flat code of a source may be: nodes, waiting values, and how deep a source may nest.
+//! How large the flat code of a source may be: nodes, values on the evaluation stack, and how deep a source
+//may nest.
 
 use front_end::{SourceError, SourceLimit, SourceRule, check_source};
 use std::alloc::{AllocError, Global};
@@ -15,7 +16,7 @@ const WITH_MAIN: &str = "[cut(c)] int seam(void); int main(void) { return 0; } "
 const NAMES: &str = "int g; int a[2]; int *p; int h(int x, int y); int (*q)(int x, int y); \
                      struct s { int m; }; struct s *u; ";
 
-/// An expression of 64 waiting values is this often `1 + (`, around a `1`.
+/// An expression of 64 values on the evaluation stack is this often `1 + (`, around a `1`.
 const SUMS: usize = 63;
 
 // What is wrong with a source.
@@ -105,7 +106,7 @@ fn each_statement_expression_declarator_and_value_is_a_node(rt: HostRuntime) -> 
     Ok(())
 }
 
-// ---- waiting values
+// ---- values on the evaluation stack
 
 // What is wrong with a source with a function that evaluates the expression.
 fn fault_of_value(alloc: Global, expression: &str) -> Result<Option<SourceError>, AllocError> {
@@ -114,7 +115,8 @@ fn fault_of_value(alloc: Global, expression: &str) -> Result<Option<SourceError>
     Ok(fault_of(alloc, source.as_str()))
 }
 
-// That so many values wait in the expression that 64 of them are the most: they are accepted, but not where one more waits for them.
+// That the evaluation stack is so deep in the expression that 64 of them are the most: they are accepted,
+// but not where one more waits for them.
 fn check_64(rt: &(impl Abort + AllocGlobal), expression: &str) -> Result<(), Fail> {
     assert_eq!(rt;
         fault_of_value(rt.alloc(), expression)?,
@@ -203,7 +205,7 @@ fn a_call_is_direct_where_its_name_is_a_function_there(rt: HostRuntime) -> Resul
     Ok(())
 }
 
-// What is wrong with a source in which a sum stands between the texts, with so many values that wait.
+// What is wrong with a source in which a sum stands between the texts, with an evaluation stack so deep.
 fn fault_of_sum(
     alloc: Global,
     before: &str,
@@ -331,7 +333,7 @@ fn rule_of(error: Option<SourceError>) -> Option<SourceRule> {
 }
 
 #[test]
-fn too_many_nodes_are_told_before_values_and_behind_the_rest(rt: HostRuntime) -> Result<(), Fail> {
+fn too_many_nodes_are_told_before_values_and_after_the_rest(rt: HostRuntime) -> Result<(), Fail> {
     let sum = nested(rt.alloc(), "1 + (", "1", ")", 64)?;
     let after = joined(rt.alloc(), " return ", sum.as_str(), "; }")?;
     let after = after.as_str();
@@ -364,7 +366,7 @@ fn too_many_nodes_are_told_before_values_and_behind_the_rest(rt: HostRuntime) ->
 
 // ---- nesting
 
-// A statement, or an expression, in so many of its kind; the tuple is what stands before and behind each.
+// A statement, or an expression, in so many of its kind; the tuple is what stands before and after each.
 fn fault_of_nested(
     alloc: Global,
     around: (&str, &str),

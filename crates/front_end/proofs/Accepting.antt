@@ -5,12 +5,12 @@ use Rattle.c_lexer.specs.Lexing.{IsTokens}
 use Rattle.c_parser.specs.Parsed.{IsParsed}
 use Rattle.c_syntax.specs.Nodes.{Nodes}
 use Rattle.c_syntax.specs.Syntax.{Decls}
-use Rattle.c_typing.specs.Limits.{Outcome}
-use Rattle.c_typed_program.specs.Programs.{IsProgram}
-use Rattle.cut_meaning.specs.Cuts.{annotations}
+use Rattle.c_types_rules.specs.Limits.{Outcome}
+use Rattle.c_types_program.specs.Programs.{IsProgram}
+use Rattle.annot_reader_rules.specs.Cuts.{annotations}
 use Rattle.c_types.specs.declared.source.TypedSource.{TypedSource}
-use Rattle.annot_reader.specs.Interfaces.{IsInterface}
-use Rattle.annot_types.specs.Sources as readable
+use Rattle.annot_reader_cut.specs.Interfaces.{IsInterface}
+use Rattle.annot_reader.specs.Sources as readable
 use Rattle.front_end.specs.declared.source.CheckedSource.{CheckedSource}
 use Rattle.front_end.specs.Answers.{IsAccepted, IsCode, IsTyped, SaysOf}
 use Rattle.front_end.specs.Sources.{IsSource, too_large}

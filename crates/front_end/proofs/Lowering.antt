@@ -3,22 +3,22 @@ use Rattle.std.proofs.Common.{◌≡◌, ◌<◌, ◌≤◌, ◌↔◌, if◌the
 use Rattle.std.proofs.lemmas.Bool.{cases_lt}
 use Rattle.c_code.specs.Machine.{Flat}
 use Rattle.c_syntax.specs.Syntax.{Decls}
-use Rattle.c_nodes.specs.Counts.{source_nodes}
-use Rattle.c_nodes.specs.Counts as nodes
-use Rattle.c_placement.specs.Heights.{statement_waits}
-use Rattle.c_typed_table.specs.Tables.{Table}
-use Rattle.c_typed_program.specs.declared.function.Body.{Body}
-use Rattle.c_typed_program.specs.declared.function.Function.{Function}
-use Rattle.c_typing.specs.Sources.{Program, Function as SourceFunction}
-use Rattle.c_typed_program.specs.Declarations.{Declared, function_in, body_in}
-use Rattle.c_typed_program.specs.Programs.{IsProgram}
-use Rattle.c_typed_program.specs.Statements.{statement_in}
+use Rattle.c_lower_nodes.specs.Counts.{source_nodes}
+use Rattle.c_lower_nodes.specs.Counts as nodes
+use Rattle.c_lower_rules.specs.Heights.{statement_depth}
+use Rattle.c_types_nodes.specs.Tables.{Table}
+use Rattle.c_types_program.specs.declared.function.Body.{Body}
+use Rattle.c_types_program.specs.declared.function.Function.{Function}
+use Rattle.c_types_rules.specs.Sources.{Program, Function as SourceFunction}
+use Rattle.c_types_program.specs.Declarations.{Declared, function_in, body_in}
+use Rattle.c_types_program.specs.Programs.{IsProgram}
+use Rattle.c_types_program.specs.Statements.{statement_in}
 use Rattle.c_lower.specs.declared.error.LowerError.{LowerError}
 use Rattle.c_lower.specs.declared.error.LowerError.TheVariants as lowering
-use Rattle.c_lower.specs.Waits.{counted_at, first_wide, is_wide as is_wide_in, most_nodes}
-use Rattle.c_waits.specs.Functions.{function_waits}
-use Rattle.c_waits.specs.Waits.{capped}
-use Rattle.wait_laws.specs.NoMore.{NoMore, body_waits}
+use Rattle.c_lower.specs.Depths.{counted_at, first_wide, is_wide as is_wide_in, most_nodes}
+use Rattle.c_lower_stack.specs.Functions.{function_depth}
+use Rattle.c_lower_stack.specs.Depths.{capped}
+use Rattle.c_lower_laws.specs.NoMore.{NoMore, body_depth}
 use Rattle.front_end.specs.declared.error.SourceError.TheVariants as errors
 use Rattle.front_end.specs.declared.error.SourceLimit.TheVariants.{Nodes, Values}
 use Rattle.front_end.specs.Answers.{IsTooLarge}
@@ -44,10 +44,10 @@ one_test n w h = elim (cases_lt 64 n) [
       ap (λ b. b || nat_lt 64 w) (le-ltb 64 (min n 255) m) ∙ (le-ltb 64 w v ∙ sym (le-ltb 64 n less))
 ]
 
--- more than 64 values wait in a function where its number says so
-wide_here : (t : Table) (b : Option Body) (n : ℕ) → body_waits (option_map (body_in t) b) ≤ max 1 n → is_wide_in t b (capped n) ≡ nat_lt 64 n
+-- the evaluation stack is deeper than 64 values in a function where its number says so
+wide_here : (t : Table) (b : Option Body) (n : ℕ) → body_depth (option_map (body_in t) b) ≤ max 1 n → is_wide_in t b (capped n) ≡ nat_lt 64 n
 wide_here t None n h = capped_test n
-wide_here t (Some b) n h = one_test n (statement_waits (statement_in t b.statements)) h
+wide_here t (Some b) n h = one_test n (statement_depth (statement_in t b.statements)) h
 
 -- the counts from a place on
 abbrev From : List ℕ → (place : ℕ) → List ℕ → Type 0
@@ -73,36 +73,36 @@ some_wide t us place (f ∷ fs) (n ∷ ns) h from =
     either true r = refl
     either false r = r
 
--- what was counted of a source, over a typed program that waits no more
+-- what was counted of a source, over a typed program that is no deeper
 pub record Counted (ds : Decls) (t : Table) (fs : List Function) (count : ℕ) (us : List ℕ) : Type 0 where
   pub nodes : count ≡ nodes.capped (source_nodes ds)
-  pub waits : us ≡ map capped (function_waits ds)
-  pub within : NoMore (map (function_in t) fs) (function_waits ds)
+  pub depth : us ≡ map capped (function_depth ds)
+  pub within : NoMore (map (function_in t) fs) (function_depth ds)
 
-pub counted : (ds : Decls) (p : Program) (d : Declared) (count : ℕ) (us : List ℕ) → count ≡ nodes.capped (source_nodes ds) → us ≡ map capped (function_waits ds)
-    → NoMore p.functions (function_waits ds) → IsProgram d p → Counted ds d.table d.functions count us
+pub counted : (ds : Decls) (p : Program) (d : Declared) (count : ℕ) (us : List ℕ) → count ≡ nodes.capped (source_nodes ds) → us ≡ map capped (function_depth ds)
+    → NoMore p.functions (function_depth ds) → IsProgram d p → Counted ds d.table d.functions count us
 counted ds p d count us n w more is = record {
   nodes = n;
-  waits = w;
-  within = subst (λ (fs : List SourceFunction). NoMore fs (function_waits ds)) (sym (ap (λ (q : Program). q.functions) is)) more;
+  depth = w;
+  within = subst (λ (fs : List SourceFunction). NoMore fs (function_depth ds)) (sym (ap (λ (q : Program). q.functions) is)) more;
 }
 
 module _ (ds : Decls) (t : Table) (fs : List Function) (count : ℕ) (us : List ℕ) (c : Counted ds t fs count us) where
-  from_first : (k : ℕ) → counted_at us (0 + k) ≡ counted_at (map capped (function_waits ds)) k
-  from_first k = let first : 0 + k ≡ k = omega arith in ap (counted_at us) first ∙ ap (λ (vs : List ℕ). counted_at vs k) c.waits
+  from_first : (k : ℕ) → counted_at us (0 + k) ≡ counted_at (map capped (function_depth ds)) k
+  from_first k = let first : 0 + k ≡ k = omega arith in ap (counted_at us) first ∙ ap (λ (vs : List ℕ). counted_at vs k) c.depth
 
-  wide_in : is_some (first_wide t us 0 fs) ≡ is_wide (function_waits ds)
-  wide_in = some_wide t us 0 fs (function_waits ds) c.within from_first
+  wide_in : is_some (first_wide t us 0 fs) ≡ is_wide (function_depth ds)
+  wide_in = some_wide t us 0 fs (function_depth ds) c.within from_first
 
   many_nodes : most_nodes < count → too_large ds ≡ Some (errors.Limit Nodes)
   many_nodes h =
       let more : most_nodes < source_nodes ds = let e = c.nodes in omega (arith, h, e) in
-      ap (λ b. if b then Some (errors.Limit Nodes) else if is_wide (function_waits ds) then Some (errors.Limit Values) else None) (lt-ltb most_nodes (source_nodes ds) more)
+      ap (λ b. if b then Some (errors.Limit Nodes) else if is_wide (function_depth ds) then Some (errors.Limit Values) else None) (lt-ltb most_nodes (source_nodes ds) more)
 
   few_nodes : count ≤ most_nodes → too_large ds ≡ (if is_some (first_wide t us 0 fs) then Some (errors.Limit Values) else None)
   few_nodes h =
       let less : source_nodes ds ≤ most_nodes = let e = c.nodes in omega (arith, h, e) in
-      ap (λ b. if b then Some (errors.Limit Nodes) else if is_wide (function_waits ds) then Some (errors.Limit Values) else None) (le-ltb most_nodes (source_nodes ds) less)
+      ap (λ b. if b then Some (errors.Limit Nodes) else if is_wide (function_depth ds) then Some (errors.Limit Values) else None) (le-ltb most_nodes (source_nodes ds) less)
       ∙ ap (λ b. if b then Some (errors.Limit Values) else None) (sym wide_in)
 
   -- nothing is too much where the nodes are few and no function is wide

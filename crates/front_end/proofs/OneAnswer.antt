@@ -2,12 +2,12 @@
 use Rattle.std.proofs.Common.{◌≡◌, ℕ, List, Some, None, sym, ◌∙◌, ap, subst, arith}
 use Rattle.c_lexer.specs.declared.token.Token.{Token}
 use Rattle.c_lexer.specs.declared.error.LexError.{LexError}
-use Rattle.c_lexer.specs.Lexing.{Whole, Stopped, IsTokens, IsRefused}
+use Rattle.c_lexer.specs.Lexing.{Whole, Stopped, IsTokens, IsLexError}
 use Rattle.c_lexer.proofs.Readings as reading
 use Rattle.c_syntax.specs.Syntax.{Decls}
 use Rattle.c_syntax.specs.Sources.{Spells}
 use Rattle.c_syntax.specs.Depth.{LieDecls}
-use Rattle.c_postfix.proofs.Exact as grammar
+use Rattle.c_parser_actions.proofs.Exact as grammar
 use Rattle.front_end.specs.declared.error.SourceError.{SourceError}
 use Rattle.front_end.specs.Errors.{by_tokens}
 use Rattle.front_end.specs.Same as alike
@@ -19,10 +19,10 @@ use Rattle.front_end.specs.Sources.{IsSource, IsWrong, IsRight, fault_of, no_tok
 same_tokens : (bytes : List ℕ) (ts us : List Token) → IsTokens bytes ts → IsTokens bytes us → ts ≡ us
 same_tokens bytes ts us x y = (reading.one x y).0
 
-not_both : (bytes : List ℕ) (ts : List Token) (e : LexError) → IsTokens bytes ts → IsRefused bytes e → ⊥
+not_both : (bytes : List ℕ) (ts : List Token) (e : LexError) → IsTokens bytes ts → IsLexError bytes e → ⊥
 not_both bytes ts e x y = absurd (let same : Whole ≡ Stopped e = (reading.one x y.1).1 in cc)
 
-same_error : (bytes : List ℕ) (e f : LexError) → IsRefused bytes e → IsRefused bytes f → e ≡ f
+same_error : (bytes : List ℕ) (e f : LexError) → IsLexError bytes e → IsLexError bytes f → e ≡ f
 same_error bytes e f x y = let same : Stopped e ≡ Stopped f = (reading.one x.1 y.1).1 in cc
 
 spells_same : (bytes : List ℕ) (ts us : List Token) (ds : Decls) → IsTokens bytes ts → IsTokens bytes us → Spells ts ds → Spells us ds

@@ -9,13 +9,13 @@ use Rattle.c_syntax.specs.Syntax.{Decls}
 use Rattle.c_parser.specs.declared.parsing.ParseError.{ParseError}
 use Rattle.c_parser.specs.declared.parsing.ParseError.TheVariants as parsing
 use Rattle.c_parser.specs.Parsed as grammar
-use Rattle.c_typing.specs.Checked.{Checked, Fine, Large, Broken}
-use Rattle.c_typing.specs.Limits as limits
-use Rattle.c_typing.specs.Limits.{Outcome, outcome}
-use Rattle.c_typing.specs.Sources.{Program}
-use Rattle.c_typed_program.specs.declared.text.TextLiteral.{TextLiteral}
-use Rattle.cut_meaning.specs.Cuts.{annotations}
-use Rattle.cut_meaning.specs.Notes.{Annotated}
+use Rattle.c_types_rules.specs.Checked.{Checked, Fine, Large, Broken}
+use Rattle.c_types_rules.specs.Limits as limits
+use Rattle.c_types_rules.specs.Limits.{Outcome, outcome}
+use Rattle.c_types_rules.specs.Sources.{Program}
+use Rattle.c_types_program.specs.declared.text.TextLiteral.{TextLiteral}
+use Rattle.annot_reader_rules.specs.Cuts.{annotations}
+use Rattle.annot_reader_rules.specs.Notes.{Annotated}
 use Rattle.c_types.specs.declared.error.CheckError.{CheckError}
 use Rattle.c_types.specs.declared.error.CheckError.TheVariants as typing
 use Rattle.c_types.specs.declared.error.Which.{Which}
@@ -23,15 +23,15 @@ use Rattle.c_types.specs.declared.error.Which.TheVariants as numbers
 use Rattle.c_types.specs.declared.source.TypedSource.{TypedSource}
 use Rattle.c_types.specs.Answers.{IsCheckedSource, which_in}
 use Rattle.c_types.specs.Sources.{IsTypedAs}
-use Rattle.annot_reader.specs.declared.error.InterfaceError.{InterfaceError}
-use Rattle.annot_reader.specs.declared.error.InterfaceError.TheVariants as reading
-use Rattle.annot_reader.specs.Interface.{Interface}
-use Rattle.annot_reader.specs.Interfaces.{IsInterface}
+use Rattle.annot_reader_cut.specs.declared.error.InterfaceError.{InterfaceError}
+use Rattle.annot_reader_cut.specs.declared.error.InterfaceError.TheVariants as reading
+use Rattle.annot_reader_cut.specs.Interface.{Interface}
+use Rattle.annot_reader_cut.specs.Interfaces.{IsInterface}
 use Rattle.front_end.specs.declared.error.SourceError.{SourceError}
 use Rattle.front_end.specs.declared.error.SourceError.TheVariants as errors
 use Rattle.front_end.specs.declared.error.SourceLimit.TheVariants.{Types}
 use Rattle.front_end.specs.declared.error.SourceRule.TheVariants as rules
-use Rattle.front_end.specs.Answers.{IsRefused, IsTooLarge}
+use Rattle.front_end.specs.Answers.{IsSourceError, IsTooLarge}
 use Rattle.front_end.specs.Errors.{by_annotations, by_grammar, by_tokens, by_types, found}
 use Rattle.front_end.specs.Sources.{IsSource, fault_of, fault_of_annotations, fault_of_types, no_tokens, no_tree, too_deep, too_large, refused, unless_named, which_of}
 
@@ -39,19 +39,19 @@ use Rattle.front_end.specs.Sources.{IsSource, fault_of, fault_of_annotations, fa
 
 -- an error of which it is said exactly when it comes
 abbrev Exactly : Type 0 → List ℕ → LexError → LexError → Type 0
-Exactly T text error e = ◌≢◌ {A = Result T LexError} (Err error) (Err lexing.Memory) → (IsErrOf {T = T} (Err error) e ↔ tokens.IsRefused text e)
+Exactly T text error e = ◌≢◌ {A = Result T LexError} (Err error) (Err lexing.Memory) → (IsErrOf {T = T} (Err error) e ↔ tokens.IsLexError text e)
 
 pub by_lexing : {T : Type 0} (bytes cut : List ℕ) (error : LexError)
     → ((n : ℕ) → Exactly T bytes error (lexing.BadByte n)) → ((n : ℕ) → Exactly T bytes error (lexing.OpenText n))
     → ((n : ℕ) → Exactly T bytes error (lexing.BigNumber n)) → ((n : ℕ) → Exactly T bytes error (lexing.Directive n))
-    → IsRefused bytes cut (by_tokens error)
+    → IsSourceError bytes cut (by_tokens error)
 by_lexing bytes cut (lexing.BadByte n) byte open_text number directive = no_tokens (lexing.BadByte n) ((byte n (λ k. cc)).0 refl)
 by_lexing bytes cut (lexing.OpenText n) byte open_text number directive = no_tokens (lexing.OpenText n) ((open_text n (λ k. cc)).0 refl)
 by_lexing bytes cut (lexing.BigNumber n) byte open_text number directive = no_tokens (lexing.BigNumber n) ((number n (λ k. cc)).0 refl)
 by_lexing bytes cut (lexing.Directive n) byte open_text number directive = no_tokens (lexing.Directive n) ((directive n (λ k. cc)).0 refl)
 by_lexing bytes cut lexing.Memory byte open_text number directive = tt
 
-pub by_parsing : (bytes cut : List ℕ) (ts : List Token) (error : ParseError) → tokens.IsTokens bytes ts → grammar.IsRefused ts error → IsRefused bytes cut (by_grammar error)
+pub by_parsing : (bytes cut : List ℕ) (ts : List Token) (error : ParseError) → tokens.IsTokens bytes ts → grammar.IsParseError ts error → IsSourceError bytes cut (by_grammar error)
 by_parsing bytes cut ts (parsing.Token at) lexed none = no_tree at ts lexed none
 by_parsing bytes cut ts (parsing.Deep at) lexed deep = too_deep at ts deep.0 lexed deep.1 deep.2
 by_parsing bytes cut ts parsing.Memory lexed none = tt
@@ -67,7 +67,7 @@ same_number numbers.Globals = refl
 same_number numbers.Frame = refl
 
 broken_types : (bytes cut : List ℕ) (ds : Decls) (texts : List TextLiteral) (tags : List (List ℕ)) (o : Outcome) (error : CheckError)
-    → outcome ds ≡ o → IsSource bytes ds → IsCheckedSource texts tags o (Err error) → IsRefused bytes cut (by_types error)
+    → outcome ds ≡ o → IsSource bytes ds → IsCheckedSource texts tags o (Err error) → IsSourceError bytes cut (by_types error)
 broken_types bytes cut ds texts tags o typing.Memory same source is = tt
 broken_types bytes cut ds texts tags (limits.Rule from rule) (typing.Rule f r) same source is =
     refused (found (rules.Type r) f) ds source
@@ -81,7 +81,7 @@ broken_types bytes cut ds texts tags (limits.Typed p) (typing.Rule f r) same sou
 broken_types bytes cut ds texts tags (limits.Typed p) (typing.Limit v) same source is = absurd is
 
 pub by_typing : (bytes cut : List ℕ) (ds : Decls) (texts : List TextLiteral) (tags : List (List ℕ)) (error : CheckError)
-    → IsSource bytes ds → IsCheckedSource texts tags (outcome ds) (Err error) → IsRefused bytes cut (by_types error)
+    → IsSource bytes ds → IsCheckedSource texts tags (outcome ds) (Err error) → IsSourceError bytes cut (by_types error)
 by_typing bytes cut ds texts tags error source is = broken_types bytes cut ds texts tags (outcome ds) error refl source is
 
 typed_program : (ds : Decls) (texts : List TextLiteral) (tags : List (List ℕ)) (o : Outcome) (s : TypedSource) → outcome ds ≡ o → IsCheckedSource texts tags o (Ok s)
@@ -108,7 +108,7 @@ no_cut cut ds (Large a) is = ap (unless_named ds) is
 no_cut cut ds (Broken from rule) is = absurd is
 
 pub by_reading : (bytes cut : List ℕ) (ds : Decls) (p : Program) (error : InterfaceError) → outcome ds ≡ limits.Typed p → IsSource bytes ds
-    → IsInterface cut (annotations ds p) (Err error) → IsRefused bytes cut (by_annotations error)
+    → IsInterface cut (annotations ds p) (Err error) → IsSourceError bytes cut (by_annotations error)
 by_reading bytes cut ds p (reading.Rule f r) same source is =
     refused (found (rules.Annotation r) f) ds source (ap (fault_of_types cut ds) same ∙ broken_annotations cut ds (annotations ds p) f r is)
 by_reading bytes cut ds p reading.NoSuchCut same source is = refused errors.NoSuchCut ds source (ap (fault_of_types cut ds) same ∙ no_cut cut ds (annotations ds p) is)
@@ -125,7 +125,7 @@ read cut ds p i same is = ap (fault_of_types cut ds) same ∙ named cut ds (anno
 
 -- ---- code
 
-pub by_size : (bytes cut : List ℕ) (ds : Decls) (error : SourceError) → IsSource bytes ds → fault_of cut ds ≡ too_large ds → IsTooLarge ds error → IsRefused bytes cut error
+pub by_size : (bytes cut : List ℕ) (ds : Decls) (error : SourceError) → IsSource bytes ds → fault_of cut ds ≡ too_large ds → IsTooLarge ds error → IsSourceError bytes cut error
 by_size bytes cut ds (errors.Fault f) source same is = refused (errors.Fault f) ds source (same ∙ is)
 by_size bytes cut ds errors.NoSuchCut source same is = refused errors.NoSuchCut ds source (same ∙ is)
 by_size bytes cut ds (errors.Limit l) source same is = refused (errors.Limit l) ds source (same ∙ is)

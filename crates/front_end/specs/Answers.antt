@@ -4,23 +4,23 @@ use Rattle.c_lexer.specs.declared.token.Token.{Token}
 use Rattle.c_syntax.specs.Nodes.{Nodes}
 use Rattle.c_syntax.specs.Stands.{Holds}
 use Rattle.c_syntax.specs.Syntax.{Decls}
-use Rattle.c_walks.specs.Numbers.{FitsDecls}
-use Rattle.c_typing.specs.Limits.{Outcome, Typed, outcome}
-use Rattle.c_typing.specs.Sources.{Program, tags_of}
+use Rattle.c_syntax_laws.specs.Numbers.{FitsDecls}
+use Rattle.c_types_rules.specs.Limits.{Outcome, Typed, outcome}
+use Rattle.c_types_rules.specs.Sources.{Program, tags_of}
 use Rattle.c_code.specs.Machine.{Flat}
-use Rattle.c_meaning.specs.Context.{Source}
-use Rattle.c_placement.specs.Laws.{MakesTheMarks}
-use Rattle.c_typed_program.specs.Declarations.{Declared}
-use Rattle.c_typed_program.specs.Programs.{IsProgram}
-use Rattle.c_typed_program.specs.declared.text.TextLiteral.{TextLiteral}
+use Rattle.c_semantics.specs.Context.{Source}
+use Rattle.c_lower_rules.specs.Laws.{MakesTheMarks}
+use Rattle.c_types_program.specs.Declarations.{Declared}
+use Rattle.c_types_program.specs.Programs.{IsProgram}
+use Rattle.c_types_program.specs.declared.text.TextLiteral.{TextLiteral}
 use Rattle.c_lower.specs.Lowered.{IsSourceOf, lowered}
 use Rattle.c_lower.specs.Named.{NamesNoMore}
-use Rattle.cut_meaning.specs.Cuts.{annotations}
+use Rattle.annot_reader_rules.specs.Cuts.{annotations}
 use Rattle.c_types.specs.declared.source.TypedSource.{TypedSource}
 use Rattle.c_types.specs.Sources.{IsTypedAs}
 use Rattle.c_types.specs.Texts.{texts_among}
-use Rattle.annot_reader.specs.Interface.{Interface}
-use Rattle.annot_reader.specs.Interfaces.{IsInterface}
+use Rattle.annot_reader_cut.specs.Interface.{Interface}
+use Rattle.annot_reader_cut.specs.Interfaces.{IsInterface}
 use Rattle.front_end.specs.declared.error.SourceError.{SourceError}
 use Rattle.front_end.specs.declared.error.SourceError.TheVariants.{Memory}
 use Rattle.front_end.specs.declared.source.CheckedSource.{CheckedSource}
@@ -53,9 +53,9 @@ pub record IsAccepted (bytes cut : List ℕ) (c : CheckedSource) : Type 0 where
   pub says : SaysOf cut right.source.tokens right.ds (outcome right.ds) c
 
 -- this is wrong with the bytes; of memory nothing is said
-abbrev pub IsRefused : (bytes cut : List ℕ) → SourceError → Type 0
-IsRefused bytes cut Memory = Unit {0}
-IsRefused bytes cut error = IsWrong bytes cut error
+abbrev pub IsSourceError : (bytes cut : List ℕ) → SourceError → Type 0
+IsSourceError bytes cut Memory = Unit {0}
+IsSourceError bytes cut error = IsWrong bytes cut error
 
 -- this is too much of a source; of memory nothing is said
 abbrev pub IsTooLarge : Decls → SourceError → Type 0
@@ -65,9 +65,9 @@ IsTooLarge ds error = too_large ds ≡ Some error
 -- the program with these strings, and the interface of the cut, are what the source says, or its annotations are wrong in this way
 abbrev pub IsRead : (bytes cut : List ℕ) → Decls → Program → List TextLiteral → Result (Declared × Interface) SourceError → Type 0
 IsRead bytes cut ds p texts (Ok found) = IsProgram found.0 p × (found.0.texts ≡ texts) × IsInterface cut (annotations ds p) (Ok found.1)
-IsRead bytes cut ds p texts (Err error) = IsRefused bytes cut error
+IsRead bytes cut ds p texts (Err error) = IsSourceError bytes cut error
 
 -- the source is accepted, or wrong in this way
 abbrev pub IsChecked : (bytes cut : List ℕ) → Result CheckedSource SourceError → Type 0
 IsChecked bytes cut (Ok c) = IsAccepted bytes cut c
-IsChecked bytes cut (Err error) = IsRefused bytes cut error
+IsChecked bytes cut (Err error) = IsSourceError bytes cut error

@@ -5,16 +5,16 @@ use Rattle.c_lexer.specs.declared.error.LexError.{LexError}
 use Rattle.c_lexer.specs.Lexing as lexing
 use Rattle.c_syntax.specs.Sources.{Spells}
 use Rattle.c_syntax.specs.Syntax.{Decls}
-use Rattle.c_depth.specs.Deep.{IsDeepAt, IsShallow}
+use Rattle.c_parser_depth.specs.Deep.{IsDeepAt, IsShallow}
 use Rattle.c_code.specs.Valid.{most_values}
-use Rattle.c_nodes.specs.Counts.{source_nodes}
-use Rattle.c_waits.specs.Functions.{function_waits}
-use Rattle.c_lower.specs.Waits.{most_nodes}
-use Rattle.c_typing.specs.Checked.{Checked, Fine, Large, Broken}
-use Rattle.c_typing.specs.Limits as typing
-use Rattle.c_typing.specs.Limits.{outcome}
-use Rattle.cut_meaning.specs.Cuts.{annotations, is_named}
-use Rattle.cut_meaning.specs.Notes.{Annotated}
+use Rattle.c_lower_nodes.specs.Counts.{source_nodes}
+use Rattle.c_lower_stack.specs.Functions.{function_depth}
+use Rattle.c_lower.specs.Depths.{most_nodes}
+use Rattle.c_types_rules.specs.Checked.{Checked, Fine, Large, Broken}
+use Rattle.c_types_rules.specs.Limits as typing
+use Rattle.c_types_rules.specs.Limits.{outcome}
+use Rattle.annot_reader_rules.specs.Cuts.{annotations, is_named}
+use Rattle.annot_reader_rules.specs.Notes.{Annotated}
 use Rattle.c_types.specs.declared.error.Which.{Which}
 use Rattle.c_types.specs.declared.error.Which.TheVariants as numbers
 use Rattle.front_end.specs.declared.error.SourceError.{SourceError}
@@ -38,17 +38,17 @@ which_of typing.Object = numbers.Object
 which_of typing.Globals = numbers.Globals
 which_of typing.Frame = numbers.Frame
 
--- more than 64 values wait in one of the functions that have these numbers
+-- the evaluation stack is deeper than 64 values in one of the functions that have these numbers
 abbrev pub is_wide : List ℕ → Bool
 is_wide [] = false
 is_wide (n ∷ ns) = nat_lt most_values n || is_wide ns
 
-abbrev pub unless_large : (nodes : ℕ) → (waits : List ℕ) → Option SourceError
-unless_large nodes waits = if nat_lt most_nodes nodes then Some (Limit Nodes) else if is_wide waits then Some (Limit Values) else None
+abbrev pub unless_large : (nodes : ℕ) → (depth : List ℕ) → Option SourceError
+unless_large nodes depth = if nat_lt most_nodes nodes then Some (Limit Nodes) else if is_wide depth then Some (Limit Values) else None
 
 -- what there is too much of to make flat code of a source
 abbrev pub too_large : Decls → Option SourceError
-too_large ds = unless_large (source_nodes ds) (function_waits ds)
+too_large ds = unless_large (source_nodes ds) (function_depth ds)
 
 abbrev pub unless_named : Decls → Bool → Option SourceError
 unless_named ds true = too_large ds
@@ -71,7 +71,7 @@ fault_of cut ds = fault_of_types cut ds (outcome ds)
 -- what is wrong with the bytes: they aren't tokens, and this is the first rule that they break; no source has the tokens, whatever the
 -- offset; a node there is held by more than 200 others; or it is what is wrong with the source that they are
 pub data IsWrong (bytes cut : List ℕ) : SourceError → Type 0 where
-  no_tokens : (error : LexError) → lexing.IsRefused bytes error → IsWrong bytes cut (by_tokens error)
+  no_tokens : (error : LexError) → lexing.IsLexError bytes error → IsWrong bytes cut (by_tokens error)
   no_tree : (at : ℕ) (ts : List Token) → lexing.IsTokens bytes ts → ((ds : Decls) → Spells ts ds → ⊥) → IsWrong bytes cut (found rules.Token at)
   too_deep : (at : ℕ) (ts : List Token) (ds : Decls) → lexing.IsTokens bytes ts → Spells ts ds → IsDeepAt ds at → IsWrong bytes cut (found rules.Deep at)
   refused : (error : SourceError) (ds : Decls) → IsSource bytes ds → fault_of cut ds ≡ Some error → IsWrong bytes cut error

@@ -3,25 +3,25 @@
 ghost use Rattle.std.specs.Prelude.{◌≡◌, None, IfErr, IfOk, OnOk};
 ghost use Rattle.c_syntax.specs.Stands.{Holds};
 ghost use Rattle.c_syntax.specs.Syntax.{Decls};
-ghost use Rattle.c_typing.specs.Limits.{Typed, outcome};
-ghost use Rattle.c_typing.specs.Sources.{Program};
-ghost use Rattle.c_typed_program.specs.Programs.{IsProgram};
+ghost use Rattle.c_types_rules.specs.Limits.{Typed, outcome};
+ghost use Rattle.c_types_rules.specs.Sources.{Program};
+ghost use Rattle.c_types_program.specs.Programs.{IsProgram};
 ghost use Rattle.front_end.specs.Answers.{IsCode, IsTooLarge};
 ghost use Rattle.front_end.specs.Sources.{too_large};
 
 use crate::error::SourceError;
 use c_code::Code;
-use c_fits::typed_programs_fit;
 use c_lower::lower;
-use c_nodes::node_count;
+use c_lower_laws::{typed_bodies_are_no_deeper, typed_programs_fit};
+use c_lower_nodes::node_count;
+use c_lower_stack::function_depth;
 use c_syntax::Tree;
-use c_typed_program::TypedProgram;
-use c_waits::function_waits;
+use c_types_program::TypedProgram;
 use std::alloc::Global;
-use wait_laws::typed_bodies_wait_no_more;
 
-/// The flat code of a source that has this tree, and is this by its types. `Limit` where it has too many nodes, or else too many values
-/// wait in one of its functions; `Memory` where there is no memory.
+/// The flat code of a source that has this tree, and is this by its types. `Limit` where it has too many
+/// nodes, or else too deep an evaluation stack
+/// in one of its functions; `Memory` where there is no memory.
 pub(crate) fn code_of(
     alloc: Global,
     tree: &Tree,
@@ -32,8 +32,8 @@ pub(crate) fn code_of(
     ensures code { IfOk result (IsCode program.now) }
     ensures refused { (ds : Decls) (p : Program) → Holds tree.now ds → outcome ds ≡ Typed p → IsProgram program.now p → IfErr result (IsTooLarge ds) }
 {
-    let waits = function_waits(alloc, tree)?;
+    let depth = function_depth(alloc, tree)?;
     typed_programs_fit();
-    typed_bodies_wait_no_more();
-    Ok(lower(alloc, program, node_count(tree), &waits)?)
+    typed_bodies_are_no_deeper();
+    Ok(lower(alloc, program, node_count(tree), &depth)?)
 }

@@ -4,7 +4,7 @@ ghost use Rattle.std.specs.Prelude.{◌≡◌};
 ghost use Rattle.front_end.specs.declared.error.SourceError.TheVariants.{Memory as NoMemory};
 ghost use Rattle.front_end.specs.Errors.{by_annotations, by_code, by_grammar, by_tokens, by_types, found};
 
-use annot_reader::InterfaceError;
+use annot_reader_cut::InterfaceError;
 use c_lexer::LexError;
 use c_lower::LowerError;
 use c_parser::ParseError;
@@ -40,14 +40,14 @@ pub struct SourceFault {
     pub at: u32,
 }
 
-/// A number that a source may not go past.
+/// A limit that a source may not exceed.
 #[derive(Clone, Copy, Debug, PartialEq, Eq)]
 pub enum SourceLimit {
     /// One of those that its types tell.
     Types(Which),
     /// 131,072 nodes of its tree.
     Nodes,
-    /// 64 values that wait in a function, in what is evaluated or not.
+    /// 64 values on the evaluation stack in a function, in what is evaluated or not.
     Values,
 }
 
@@ -61,10 +61,10 @@ pub enum SourceError {
     /// No declaration names the cut.
     #[error("no declaration names the cut")]
     NoSuchCut,
-    /// It goes past this number.
+    /// It exceeds this limit.
     #[error("the source is too large: {0:?}")]
     Limit(SourceLimit),
-    /// Want of memory.
+    /// Out of memory.
     #[error("out of memory")]
     Memory,
 }

@@ -6,22 +6,22 @@ ghost use Rattle.c_lexer.specs.declared.token.Token.{Token as Lexed};
 ghost use Rattle.c_syntax.specs.Stands.{Holds};
 ghost use Rattle.c_syntax.specs.Syntax.{Decls};
 ghost use Rattle.c_parser.specs.Parsed.{IsParsed};
-ghost use Rattle.c_walks.specs.Numbers.{FitsDecls};
+ghost use Rattle.c_syntax_laws.specs.Numbers.{FitsDecls};
 ghost use Rattle.c_types.specs.Answers.{IsSource as IsFit};
-ghost use Rattle.front_end.specs.Answers.{IsChecked, IsRead, IsRefused, IsTyped};
+ghost use Rattle.front_end.specs.Answers.{IsChecked, IsRead, IsSourceError, IsTyped};
 ghost use Rattle.front_end.specs.Sources.{IsSource};
 
 use crate::code::code_of;
 use crate::error::SourceError;
-use annot_reader::Iface;
-use annot_types::interface_of;
+use annot_reader::interface_of;
+use annot_reader_cut::Iface;
 use c_code::Code;
 use c_lexer::{Token, lex};
 use c_parser::parse;
 use c_syntax::Tree;
-use c_typed_program::TypedProgram;
+use c_syntax_laws::numbers_fit;
 use c_types::{TypedSource, check_source as check_types, sources_stay_typed};
-use c_walks::numbers_fit;
+use c_types_program::TypedProgram;
 use std::alloc::Global;
 
 /// A source that is accepted: its typed program, the interface of the cut, and its flat code.
@@ -36,7 +36,7 @@ pub struct CheckedSource {
 fn tokens_of(alloc: Global, bytes: &[u8]) -> Result<Vec<Token>, SourceError>
     requires { length bytes.now ≤ 1048576 }
     ensures tokens { IfOk result (λ v. IsTokens bytes.now v.items) }
-    ensures refused { (cut : List ℕ) → IfErr result (IsRefused bytes.now cut) }
+    ensures refused { (cut : List ℕ) → IfErr result (IsSourceError bytes.now cut) }
 {
     match lex(alloc, bytes) {
         Ok(tokens) => Ok(tokens),
@@ -47,7 +47,7 @@ fn tokens_of(alloc: Global, bytes: &[u8]) -> Result<Vec<Token>, SourceError>
 // The tree of the source that has these tokens.
 fn tree_of(alloc: Global, tokens: &[Token]) -> Result<Tree, SourceError>
     ensures tree { IfOk result (λ t. IsParsed tokens.now t) }
-    ensures refused { (bytes cut : List ℕ) → IsTokens bytes tokens.now → IfErr result (IsRefused bytes cut) }
+    ensures refused { (bytes cut : List ℕ) → IsTokens bytes tokens.now → IfErr result (IsSourceError bytes cut) }
 {
     match parse(alloc, tokens) {
         Ok(tree) => Ok(tree),
@@ -59,7 +59,7 @@ fn tree_of(alloc: Global, tokens: &[Token]) -> Result<Tree, SourceError>
 fn typed(alloc: Global, tokens: &[Token], tree: &Tree) -> Result<TypedSource, SourceError>
     requires { IsFit tree.now }
     ensures typed { (ds : Decls) → Holds tree.now ds → FitsDecls ds → IfOk result (IsTyped tree.now tokens.now ds) }
-    ensures refused { (bytes cut : List ℕ) (ds : Decls) → Holds tree.now ds → IsSource bytes ds → IfErr result (IsRefused bytes cut) }
+    ensures refused { (bytes cut : List ℕ) (ds : Decls) → Holds tree.now ds → IsSource bytes ds → IfErr result (IsSourceError bytes cut) }
 {
     match check_types(alloc, tokens, tree) {
         Ok(source) => Ok(source),
@@ -99,9 +99,9 @@ fn with_interface(
 
 /// The source that these bytes are, at most 1 MiB, with the interface of the cut and its flat code.
 ///
-/// `Fault` names a rule that the source breaks, with the offset where; `Limit` the first number of its types that it goes past, where it
+/// `Fault` names a rule that the source breaks, with the offset where; `Limit` the first limit of its types that it exceeds, where it
 /// breaks no rule of types; `NoSuchCut` where all rules hold and no declaration names the cut; then `Limit` where it has more than 131,072
-/// nodes, or more than 64 values wait in one of its functions; `Memory` where there is no memory.
+/// nodes, or the evaluation stack is deeper than 64 values in one of its functions; `Memory` where there is no memory.
 pub fn check_source(alloc: Global, bytes: &[u8], cut: &[u8]) -> Result<CheckedSource, SourceError>
     requires { length bytes.now ≤ 1048576 }
     // The source is accepted where nothing is wrong with it; else this is.

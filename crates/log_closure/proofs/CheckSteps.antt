@@ -9,9 +9,9 @@ use Rattle.std.proofs.lemmas.List.{get_or-replicate}
 use Rattle.logical_clock.specs.declared.key.KeyMark.{KeyMark}
 use Rattle.logical_clock.specs.declared.event.Record.{Record}
 use Rattle.log_closure.specs.declared.tie.Tie.{Tie}
-use Rattle.log_closure.specs.declared.place.Place.{Place}
+use Rattle.log_closure.specs.declared.place.LogPlace.{LogPlace}
 use Rattle.log_closure.specs.declared.error.OrderError.TheVariants.{Twice}
-use Rattle.log_closure.specs.Events.{In, LogEvent, event_of, events_behind, events_of, of_thread}
+use Rattle.log_closure.specs.Events.{In, LogEvent, event_of, events_after, events_of, of_thread}
 use Rattle.log_closure.specs.FirstWrong.{both, clock_at, clock_wrong, first_twice, greatest, repeats, wrong}
 use Rattle.log_closure.specs.Places.{place_of, places_from}
 use Rattle.log_closure.specs.Tables.{Owns}
@@ -25,12 +25,12 @@ use Rattle.log_closure.proofs.TableSteps.{both_end, length-events}
 
 -- events of a file, by place
 
-pub take_events : (acc rs : List Record) (i : ℕ) → take i (events_behind acc rs) ≡ events_behind acc (take i rs)
+pub take_events : (acc rs : List Record) (i : ℕ) → take i (events_after acc rs) ≡ events_after acc (take i rs)
 take_events acc rs zero = refl
 take_events acc [] (suc i) = refl
 take_events acc (r ∷ rs) (suc i) = ap (λ (l : List LogEvent). event_of acc r ∷ l) (take_events (acc ++ r ∷ []) rs i)
 
-pub event_by : (acc rs : List Record) (i : ℕ) (d : LogEvent) (r : Record) → i < length rs → r ≡ get_or rs i r → get_or (events_behind acc rs) i d ≡ event_of (acc ++ take i rs) r
+pub event_by : (acc rs : List Record) (i : ℕ) (d : LogEvent) (r : Record) → i < length rs → r ≡ get_or rs i r → get_or (events_after acc rs) i d ≡ event_of (acc ++ take i rs) r
 event_by acc [] i d r lt is = absurd (omega arith)
 event_by acc (s ∷ rs) zero d r lt is = (λ j. event_of (sym (append-nil acc) j) (sym is j))
 event_by acc (s ∷ rs) (suc i) d r lt is = event_by (acc ++ s ∷ []) rs i d r (omega arith) is ∙ ap (λ (l : List Record). event_of l r) (append_assoc acc (s ∷ []) (take i rs))
@@ -46,7 +46,7 @@ at_in (x ∷ xs) (suc i) d lt = inr (at_in xs i d (omega arith))
 pub event_in : (rs : List Record) (i : ℕ) (r : Record) → i < length rs → r ≡ get_or rs i r → In (event_of (take i rs) r) (events_of rs)
 event_in rs i r lt is = subst (λ (x : LogEvent). In x (events_of rs)) (sym (event_here rs i r lt is)) (at_in (events_of rs) i (event_of (take i rs) r) (omega (arith, length-events [] rs, lt)))
 
-place_by : (n : ℕ) (es : List LogEvent) (i : ℕ) (d : Place) (e : LogEvent) → i < length es → e ≡ get_or es i e → get_or (places_from n es) i d ≡ place_of (n + i) e
+place_by : (n : ℕ) (es : List LogEvent) (i : ℕ) (d : LogPlace) (e : LogEvent) → i < length es → e ≡ get_or es i e → get_or (places_from n es) i d ≡ place_of (n + i) e
 place_by n [] i d e lt is = absurd (omega arith)
 place_by n (f ∷ es) zero d e lt is = (λ j. place_of (plus_zero j) (sym is j))
   where
@@ -54,16 +54,16 @@ place_by n (f ∷ es) zero d e lt is = (λ j. place_of (plus_zero j) (sym is j))
     plus_zero = omega arith
 place_by n (f ∷ es) (suc i) d e lt is = place_by (n + 1) es i d e (omega arith) is ∙ ap (λ (m : ℕ). place_of m e) (omega arith)
 
-pub place_here : (rs : List Record) (ps : List Place) (i : ℕ) (r : Record) (d : Place) → i < length rs → r ≡ get_or rs i r → ps ≡ places_from 0 (events_of rs) → get_or ps i d ≡ place_of i (event_of (take i rs) r)
+pub place_here : (rs : List Record) (ps : List LogPlace) (i : ℕ) (r : Record) (d : LogPlace) → i < length rs → r ≡ get_or rs i r → ps ≡ places_from 0 (events_of rs) → get_or ps i d ≡ place_of i (event_of (take i rs) r)
 place_here rs ps i r d lt is all =
     let e = event_of (take i rs) r in
-    ap (λ (l : List Place). get_or l i d) all ∙ place_by 0 (events_of rs) i d e (omega (arith, length-events [] rs, lt)) (event_here rs i r lt is) ∙ ap (λ (m : ℕ). place_of m e) (omega arith)
+    ap (λ (l : List LogPlace). get_or l i d) all ∙ place_by 0 (events_of rs) i d e (omega (arith, length-events [] rs, lt)) (event_here rs i r lt is) ∙ ap (λ (m : ℕ). place_of m e) (omega arith)
 
 pub length-places : (n : ℕ) (es : List LogEvent) → length (places_from n es) ≡ length es
 length-places n [] = refl
 length-places n (e ∷ es) = ap (λ (k : ℕ). suc k) (length-places (n + 1) es)
 
-abbrev pub no_place : Place
+abbrev pub no_place : LogPlace
 no_place = record { clock = 0; thread = 0; index = 0; at = 0 }
 
 -- the first that repeats a key
@@ -185,13 +185,13 @@ last_more rs i th r last lt is eq within h t b =
 pub wrong_twice : (whole : Bool) (all before : List LogEvent) (e : LogEvent) → repeats (keys_of before) (keys e) ≡ true → wrong whole all before e ≡ Some (Twice e.name)
 wrong_twice whole all before e h = ap (λ (b : Bool). cond b (Some (Twice e.name)) (clock_wrong whole e.name e.entry.clock (greatest (clock_at all) (needs (ties e))))) h
 
-pub wrong_here : (rs : List Record) (whole : Bool) (at : Tie → Option ℕ) (i : ℕ) (r : Record) (p : Place) (ms : List KeyMark) (last : ℕ) → p ≡ place_of i (event_of (take i rs) r) → ms ≡ r.keys → Owns at (events_of rs)
+pub wrong_here : (rs : List Record) (whole : Bool) (at : Tie → Option ℕ) (i : ℕ) (r : Record) (p : LogPlace) (ms : List KeyMark) (last : ℕ) → p ≡ place_of i (event_of (take i rs) r) → ms ≡ r.keys → Owns at (events_of rs)
     → greatest (clock_at (events_of rs)) (needs (thread_tie (event_of (take i rs) r) ∷ [])) ≡ Some last → repeats (keys_of (take i (events_of rs))) (keys (event_of (take i rs) r)) ≡ false
     → clock_wrong whole (record { thread = p.thread; index = p.index }) p.clock (both (Some last) (greatest at (needs (map key_tie ms)))) ≡ wrong whole (events_of rs) (take i (events_of rs)) (event_of (take i rs) r)
 wrong_here rs whole at i r p ms last is keys_is owns own apart =
     let e = event_of (take i rs) r in
     let all = events_of rs in
-    ap (λ (q : Place). clock_wrong whole (record { thread = q.thread; index = q.index }) q.clock (both (Some last) (greatest at (needs (map key_tie ms))))) is
+    ap (λ (q : LogPlace). clock_wrong whole (record { thread = q.thread; index = q.index }) q.clock (both (Some last) (greatest at (needs (map key_tie ms))))) is
     ∙ ap (λ (l : List KeyMark). clock_wrong whole e.name e.entry.clock (both (Some last) (greatest at (needs (map key_tie l))))) keys_is
     ∙ ap (clock_wrong whole e.name e.entry.clock) (greatest_is_of at all e last owns own)
     ∙ ap (λ (b : Bool). cond b (Some (Twice e.name)) (clock_wrong whole e.name e.entry.clock (greatest (clock_at all) (needs (ties e))))) (sym apart)

@@ -110,8 +110,8 @@ keys_count (e ∷ es) m h =
 
 -- along a list
 
-ties_at : (before es front : List LogEvent) (e : LogEvent) (back : List LogEvent) → TiesCount before es → es ≡ front ++ e ∷ back → (t : Tie) → In t (ties e) → t.number ≡ link_count (ties_of (before ++ front)) t
-ties_at before es front e back h is = along before front (subst (TiesCount before) is h)
+ties_at : (before es prefix : List LogEvent) (e : LogEvent) (back : List LogEvent) → TiesCount before es → es ≡ prefix ++ e ∷ back → (t : Tie) → In t (ties e) → t.number ≡ link_count (ties_of (before ++ prefix)) t
+ties_at before es prefix e back h is = along before prefix (subst (TiesCount before) is h)
   where
     along : (acc more : List LogEvent) → TiesCount acc (more ++ e ∷ back) → (t : Tie) → In t (ties e) → t.number ≡ link_count (ties_of (acc ++ more)) t
     along acc [] k t i = k.0 t i ∙ ap (λ (l : List LogEvent). link_count (ties_of l) t) (sym (append-nil acc))
@@ -122,9 +122,9 @@ links_same ts s t e = λ k. link_count ts (record { class = eqb-true s.class t.c
 
 one_of_key : (whole : Bool) (all part : List LogEvent) → first_wrong whole all [] all ≡ None → ((e : LogEvent) → In e part → In e all) → TiesCount [] part → (e : LogEvent) → In e part → (q : Tie) → count_by (same_link q) (keys e) ≡ cond (list_any (same_link q) (keys e)) 1 0
 one_of_key whole all part passes sub h e i q =
-    let (front, back, is) = In-split e part i in
+    let (prefix, back, is) = In-split e part i in
     let (us, apart) = keys_once whole all [] all passes e (sub e i) in
-    count_one us (keys e) q (link_count (ties_of front) q) apart (λ t j k. ties_at [] part front e back h is t (inr j) ∙ sym (links_same (ties_of front) q t k))
+    count_one us (keys e) q (link_count (ties_of prefix) q) apart (λ t j k. ties_at [] part prefix e back h is t (inr j) ∙ sym (links_same (ties_of prefix) q t k))
 
 pub counts_up : (whole : Bool) (all part : List LogEvent) → first_wrong whole all [] all ≡ None → ((e : LogEvent) → In e part → In e all) → TiesCount [] part → CountUp part
 counts_up whole all part passes sub h before e after is = (

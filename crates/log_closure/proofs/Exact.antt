@@ -27,10 +27,10 @@ use Rattle.log_closure.proofs.Union.{In-cases, In-right, all_from, greatest_over
 
 -- Twice
 
-pub In-split : {A : Type 0} (x : A) (xs : List A) → In x xs → (front back : List A) × (xs ≡ front ++ x ∷ back)
+pub In-split : {A : Type 0} (x : A) (xs : List A) → In x xs → (prefix back : List A) × (xs ≡ prefix ++ x ∷ back)
 In-split x [] i = absurd i
 In-split x (y ∷ ys) (inl e) = ([], ys, ap (λ (z : _). z ∷ ys) (sym e))
-In-split x (y ∷ ys) (inr i) = let (front, back, e) = In-split x ys i in (y ∷ front, back, ap (λ (l : List _). y ∷ l) e)
+In-split x (y ∷ ys) (inr i) = let (prefix, back, e) = In-split x ys i in (y ∷ prefix, back, ap (λ (l : List _). y ∷ l) e)
 
 keys_owner : (es : List LogEvent) (t : Tie) → In t (keys_of es) → (e : LogEvent) × In e es × In t (keys e)
 keys_owner [] t i = absurd i
@@ -50,10 +50,10 @@ again_more ts m ms (n, inl (i, h)) =
     ⊎_elim
     (λ a. (n, inl (inr i, a)))
     (λ b. let is : m ≡ n = key_tie-injective m n (same_is (key_tie m) (key_tie n) b) in
-    let (front, back, e) = In-split n ms i in
-    (n, inr ([], front, back, (λ j. is j ∷ e j))))
+    let (prefix, back, e) = In-split n ms i in
+    (n, inr ([], prefix, back, (λ j. is j ∷ e j))))
     (or_cases (listed ts (key_tie n)) (same (key_tie m) (key_tie n)) (sym (listed_more ts (key_tie m) (key_tie n)) ∙ h))
-again_more ts m ms (n, inr (front, middle, back, e)) = (n, inr (m ∷ front, middle, back, ap (λ (l : List KeyMark). m ∷ l) e))
+again_more ts m ms (n, inr (prefix, middle, back, e)) = (n, inr (m ∷ prefix, middle, back, ap (λ (l : List KeyMark). m ∷ l) e))
 
 again : (ts : List Tie) (ms : List KeyMark) → repeats ts (map key_tie ms) ≡ true → Again ts ms
 again ts [] h = absurd cc
@@ -63,13 +63,13 @@ again ts (m ∷ ms) h =
     (λ b. again_more ts m ms (again (ts ++ key_tie m ∷ []) ms b))
     (or_cases (listed ts (key_tie m)) (repeats (ts ++ key_tie m ∷ []) (map key_tie ms)) h)
 
-not_again : (ts : List Tie) (m : KeyMark) (front middle back : List KeyMark) → repeats ts (map key_tie (front ++ m ∷ middle ++ m ∷ back)) ≡ false → ⊥
+not_again : (ts : List Tie) (m : KeyMark) (prefix middle back : List KeyMark) → repeats ts (map key_tie (prefix ++ m ∷ middle ++ m ∷ back)) ≡ false → ⊥
 not_again ts m [] middle back h =
     let tail = (or_none (listed ts (key_tie m)) _ h).1 in
     let off = no_repeat (ts ++ key_tie m ∷ []) (map key_tie (middle ++ m ∷ back)) tail (key_tie m) (in-map key_tie (middle ++ m ∷ back) m (In-right m middle (m ∷ back) (inl refl))) in
     let on = in_listed (ts ++ key_tie m ∷ []) (key_tie m) (In-right (key_tie m) ts (key_tie m ∷ []) (inl refl)) in
     absurd cc
-not_again ts m (n ∷ front) middle back h = not_again (ts ++ key_tie n ∷ []) m front middle back (or_none (listed ts (key_tie n)) _ h).1
+not_again ts m (n ∷ prefix) middle back h = not_again (ts ++ key_tie n ∷ []) m prefix middle back (or_none (listed ts (key_tie n)) _ h).1
 
 pub is_twice : (before : List LogEvent) (e : LogEvent) → repeats (keys_of before) (keys e) ≡ true → IsTwice before e
 is_twice before e h = let (m, c) = again (keys_of before) (marks e) h in (m, ⊎_elim (λ (i, l). inl (i, has_keys before m l)) (λ s. inr s) c)
@@ -78,7 +78,7 @@ pub not_twice : (before : List LogEvent) (e : LogEvent) → repeats (keys_of bef
 not_twice before e h (m, inl (i, j)) =
     let off = no_repeat (keys_of before) (keys e) h (key_tie m) (in-map key_tie (marks e) m i) in
     let on = keys_have before m j in absurd cc
-not_twice before e h (m, inr (front, middle, back, is)) = not_again (keys_of before) m front middle back (subst (λ (l : List KeyMark). repeats (keys_of before) (map key_tie l) ≡ false) is h)
+not_twice before e h (m, inr (prefix, middle, back, is)) = not_again (keys_of before) m prefix middle back (subst (λ (l : List KeyMark). repeats (keys_of before) (map key_tie l) ≡ false) is h)
 
 -- clocks at ties
 

@@ -13,7 +13,7 @@ use Rattle.std.proofs.Math.ListN.{set, replicate}
 use Rattle.logical_clock.specs.declared.key.KeyMark.{KeyMark}
 use Rattle.logical_clock.specs.declared.event.Record.{Record}
 use Rattle.log_closure.specs.declared.tie.Tie.{Tie}
-use Rattle.log_closure.specs.declared.place.Place.{Place}
+use Rattle.log_closure.specs.declared.place.LogPlace.{LogPlace}
 use Rattle.log_closure.specs.declared.grow.Grown.{Grown}
 use Rattle.log_closure.specs.Events.{In, LogEvent}
 use Rattle.log_closure.specs.Growing.{grow, has_before}
@@ -146,11 +146,11 @@ at_any [] i d e lt = absurd (omega arith)
 at_any (x ∷ xs) zero d e lt = refl
 at_any (x ∷ xs) (suc i) d e lt = at_any xs i d e (omega arith)
 
-pub within_more : (rs : List Record) (part : List Place) (p : Place) (r : Bool) → All (λ (q : Place). q.at < length rs) part → p.at < length rs → All (λ (q : Place). q.at < length rs) (cond r (part ++ p ∷ []) part)
-within_more rs part p true h lt = in-All (λ (q : Place). q.at < length rs) (part ++ p ∷ []) (λ q i. ⊎_elim (λ j. All-in (λ (x : Place). x.at < length rs) part h q j) (λ j. ⊎_elim (λ eq. subst (λ (x : Place). x.at < length rs) (sym eq) lt) (λ z. absurd z) j) (In-cases q part (p ∷ []) i))
+pub within_more : (rs : List Record) (part : List LogPlace) (p : LogPlace) (r : Bool) → All (λ (q : LogPlace). q.at < length rs) part → p.at < length rs → All (λ (q : LogPlace). q.at < length rs) (cond r (part ++ p ∷ []) part)
+within_more rs part p true h lt = in-All (λ (q : LogPlace). q.at < length rs) (part ++ p ∷ []) (λ q i. ⊎_elim (λ j. All-in (λ (x : LogPlace). x.at < length rs) part h q j) (λ j. ⊎_elim (λ eq. subst (λ (x : LogPlace). x.at < length rs) (sym eq) lt) (λ z. absurd z) j) (In-cases q part (p ∷ []) i))
 within_more rs part p false h lt = h
 
-pub few_more : (part : List Place) (p : Place) (r : Bool) (n : ℕ) → length part ≤ n → length (cond r (part ++ p ∷ []) part) ≤ n + 1
+pub few_more : (part : List LogPlace) (p : LogPlace) (r : Bool) (n : ℕ) → length part ≤ n → length (cond r (part ++ p ∷ []) part) ≤ n + 1
 few_more part p true n le = let z = length-append part (p ∷ []) in omega (arith, z, le)
 few_more part p false n le = omega (arith, le)
 
@@ -158,17 +158,17 @@ map-snoc : {A B : Type 0} (f : A → B) (xs : List A) (x : A) → map f (xs ++ x
 map-snoc f [] x = refl
 map-snoc f (y ∷ xs) x = ap (λ (l : List _). f y ∷ l) (map-snoc f xs x)
 
-pub joined : (rs : List Record) (part next : List Place) (p : Place) (r : Bool) → next ≡ cond r (part ++ p ∷ []) part → cond r (events_at rs part ++ event_at rs p ∷ []) (events_at rs part) ≡ events_at rs next
+pub joined : (rs : List Record) (part next : List LogPlace) (p : LogPlace) (r : Bool) → next ≡ cond r (part ++ p ∷ []) part → cond r (events_at rs part ++ event_at rs p ∷ []) (events_at rs part) ≡ events_at rs next
 joined rs part next p r h = go r ∙ ap (events_at rs) (sym h)
   where
     go : (b : Bool) → cond b (events_at rs part ++ event_at rs p ∷ []) (events_at rs part) ≡ events_at rs (cond b (part ++ p ∷ []) part)
     go true = sym (map-snoc (event_at rs) part p)
     go false = refl
 
-pub grow_step : (rs : List Record) (order part next : List Place) (i : ℕ) (d : Place) (r : Bool) → i < length order → r ≡ has_before (events_at rs part) (event_at rs (get_or order i d)) → next ≡ cond r (part ++ get_or order i d ∷ []) part
+pub grow_step : (rs : List Record) (order part next : List LogPlace) (i : ℕ) (d : LogPlace) (r : Bool) → i < length order → r ≡ has_before (events_at rs part) (event_at rs (get_or order i d)) → next ≡ cond r (part ++ get_or order i d ∷ []) part
     → grow (events_at rs part) (events_at rs (drop i order)) ≡ grow (events_at rs next) (events_at rs (drop (i + 1) order))
 grow_step rs order part next i d r lt test h =
     let p = get_or order i d in
-    ap (λ (l : List Place). grow (events_at rs part) (events_at rs l)) (drop_more order i d lt)
+    ap (λ (l : List LogPlace). grow (events_at rs part) (events_at rs l)) (drop_more order i d lt)
     ∙ ap (λ (b : Bool). grow (cond b (events_at rs part ++ event_at rs p ∷ []) (events_at rs part)) (events_at rs (drop (i + 1) order))) (sym test)
     ∙ ap (λ (l : List LogEvent). grow l (events_at rs (drop (i + 1) order))) (joined rs part next p r h)

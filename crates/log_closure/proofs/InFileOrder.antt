@@ -23,12 +23,12 @@ first_wrong-append whole all before (e ∷ es) fs =
     ∙ sym (or_else_assoc (wrong whole all before e) (first_wrong whole all (before ++ e ∷ []) es) (first_wrong whole all (before ++ e ∷ es) fs))
 
 record Found (whole : Bool) (all before es : List LogEvent) (w : OrderError) : Type 0 where
-  front : List LogEvent
+  prefix : List LogEvent
   event : LogEvent
   back : List LogEvent
-  split : es ≡ front ++ event ∷ back
-  none : first_wrong whole all before front ≡ None
-  here : wrong whole all (before ++ front) event ≡ Some w
+  split : es ≡ prefix ++ event ∷ back
+  none : first_wrong whole all before prefix ≡ None
+  here : wrong whole all (before ++ prefix) event ≡ Some w
 
 some_is : (a b : OrderError) → Some a ≡ Some b → a ≡ b
 some_is a b e = cc
@@ -38,16 +38,16 @@ found whole all before [] w h = absurd cc
 found whole all before (e ∷ es) w h = go (wrong whole all before e) refl h (λ k. found whole all (before ++ e ∷ []) es w k)
   where
     go : (o : Option OrderError) → wrong whole all before e ≡ o → or_else o (first_wrong whole all (before ++ e ∷ []) es) ≡ Some w → (first_wrong whole all (before ++ e ∷ []) es ≡ Some w → Found whole all (before ++ e ∷ []) es w) → Found whole all before (e ∷ es) w
-    go (Some v) is k rec = record { front = []; event = e; back = es; split = refl; none = refl; here = ap (λ (l : List LogEvent). wrong whole all l e) (append-nil before) ∙ is ∙ k }
+    go (Some v) is k rec = record { prefix = []; event = e; back = es; split = refl; none = refl; here = ap (λ (l : List LogEvent). wrong whole all l e) (append-nil before) ∙ is ∙ k }
     go None is k rec =
         let f = rec k in
         record {
-          front = e ∷ f.front;
+          prefix = e ∷ f.prefix;
           event = f.event;
           back = f.back;
           split = ap (λ (l : List LogEvent). e ∷ l) f.split;
-          none = ap (λ (o : Option OrderError). or_else o (first_wrong whole all (before ++ e ∷ []) f.front)) is ∙ f.none;
-          here = ap (λ (l : List LogEvent). wrong whole all l f.event) (sym (append_assoc before (e ∷ []) f.front)) ∙ f.here;
+          none = ap (λ (o : Option OrderError). or_else o (first_wrong whole all (before ++ e ∷ []) f.prefix)) is ∙ f.none;
+          here = ap (λ (l : List LogEvent). wrong whole all l f.event) (sym (append_assoc before (e ∷ []) f.prefix)) ∙ f.here;
         }
 
 wrong_not_right : (whole : Bool) (all before : List LogEvent) (e : LogEvent) (w : OrderError) → IsWrong whole all before e w → IsRight whole all before e → ⊥
@@ -72,40 +72,40 @@ is_right rs whole before e i h = subst (right_or_wrong whole (events_of rs) befo
 is_wrong : (rs : List Record) (whole : Bool) (before : List LogEvent) (e : LogEvent) (w : OrderError) → In e (events_of rs) → wrong whole (events_of rs) before e ≡ Some w → IsWrong whole (events_of rs) before e w
 is_wrong rs whole before e w i h = subst (right_or_wrong whole (events_of rs) before e) h (meant rs whole before e i)
 
-front_right : (rs : List Record) (whole : Bool) (front : List LogEvent) → ((e : LogEvent) → In e front → In e (events_of rs)) → first_wrong whole (events_of rs) [] front ≡ None → AreRight whole (events_of rs) front
-front_right rs whole front sub h before e after is =
+prefix_right : (rs : List Record) (whole : Bool) (prefix : List LogEvent) → ((e : LogEvent) → In e prefix → In e (events_of rs)) → first_wrong whole (events_of rs) [] prefix ≡ None → AreRight whole (events_of rs) prefix
+prefix_right rs whole prefix sub h before e after is =
     let all = events_of rs in
     let rest = (else_none (first_wrong whole all [] before) (first_wrong whole all before (e ∷ after)) (sym (first_wrong-append whole all [] before (e ∷ after)) ∙ ap (first_wrong whole all []) (sym is) ∙ h)).1 in
     is_right rs whole before e (sub e (subst (In e) (sym is) (In-right e before (e ∷ after) (inl refl)))) (else_none (wrong whole all before e) _ rest).0
 
-right_front : (rs : List Record) (whole : Bool) (front : List LogEvent) → ((e : LogEvent) → In e front → In e (events_of rs)) → AreRight whole (events_of rs) front → first_wrong whole (events_of rs) [] front ≡ None
-right_front rs whole front sub h = go (first_wrong whole (events_of rs) [] front) refl
+right_prefix : (rs : List Record) (whole : Bool) (prefix : List LogEvent) → ((e : LogEvent) → In e prefix → In e (events_of rs)) → AreRight whole (events_of rs) prefix → first_wrong whole (events_of rs) [] prefix ≡ None
+right_prefix rs whole prefix sub h = go (first_wrong whole (events_of rs) [] prefix) refl
   where
-    go : (o : Option OrderError) → first_wrong whole (events_of rs) [] front ≡ o → first_wrong whole (events_of rs) [] front ≡ None
+    go : (o : Option OrderError) → first_wrong whole (events_of rs) [] prefix ≡ o → first_wrong whole (events_of rs) [] prefix ≡ None
     go None is = is
     go (Some w) is =
-        let f = found whole (events_of rs) [] front w is in
-        let i : In f.event front = subst (In f.event) (sym f.split) (In-right f.event f.front (f.event ∷ f.back) (inl refl)) in
-        absurd (wrong_not_right whole (events_of rs) f.front f.event w (is_wrong rs whole f.front f.event w (sub f.event i) f.here) (h f.front f.event f.back f.split))
+        let f = found whole (events_of rs) [] prefix w is in
+        let i : In f.event prefix = subst (In f.event) (sym f.split) (In-right f.event f.prefix (f.event ∷ f.back) (inl refl)) in
+        absurd (wrong_not_right whole (events_of rs) f.prefix f.event w (is_wrong rs whole f.prefix f.event w (sub f.event i) f.here) (h f.prefix f.event f.back f.split))
 
 pub passes_right : (rs : List Record) (whole : Bool) → first_wrong whole (events_of rs) [] (events_of rs) ≡ None → AreRight whole (events_of rs) (events_of rs)
-passes_right rs whole h = front_right rs whole (events_of rs) (λ e i. i) h
+passes_right rs whole h = prefix_right rs whole (events_of rs) (λ e i. i) h
 
 pub right_passes : (rs : List Record) (whole : Bool) → AreRight whole (events_of rs) (events_of rs) → first_wrong whole (events_of rs) [] (events_of rs) ≡ None
-right_passes rs whole h = right_front rs whole (events_of rs) (λ e i. i) h
+right_passes rs whole h = right_prefix rs whole (events_of rs) (λ e i. i) h
 
 pub first_meant : (rs : List Record) (whole : Bool) (w : OrderError) → first_wrong whole (events_of rs) [] (events_of rs) ≡ Some w → IsFirstWrong whole (events_of rs) w
 first_meant rs whole w h =
     let all = events_of rs in
     let f = found whole all [] all w h in
-    let i : In f.event all = subst (In f.event) (sym f.split) (In-right f.event f.front (f.event ∷ f.back) (inl refl)) in
-    (f.front, f.event, f.back, f.split, front_right rs whole f.front (λ e j. subst (In e) (sym f.split) (In-left e f.front (f.event ∷ f.back) j)) f.none, is_wrong rs whole f.front f.event w i f.here)
+    let i : In f.event all = subst (In f.event) (sym f.split) (In-right f.event f.prefix (f.event ∷ f.back) (inl refl)) in
+    (f.prefix, f.event, f.back, f.split, prefix_right rs whole f.prefix (λ e j. subst (In e) (sym f.split) (In-left e f.prefix (f.event ∷ f.back) j)) f.none, is_wrong rs whole f.prefix f.event w i f.here)
 
 pub meant_first : (rs : List Record) (whole : Bool) (w : OrderError) → IsFirstWrong whole (events_of rs) w → first_wrong whole (events_of rs) [] (events_of rs) ≡ Some w
 meant_first rs whole w (before, e, after, split, right, here) =
     let all = events_of rs in
     let i : In e all = subst (In e) (sym split) (In-right e before (e ∷ after) (inl refl)) in
-    let none = right_front rs whole before (λ f j. subst (In f) (sym split) (In-left f before (e ∷ after) j)) right in
+    let none = right_prefix rs whole before (λ f j. subst (In f) (sym split) (In-left f before (e ∷ after) j)) right in
     ap (first_wrong whole all []) split ∙ first_wrong-append whole all [] before (e ∷ after) ∙ ap (λ (o : Option OrderError). or_else o (first_wrong whole all before (e ∷ after))) none
     ∙ ap (λ (o : Option OrderError). or_else o (first_wrong whole all (before ++ e ∷ []) after)) (go i (wrong whole all before e) refl)
   where

@@ -6,7 +6,7 @@ use Rattle.logical_clock.specs.declared.event.Record.{Record}
 use Rattle.log_closure.specs.declared.tie.Tie.{Tie}
 use Rattle.log_closure.specs.Events.{In, LogEvent, event_of, events_of, of_thread}
 use Rattle.log_closure.specs.Ties.{earlier, thread_tie}
-use Rattle.log_closure.proofs.Numbers.{events_behind-append, index_below, of_thread_more}
+use Rattle.log_closure.proofs.Numbers.{events_after-append, index_below, of_thread_more}
 use Rattle.log_closure.proofs.Union.{In-left, In-right}
 
 abbrev tie_of : ℕ → ℕ → Tie
@@ -19,7 +19,7 @@ Has rs = (t n : ℕ) → n < of_thread t rs → (e : LogEvent) × In e (events_o
 has_more : (acc : List Record) (r : Record) → Has acc → Has (acc ++ r ∷ [])
 has_more acc r h t n lt =
     ⊎_elim
-    (λ old. let (e, i, is) = h t n old in (e, subst (In e) (sym (events_behind-append [] acc r)) (In-left e (events_of acc) (event_of acc r ∷ []) i), is))
+    (λ old. let (e, i, is) = h t n old in (e, subst (In e) (sym (events_after-append [] acc r)) (In-left e (events_of acc) (event_of acc r ∷ []) i), is))
     (λ ge. go (eqb r.thread t) refl ge)
     (cases_lt n (of_thread t acc))
   where
@@ -29,7 +29,7 @@ has_more acc r h t n lt =
         let k : of_thread t acc ≡ n = omega (arith, m, lt, ge) in
         let th : r.thread ≡ t = eqb-true r.thread t q in (
           event_of acc r,
-          subst (In (event_of acc r)) (sym (events_behind-append [] acc r)) (In-right (event_of acc r) (events_of acc) (event_of acc r ∷ []) (inl refl)),
+          subst (In (event_of acc r)) (sym (events_after-append [] acc r)) (In-right (event_of acc r) (events_of acc) (event_of acc r ∷ []) (inl refl)),
           (λ j. tie_of (th j) (of_thread (th j) acc)) ∙ ap (tie_of t) k,
         )
     go false q ge = let m = of_thread_more t acc r ∙ ap (λ (b : Bool). of_thread t acc + cond b 1 0) q in absurd (omega (arith, m, lt, ge))

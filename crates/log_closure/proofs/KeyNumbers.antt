@@ -55,7 +55,7 @@ marks_seen rs i r ms lt is keys_are =
     ap marks_of (take_more rs i r lt) ∙ flat_map-append (λ (x : Record). x.keys) (take i rs) (get_or rs i r ∷ [])
     ∙ ap (λ (l : List KeyMark). marks_of (take i rs) ++ l) (append-nil (get_or rs i r).keys ∙ ap (λ (x : Record). x.keys) (sym is) ∙ sym keys_are)
 
--- those of the marks of the next record, and of the records behind it
+-- those of the marks of the next record, and of the records after it
 
 next_marks : (number : Numbers) (rs : List Record) (i : ℕ) (r : Record) (ms : List KeyMark) (ns : List ℕ) → i < length rs → r ≡ get_or rs i r → ms ≡ r.keys → HaveNumbers number (marks_of (drop i rs)) ns → HaveNumbers number (ms ++ marks_of (drop (i + 1) rs)) ns
 next_marks number rs i r ms ns lt is keys_are h = subst (λ (l : List KeyMark). HaveNumbers number l ns) split h

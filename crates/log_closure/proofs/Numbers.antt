@@ -11,7 +11,7 @@ use Rattle.logical_clock.specs.declared.key.Class.{Class}
 use Rattle.logical_clock.specs.declared.key.Class.TheVariants.{Mutex, User, Callback, Thread, Pool, Out, Async}
 use Rattle.logical_clock.specs.declared.event.Record.{Record}
 use Rattle.log_closure.specs.declared.tie.Tie.{Tie}
-use Rattle.log_closure.specs.Events.{In, LogEvent, event_of, events_behind, events_of, of_thread}
+use Rattle.log_closure.specs.Events.{In, LogEvent, event_of, events_after, events_of, of_thread}
 use Rattle.log_closure.specs.Ties.{key_tie, listed, thread_tie}
 use Rattle.log_closure.proofs.Numbered.{Numbered}
 use Rattle.log_closure.proofs.Order.{map-in}
@@ -30,14 +30,14 @@ of_thread_mine rs more r =
     go true e a = omega (arith, a)
     go false e a = absurd cc
 
-pub index_below : (acc rs : List Record) (e : LogEvent) → In e (events_behind acc rs) → e.name.index < of_thread e.name.thread (acc ++ rs)
+pub index_below : (acc rs : List Record) (e : LogEvent) → In e (events_after acc rs) → e.name.index < of_thread e.name.thread (acc ++ rs)
 index_below acc [] e i = absurd i
 index_below acc (r ∷ rs) e (inl is) = subst (λ (x : LogEvent). x.name.index < of_thread x.name.thread (acc ++ r ∷ rs)) (sym is) (of_thread_mine acc rs r)
 index_below acc (r ∷ rs) e (inr i) = subst (λ (l : List Record). e.name.index < of_thread e.name.thread l) (append_assoc acc (r ∷ []) rs) (index_below (acc ++ r ∷ []) rs e i)
 
-pub events_behind-append : (acc rs : List Record) (r : Record) → events_behind acc (rs ++ r ∷ []) ≡ events_behind acc rs ++ event_of (acc ++ rs) r ∷ []
-events_behind-append acc [] r = ap (λ (l : List Record). event_of l r ∷ []) (sym (append-nil acc))
-events_behind-append acc (s ∷ rs) r = ap (λ (l : List LogEvent). event_of acc s ∷ l) (events_behind-append (acc ++ s ∷ []) rs r ∙ ap (λ (l : List Record). events_behind (acc ++ s ∷ []) rs ++ event_of l r ∷ []) (append_assoc acc (s ∷ []) rs))
+pub events_after-append : (acc rs : List Record) (r : Record) → events_after acc (rs ++ r ∷ []) ≡ events_after acc rs ++ event_of (acc ++ rs) r ∷ []
+events_after-append acc [] r = ap (λ (l : List Record). event_of l r ∷ []) (sym (append-nil acc))
+events_after-append acc (s ∷ rs) r = ap (λ (l : List LogEvent). event_of acc s ∷ l) (events_after-append (acc ++ s ∷ []) rs r ∙ ap (λ (l : List Record). events_after (acc ++ s ∷ []) rs ++ event_of l r ∷ []) (append_assoc acc (s ∷ []) rs))
 
 pub above : (c : Class) → 0 < number_of c
 above Mutex = omega arith
@@ -60,12 +60,12 @@ alone before r = go (listed (map thread_tie (events_of before)) (thread_tie (eve
         let lt : x.name.index < of_thread r.thread before = subst (λ (u : ℕ). x.name.index < of_thread u before) (sym t) (index_below [] before x i) in
         absurd (omega (arith, n, lt))
 
-pub numbered : (before rs : List Record) → Numbered (events_of before) (events_behind before rs)
+pub numbered : (before rs : List Record) → Numbered (events_of before) (events_after before rs)
 numbered before [] = tt
 numbered before (r ∷ rs) = (
   alone before r,
   λ k i. let (m, j, is) = map-in key_tie r.keys k i in let a = above m.key.class in let c : k.class ≡ number_of m.key.class = ap (λ (x : Tie). x.class) is in omega (arith, a, c),
-  subst (λ (l : List LogEvent). Numbered l (events_behind (before ++ r ∷ []) rs)) (events_behind-append [] before r) (numbered (before ++ r ∷ []) rs),
+  subst (λ (l : List LogEvent). Numbered l (events_after (before ++ r ∷ []) rs)) (events_after-append [] before r) (numbered (before ++ r ∷ []) rs),
 )
 
 -- steps of counting

@@ -10,7 +10,7 @@ use Rattle.std.proofs.lemmas.Bool.Decides.{nat_tests}
 use Rattle.std.proofs.lemmas.Bool.{cases_lt}
 use Rattle.std.proofs.lemmas.List.{length-append}
 use Rattle.std.specs.declared.cmp.Ordering.{Ordering}
-use Rattle.log_closure.specs.declared.place.Place.{Place}
+use Rattle.log_closure.specs.declared.place.LogPlace.{LogPlace}
 use Rattle.log_closure.specs.Events.{In, LogEvent}
 use Rattle.log_closure.specs.Places.{place_cmp, place_of, places_from}
 use Rattle.log_closure.proofs.Union.{Climbs, In-right}
@@ -28,11 +28,11 @@ pub in_permuted : {A : Type 0} (xs ys : List A) → IsPermutation xs ys → (x :
 in_permuted xs ys h x i = All-in (λ y. In y ys) xs (All-permutation (λ y. In y ys) ys xs (IsPermutation-sym xs ys h) (in-All (λ y. In y ys) ys (λ y j. j))) x i
 
 -- the events at these places
-abbrev pub events : LogEvent → List LogEvent → List Place → List LogEvent
-events d all ps = map (λ (p : Place). get_or all p.at d) ps
+abbrev pub events : LogEvent → List LogEvent → List LogPlace → List LogEvent
+events d all ps = map (λ (p : LogPlace). get_or all p.at d) ps
 
 -- the event that stands at a place
-pub record Stands (d : LogEvent) (all : List LogEvent) (p : Place) : Type 0 where
+pub record Stands (d : LogEvent) (all : List LogEvent) (p : LogPlace) : Type 0 where
   pub within : p.at < length all
   pub among : In (get_or all p.at d) all
   pub clock : p.clock ≡ (get_or all p.at d).entry.clock
@@ -43,20 +43,20 @@ pub get_or_past : (before : List LogEvent) (e : LogEvent) (es : List LogEvent) (
 get_or_past [] e es d = refl
 get_or_past (f ∷ before) e es d = get_or_past before e es d
 
-pub stands : (d : LogEvent) (before es : List LogEvent) (n : ℕ) → n ≡ length before → (p : Place) → In p (places_from n es) → Stands d (before ++ es) p
+pub stands : (d : LogEvent) (before es : List LogEvent) (n : ℕ) → n ≡ length before → (p : LogPlace) → In p (places_from n es) → Stands d (before ++ es) p
 stands d before [] n eq p i = absurd i
 stands d before (e ∷ es) n eq p (inl is) =
-    let here : get_or (before ++ e ∷ es) p.at d ≡ e = ap (λ (q : Place). get_or (before ++ e ∷ es) q.at d) is ∙ ap (λ (m : ℕ). get_or (before ++ e ∷ es) m d) eq ∙ get_or_past before e es d in
+    let here : get_or (before ++ e ∷ es) p.at d ≡ e = ap (λ (q : LogPlace). get_or (before ++ e ∷ es) q.at d) is ∙ ap (λ (m : ℕ). get_or (before ++ e ∷ es) m d) eq ∙ get_or_past before e es d in
     record {
-      within = (let at : p.at ≡ n = ap (λ (q : Place). q.at) is in omega (arith, at, length-append before (e ∷ es)));
+      within = (let at : p.at ≡ n = ap (λ (q : LogPlace). q.at) is in omega (arith, at, length-append before (e ∷ es)));
       among = subst (λ (x : LogEvent). In x (before ++ e ∷ es)) (sym here) (In-right e before (e ∷ es) (inl refl));
-      clock = ap (λ (q : Place). q.clock) is ∙ ap (λ (x : LogEvent). x.entry.clock) (sym here);
-      thread = ap (λ (q : Place). q.thread) is ∙ ap (λ (x : LogEvent). x.name.thread) (sym here);
-      index = ap (λ (q : Place). q.index) is ∙ ap (λ (x : LogEvent). x.name.index) (sym here);
+      clock = ap (λ (q : LogPlace). q.clock) is ∙ ap (λ (x : LogEvent). x.entry.clock) (sym here);
+      thread = ap (λ (q : LogPlace). q.thread) is ∙ ap (λ (x : LogEvent). x.name.thread) (sym here);
+      index = ap (λ (q : LogPlace). q.index) is ∙ ap (λ (x : LogEvent). x.name.index) (sym here);
     }
 stands d before (e ∷ es) n eq p (inr i) = subst (λ (l : List LogEvent). Stands d l p) (append_assoc before (e ∷ []) es) (stands d (before ++ e ∷ []) es (n + 1) (omega (arith, length-append before (e ∷ []))) p i)
 
-pub has_place : (d : LogEvent) (before es : List LogEvent) (n : ℕ) → n ≡ length before → (e : LogEvent) → In e es → (p : Place) × In p (places_from n es) × (get_or (before ++ es) p.at d ≡ e)
+pub has_place : (d : LogEvent) (before es : List LogEvent) (n : ℕ) → n ≡ length before → (e : LogEvent) → In e es → (p : LogPlace) × In p (places_from n es) × (get_or (before ++ es) p.at d ≡ e)
 has_place d before [] n eq e i = absurd i
 has_place d before (f ∷ es) n eq e (inl is) = (place_of n f, inl refl, ap (λ (m : ℕ). get_or (before ++ f ∷ es) m d) eq ∙ get_or_past before f es d ∙ sym is)
 has_place d before (f ∷ es) n eq e (inr i) =
@@ -74,19 +74,19 @@ map-in f (x ∷ xs) y (inl e) = (x, inl refl, e)
 map-in f (x ∷ xs) y (inr i) = let (z, j, e) = map-in f xs y i in (z, inr j, e)
 
 -- the events in order are those of the file
-pub same_events : (d : LogEvent) (all : List LogEvent) (order : List Place) → IsPermutation (places_from 0 all) order → (e : LogEvent) → In e all ↔ In e (events d all order)
+pub same_events : (d : LogEvent) (all : List LogEvent) (order : List LogPlace) → IsPermutation (places_from 0 all) order → (e : LogEvent) → In e all ↔ In e (events d all order)
 same_events d all order h e = (
   λ i. let (p, j, is) = has_place d [] all 0 refl e i in
-      subst (λ (x : LogEvent). In x (events d all order)) is (in-map (λ (q : Place). get_or all q.at d) order p (in_permuted (places_from 0 all) order h p j)),
-  λ i. let (p, j, is) = map-in (λ (q : Place). get_or all q.at d) order e i in
+      subst (λ (x : LogEvent). In x (events d all order)) is (in-map (λ (q : LogPlace). get_or all q.at d) order p (in_permuted (places_from 0 all) order h p j)),
+  λ i. let (p, j, is) = map-in (λ (q : LogPlace). get_or all q.at d) order e i in
       subst (λ (x : LogEvent). In x all) (sym is) (stands d [] all 0 refl p (in_permuted order (places_from 0 all) (IsPermutation-sym (places_from 0 all) order h) p j)).among,
 )
 
-pub places_stand : (d : LogEvent) (all : List LogEvent) (order : List Place) → IsPermutation (places_from 0 all) order → (p : Place) → In p order → Stands d all p
+pub places_stand : (d : LogEvent) (all : List LogEvent) (order : List LogPlace) → IsPermutation (places_from 0 all) order → (p : LogPlace) → In p order → Stands d all p
 places_stand d all order h p j = stands d [] all 0 refl p (in_permuted order (places_from 0 all) (IsPermutation-sym (places_from 0 all) order h) p j)
 
 -- by clock, then by thread
-abbrev pub Le : Place → Place → Type 0
+abbrev pub Le : LogPlace → LogPlace → Type 0
 Le p q = (p.clock < q.clock) ⊎ ((p.clock ≡ q.clock) × (p.thread ≤ q.thread))
 
 lt_first : (x a : ℕ) (o : Ordering) → x < a → is_lt (ordering_then (nat_cmp x a) o) ≡ true
@@ -104,22 +104,22 @@ le_step a b x y o h =
     (cases_lt x a))
     (cases_lt a x)
 
-le_trans : (p q r : Place) → Le p q → Le q r → Le p r
+le_trans : (p q r : LogPlace) → Le p q → Le q r → Le p r
 le_trans p q r (inl a) (inl b) = inl (omega arith)
 le_trans p q r (inl a) (inr b) = inl (omega arith)
 le_trans p q r (inr a) (inl b) = inl (omega arith)
 le_trans p q r (inr a) (inr b) = inr (omega arith, omega arith)
 
-abbrev pub Rising : List Place → Type 0
+abbrev pub Rising : List LogPlace → Type 0
 Rising [] = Unit {0}
-Rising (p ∷ ps) = ((q : Place) → In q ps → Le p q) × Rising ps
+Rising (p ∷ ps) = ((q : LogPlace) → In q ps → Le p q) × Rising ps
 
-sorted_tail : (p : Place) (ps : List Place) → IsSorted place_cmp (p ∷ ps) → IsSorted place_cmp ps
+sorted_tail : (p : LogPlace) (ps : List LogPlace) → IsSorted place_cmp (p ∷ ps) → IsSorted place_cmp ps
 sorted_tail p ps h = λ k d a b.
     let e : suc k + 1 ≡ suc (k + 1) = omega arith in
     subst (λ (m : ℕ). is_lt (place_cmp (get_or (p ∷ ps) m d) (get_or ps k d)) ≡ false) e (h (suc k) d (omega arith) (omega arith))
 
-pub rising : (ps : List Place) → IsSorted place_cmp ps → Rising ps
+pub rising : (ps : List LogPlace) → IsSorted place_cmp ps → Rising ps
 rising [] h = tt
 rising (p ∷ []) h = (λ q i. absurd i, tt)
 rising (p ∷ q ∷ ps) h =
@@ -127,14 +127,14 @@ rising (p ∷ q ∷ ps) h =
     let first : Le p q = le_step p.clock p.thread q.clock q.thread (ordering_then (nat_cmp q.index p.index) (nat_cmp q.at p.at)) (h 0 p (omega arith) (omega arith)) in
     (λ r i. ⊎_elim (λ e. subst (Le p) (sym e) first) (λ j. le_trans p q r first (rest.0 r j)) i, rest)
 
-le_clock : (p q : Place) → Le p q → p.clock ≤ q.clock
+le_clock : (p q : LogPlace) → Le p q → p.clock ≤ q.clock
 le_clock p q (inl a) = omega arith
 le_clock p q (inr a) = omega arith
 
-pub climbs : (d : LogEvent) (all : List LogEvent) (ps : List Place) → ((p : Place) → In p ps → Stands d all p) → Rising ps → Climbs (events d all ps)
+pub climbs : (d : LogEvent) (all : List LogEvent) (ps : List LogPlace) → ((p : LogPlace) → In p ps → Stands d all p) → Rising ps → Climbs (events d all ps)
 climbs d all [] s r = tt
 climbs d all (p ∷ ps) s r = (
-  λ f i. let (q, j, is) = map-in (λ (q : Place). get_or all q.at d) ps f i in
+  λ f i. let (q, j, is) = map-in (λ (q : LogPlace). get_or all q.at d) ps f i in
       let a = s p (inl refl) in let b = s q (inr j) in
       let le = le_clock p q (r.0 q j) in
       let c : f.entry.clock ≡ (get_or all q.at d).entry.clock = ap (λ (x : LogEvent). x.entry.clock) is in

@@ -6,7 +6,7 @@ use Rattle.std.proofs.lemmas.List.Sorted.{length_permutation}
 use Rattle.std.specs.List.Sorted.{IsPermutation, IsSorted}
 use Rattle.logical_clock.specs.declared.event.Record.{Record}
 use Rattle.log_closure.specs.declared.error.OrderError.{OrderError}
-use Rattle.log_closure.specs.declared.place.Place.{Place}
+use Rattle.log_closure.specs.declared.place.LogPlace.{LogPlace}
 use Rattle.log_closure.specs.Chains.{CountUp, IsClock}
 use Rattle.log_closure.specs.Events.{In, LogEvent, events_of}
 use Rattle.log_closure.specs.FirstWrong.{first_wrong}
@@ -29,29 +29,29 @@ use Rattle.log_closure.proofs.Union.{before_kept}
 abbrev no_event : LogEvent
 no_event = record { name = record { thread = 0; index = 0 }; entry = no_record }
 
-event_is : (rs : List Record) (p : Place) → Stands no_event (events_of rs) p → event_at rs p ≡ get_or (events_of rs) p.at no_event
+event_is : (rs : List Record) (p : LogPlace) → Stands no_event (events_of rs) p → event_at rs p ≡ get_or (events_of rs) p.at no_event
 event_is rs p s =
     let lt : p.at < length rs = omega (arith, s.within, length-events [] rs) in
     let r = get_or rs p.at no_record in
     let is = event_by [] rs p.at no_event r lt (at_any rs p.at no_record r lt) in
     λ i. record { name = record { thread = s.thread i; index = s.index i }; entry = sym (ap (λ (x : LogEvent). x.entry) is) i }
 
-pub events_are : (rs : List Record) (ps : List Place) → ((p : Place) → In p ps → Stands no_event (events_of rs) p) → events_at rs ps ≡ events no_event (events_of rs) ps
+pub events_are : (rs : List Record) (ps : List LogPlace) → ((p : LogPlace) → In p ps → Stands no_event (events_of rs) p) → events_at rs ps ≡ events no_event (events_of rs) ps
 events_are rs [] s = refl
 events_are rs (p ∷ ps) s = λ i. event_is rs p (s p (inl refl)) i ∷ events_are rs ps (λ q j. s q (inr j)) i
 
-pub order_within : (rs : List Record) (order : List Place) → IsPermutation (places_from 0 (events_of rs)) order → All (λ (p : Place). p.at < length rs) order
-order_within rs order perm = in-All (λ (p : Place). p.at < length rs) order (λ p i. let w = (places_stand no_event (events_of rs) order perm p i).within in omega (arith, w, length-events [] rs))
+pub order_within : (rs : List Record) (order : List LogPlace) → IsPermutation (places_from 0 (events_of rs)) order → All (λ (p : LogPlace). p.at < length rs) order
+order_within rs order perm = in-All (λ (p : LogPlace). p.at < length rs) order (λ p i. let w = (places_stand no_event (events_of rs) order perm p i).within in omega (arith, w, length-events [] rs))
 
-pub whole_places : (rs : List Record) (order : List Place) → first_wrong true (events_of rs) [] (events_of rs) ≡ None → IsPermutation (places_from 0 (events_of rs)) order → IsSorted place_cmp order → IsGrownPart (events_of rs) (events_at rs order)
+pub whole_places : (rs : List Record) (order : List LogPlace) → first_wrong true (events_of rs) [] (events_of rs) ≡ None → IsPermutation (places_from 0 (events_of rs)) order → IsSorted place_cmp order → IsGrownPart (events_of rs) (events_at rs order)
 whole_places rs order passes perm sorted =
     subst (IsGrownPart (events_of rs)) (sym (events_are rs order (places_stand no_event (events_of rs) order perm))) (whole_part no_event (events_of rs) order (numbered [] rs) passes perm sorted)
 
-pub grown_places : (rs : List Record) (whole : Bool) (order sl part : List Place) → sl ≡ order → first_wrong whole (events_of rs) [] (events_of rs) ≡ None → IsPermutation (places_from 0 (events_of rs)) order → IsSorted place_cmp order
+pub grown_places : (rs : List Record) (whole : Bool) (order sl part : List LogPlace) → sl ≡ order → first_wrong whole (events_of rs) [] (events_of rs) ≡ None → IsPermutation (places_from 0 (events_of rs)) order → IsSorted place_cmp order
     → events_at rs part ≡ grow [] (events_at rs sl) → IsGrownPart (events_of rs) (events_at rs part)
 grown_places rs whole order sl part eq passes perm sorted grows =
     let are = events_are rs order (places_stand no_event (events_of rs) order perm) in
-    subst (IsGrownPart (events_of rs)) (sym (grows ∙ ap (λ (l : List Place). grow [] (events_at rs l)) eq ∙ ap (grow []) are)) (closed_part whole no_event (events_of rs) order (numbered [] rs) passes perm sorted)
+    subst (IsGrownPart (events_of rs)) (sym (grows ∙ ap (λ (l : List LogPlace). grow [] (events_at rs l)) eq ∙ ap (grow []) are)) (closed_part whole no_event (events_of rs) order (numbered [] rs) passes perm sorted)
 
 -- what a caller of the closed part has
 
@@ -77,8 +77,8 @@ part_all rs false part passes h t e i = absurd cc
 pub moved : {X : Type 0} (r : Result X OrderError) (v w : Bool) (rs ss : List Record) → v ≡ w → rs ≡ ss → Answers r (first_wrong v (events_of rs) [] (events_of rs)) → Answers r (first_wrong w (events_of ss) [] (events_of ss))
 moved r v w rs ss a b h = subst (λ (l : List Record). Answers r (first_wrong w (events_of l) [] (events_of l))) b (subst (λ (x : Bool). Answers r (first_wrong x (events_of rs) [] (events_of rs))) a h)
 
-pub moved_part : (rs ss : List Record) (order : List Place) → rs ≡ ss → IsGrownPart (events_of rs) (events_at rs order) → IsGrownPart (events_of ss) (events_at ss order)
+pub moved_part : (rs ss : List Record) (order : List LogPlace) → rs ≡ ss → IsGrownPart (events_of rs) (events_at rs order) → IsGrownPart (events_of ss) (events_at ss order)
 moved_part rs ss order b h = subst (λ (l : List Record). IsGrownPart (events_of l) (events_at l order)) b h
 
-pub order_few : (rs : List Record) (order : List Place) → IsPermutation (places_from 0 (events_of rs)) order → length order ≤ length rs
+pub order_few : (rs : List Record) (order : List LogPlace) → IsPermutation (places_from 0 (events_of rs)) order → length order ≤ length rs
 order_few rs order perm = let a = length_permutation (places_from 0 (events_of rs)) order perm in let b = length-places 0 (events_of rs) in let d = length-events [] rs in omega (arith, a, b, d)

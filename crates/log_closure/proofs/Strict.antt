@@ -8,7 +8,7 @@ use Rattle.std.proofs.lemmas.Bool.{cases_lt}
 use Rattle.std.proofs.lemmas.Bool.Decides.{nat_tests}
 use Rattle.std.proofs.lemmas.List.{length-append}
 use Rattle.log_closure.specs.declared.tie.Tie.{Tie}
-use Rattle.log_closure.specs.declared.place.Place.{Place}
+use Rattle.log_closure.specs.declared.place.LogPlace.{LogPlace}
 use Rattle.log_closure.specs.Closed.{Ordered, Precedes}
 use Rattle.log_closure.specs.Events.{In, LogEvent}
 use Rattle.log_closure.specs.FirstWrong.{clock_at, first_wrong}
@@ -131,7 +131,7 @@ numbered_keyed before [] n e i k j = absurd i
 numbered_keyed before (f ∷ es) n e (inl is) k j = n.1 k (subst (λ (x : LogEvent). In k (keys x)) is j)
 numbered_keyed before (f ∷ es) n e (inr i) k j = numbered_keyed (before ++ f ∷ []) es n.2 e i k j
 
-abbrev pub same_name : LogEvent → List LogEvent → Place → Place → Bool
+abbrev pub same_name : LogEvent → List LogEvent → LogPlace → LogPlace → Bool
 same_name d all p q = same (thread_tie (get_or all p.at d)) (thread_tie (get_or all q.at d))
 
 all_rec : {A : Type 0} (P : A → Type 0) (xs : List A) → ((x : A) → In x xs → P x) → AllByRecursion P xs
@@ -143,10 +143,10 @@ rec_all P [] h x i = absurd i
 rec_all P (y ∷ xs) h x (inl e) = subst P (sym e) h.0
 rec_all P (y ∷ xs) h x (inr i) = rec_all P xs h.1 x i
 
-stands_in : (d : LogEvent) (before es : List LogEvent) (n : ℕ) → n ≡ length before → (p : Place) → In p (places_from n es) → In (get_or (before ++ es) p.at d) es
+stands_in : (d : LogEvent) (before es : List LogEvent) (n : ℕ) → n ≡ length before → (p : LogPlace) → In p (places_from n es) → In (get_or (before ++ es) p.at d) es
 stands_in d before [] n eq p i = absurd i
 stands_in d before (e ∷ es) n eq p (inl is) =
-    inl (ap (λ (q : Place). get_or (before ++ e ∷ es) q.at d) is ∙ ap (λ (m : ℕ). get_or (before ++ e ∷ es) m d) eq ∙ get_or_past before e es d)
+    inl (ap (λ (q : LogPlace). get_or (before ++ e ∷ es) q.at d) is ∙ ap (λ (m : ℕ). get_or (before ++ e ∷ es) m d) eq ∙ get_or_past before e es d)
 stands_in d before (e ∷ es) n eq p (inr i) =
     inr (subst (λ (l : List LogEvent). In (get_or l p.at d) es) (append_assoc before (e ∷ []) es) (stands_in d (before ++ e ∷ []) es (n + 1) (omega (arith, length-append before (e ∷ []))) p i))
 
@@ -157,7 +157,7 @@ names_differ d all before (e ∷ es) n is eq num =
     let is' : all ≡ (before ++ e ∷ []) ++ es = is ∙ sym (append_assoc before (e ∷ []) es) in
     let n' : n + 1 ≡ length (before ++ e ∷ []) = omega (arith, length-append before (e ∷ [])) in
     let here : get_or all n d ≡ e = ap (λ (l : List LogEvent). get_or l n d) is ∙ ap (λ (m : ℕ). get_or (before ++ e ∷ es) m d) eq ∙ get_or_past before e es d in (
-      all_rec (λ (q : Place). same_name d all (place_of n e) q ≡ false) (places_from (n + 1) es) (λ q j.
+      all_rec (λ (q : LogPlace). same_name d all (place_of n e) q ≡ false) (places_from (n + 1) es) (λ q j.
           ap (λ (x : LogEvent). same (thread_tie x) (thread_tie (get_or all q.at d))) here
           ∙ numbered_new (before ++ e ∷ []) es num.2 e (get_or all q.at d) (In-right e before (e ∷ []) (inl refl))
           (subst (λ (l : List LogEvent). In (get_or l q.at d) es) (sym is') (stands_in d (before ++ e ∷ []) es (n + 1) n' q j))),
@@ -167,27 +167,27 @@ names_differ d all before (e ∷ es) n is eq num =
 eqb_flips : (a b : ℕ) → eqb a b ≡ eqb b a
 eqb_flips a b = grind (arith, nat_tests)
 
-flips : (d : LogEvent) (all : List LogEvent) (p q : Place) → same_name d all p q ≡ same_name d all q p
+flips : (d : LogEvent) (all : List LogEvent) (p q : LogPlace) → same_name d all p q ≡ same_name d all q p
 flips d all p q =
     let e = get_or all p.at d in let f = get_or all q.at d in
     λ k. ((eqb 0 0) && (eqb_flips e.name.thread f.name.thread k && eqb_flips e.name.index f.name.index k))
 
-apart_pairs : (d : LogEvent) (all : List LogEvent) (ps : List Place) → ((p : Place) → In p ps → Stands d all p) → Rising ps → IsDistinct (same_name d all) ps → Pairs Apart (events d all ps)
+apart_pairs : (d : LogEvent) (all : List LogEvent) (ps : List LogPlace) → ((p : LogPlace) → In p ps → Stands d all p) → Rising ps → IsDistinct (same_name d all) ps → Pairs Apart (events d all ps)
 unfolding IsDistinct
 apart_pairs d all [] s r n = tt
 apart_pairs d all (p ∷ ps) s r n = (
-  λ f i. let (q, j, is) = map-in (λ (q : Place). get_or all q.at d) ps f i in
-      subst (Apart (get_or all p.at d)) (sym is) (le_events p q (s p (inl refl)) (s q (inr j)) (r.0 q j), rec_all (λ (q : Place). same_name d all p q ≡ false) ps n.0 q j),
+  λ f i. let (q, j, is) = map-in (λ (q : LogPlace). get_or all q.at d) ps f i in
+      subst (Apart (get_or all p.at d)) (sym is) (le_events p q (s p (inl refl)) (s q (inr j)) (r.0 q j), rec_all (λ (q : LogPlace). same_name d all p q ≡ false) ps n.0 q j),
   apart_pairs d all ps (λ q j. s q (inr j)) r.1 n.1,
 )
   where
-    le_events : (p q : Place) → Stands d all p → Stands d all q → Le p q → ((get_or all p.at d).entry.clock < (get_or all q.at d).entry.clock) ⊎ (((get_or all p.at d).entry.clock ≡ (get_or all q.at d).entry.clock) × ((get_or all p.at d).name.thread ≤ (get_or all q.at d).name.thread))
+    le_events : (p q : LogPlace) → Stands d all p → Stands d all q → Le p q → ((get_or all p.at d).entry.clock < (get_or all q.at d).entry.clock) ⊎ (((get_or all p.at d).entry.clock ≡ (get_or all q.at d).entry.clock) × ((get_or all p.at d).name.thread ≤ (get_or all q.at d).name.thread))
     le_events p q a b (inl lt) = inl (omega (arith, a.clock, b.clock, lt))
     le_events p q a b (inr le) = inr (omega (arith, a.clock, b.clock, le.0), omega (arith, a.thread, b.thread, le.1))
 
 -- the closed part, in order
 
-pub closed_part : (whole : Bool) (d : LogEvent) (all : List LogEvent) (order : List Place) → Numbered [] all → first_wrong whole all [] all ≡ None → IsPermutation (places_from 0 all) order → IsSorted place_cmp order → IsGrownPart all (grow [] (events d all order))
+pub closed_part : (whole : Bool) (d : LogEvent) (all : List LogEvent) (order : List LogPlace) → Numbered [] all → first_wrong whole all [] all ≡ None → IsPermutation (places_from 0 all) order → IsSorted place_cmp order → IsGrownPart all (grow [] (events d all order))
 closed_part whole d all order num passes perm sorted =
     let fit = fits whole all num passes in
     let keyed = numbered_keyed [] all num in
@@ -201,7 +201,7 @@ closed_part whole d all order num passes perm sorted =
     )
 
 -- a whole file that passes, in order
-pub whole_part : (d : LogEvent) (all : List LogEvent) (order : List Place) → Numbered [] all → first_wrong true all [] all ≡ None → IsPermutation (places_from 0 all) order → IsSorted place_cmp order → IsGrownPart all (events d all order)
+pub whole_part : (d : LogEvent) (all : List LogEvent) (order : List LogPlace) → Numbered [] all → first_wrong true all [] all ≡ None → IsPermutation (places_from 0 all) order → IsSorted place_cmp order → IsGrownPart all (events d all order)
 whole_part d all order num passes perm sorted =
     let fit = fits true all num passes in
     let keyed = numbered_keyed [] all num in

@@ -9,11 +9,11 @@ use Rattle.logical_clock.specs.declared.key.Class.TheVariants.{Mutex}
 use Rattle.logical_clock.specs.declared.key.KeyMark.{KeyMark}
 use Rattle.logical_clock.specs.declared.event.Record.{Record}
 use Rattle.log_closure.specs.declared.tie.Tie.{Tie}
-use Rattle.log_closure.specs.Events.{LogEvent, event_of, events_behind, events_of}
+use Rattle.log_closure.specs.Events.{LogEvent, event_of, events_after, events_of}
 use Rattle.log_closure.specs.FirstWrong.{both, clock_at, first_twice, greatest, or_else, repeats}
 use Rattle.log_closure.specs.Tables.{Owns}
 use Rattle.log_closure.specs.Ties.{earlier, key_tie, keys, keys_of, listed, needs, same, thread_tie, ties}
-use Rattle.log_closure.proofs.Numbers.{events_behind-append, seen_records}
+use Rattle.log_closure.proofs.Numbers.{events_after-append, seen_records}
 use Rattle.log_closure.proofs.Steps.{clock_at-append, listed_more, or_false, same_is}
 
 -- two greatest clocks joined
@@ -87,7 +87,7 @@ repeats_step next now there before ts k h t up = up ∙ by there now ∙ (λ i. 
 -- events
 
 pub seen_events : (rs : List Record) (i : ℕ) (r : Record) → i < length rs → r ≡ get_or rs i r → events_of (take (i + 1) rs) ≡ events_of (take i rs) ++ event_of (take i rs) r ∷ []
-seen_events rs i r lt is = ap events_of (seen_records rs i r lt is) ∙ events_behind-append [] (take i rs) r
+seen_events rs i r lt is = ap events_of (seen_records rs i r lt is) ∙ events_after-append [] (take i rs) r
 
 pub listed_keys : (e : LogEvent) (t : Tie) → 0 < t.class → listed (ties e) t ≡ listed (keys e) t
 listed_keys e t pos = go (same (thread_tie e) t) refl
@@ -131,7 +131,7 @@ twice_more n before (f ∷ es) e = go (repeats (keys_of before) (keys f)) (twice
     go true h = refl
     go false h = h ∙ (λ i. or_else (first_twice (n + 1) (before ++ f ∷ []) es) (cond (repeats (keys_of (append_assoc before (f ∷ []) es i)) (keys e)) (Some (shifted i)) None))
 
-pub length-events : (acc rs : List Record) → length (events_behind acc rs) ≡ length rs
+pub length-events : (acc rs : List Record) → length (events_after acc rs) ≡ length rs
 length-events acc [] = refl
 length-events acc (r ∷ rs) = ap (λ (n : ℕ). suc n) (length-events (acc ++ r ∷ []) rs)
 

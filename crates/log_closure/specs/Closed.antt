@@ -15,7 +15,7 @@ InUnion kept e = (set : List LogEvent) × IsClosed kept set × In e set
 abbrev pub Precedes : LogEvent → LogEvent → Type 0
 Precedes e f = (e.entry.clock < f.entry.clock) ⊎ ((e.entry.clock ≡ f.entry.clock) × (e.name.thread < f.name.thread))
 
--- each event precedes all behind it
+-- each event precedes all after it
 abbrev pub Ordered : List LogEvent → Type 0
 Ordered [] = Unit {0}
 Ordered (e ∷ es) = ((f : LogEvent) → In f es → Precedes e f) × Ordered es

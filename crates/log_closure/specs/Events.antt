@@ -18,18 +18,18 @@ marks e = e.entry.keys
 abbrev pub of_thread : ℕ → List Record → ℕ
 of_thread t rs = count_by (λ (r : Record). eqb r.thread t) rs
 
--- the event of a record that stands behind these in the file
+-- the event of a record that stands after these in the file
 abbrev pub event_of : List Record → Record → LogEvent
 event_of before r = record { name = record { thread = r.thread; index = of_thread r.thread before }; entry = r }
 
--- the events of records that stand behind these in the file
-abbrev pub events_behind : List Record → List Record → List LogEvent
-events_behind before [] = []
-events_behind before (r ∷ rs) = event_of before r ∷ events_behind (before ++ r ∷ []) rs
+-- the events of records that stand after these in the file
+abbrev pub events_after : List Record → List Record → List LogEvent
+events_after before [] = []
+events_after before (r ∷ rs) = event_of before r ∷ events_after (before ++ r ∷ []) rs
 
 -- the events of a file: each record with the index that file order gives it in its thread
 abbrev pub events_of : List Record → List LogEvent
-events_of rs = events_behind [] rs
+events_of rs = events_after [] rs
 
 -- the list has the item
 abbrev pub In : {A : Type 0} → A → List A → Type 0

@@ -8,7 +8,7 @@ use Rattle.log_closure.specs.Predecessors.{next, HoldsPredecessors}
 
 -- the list has the item at two places
 abbrev pub StandsTwice : {A : Type 0} → A → List A → Type 0
-StandsTwice {A} x xs = (front middle back : List A) × (xs ≡ front ++ x ∷ middle ++ x ∷ back)
+StandsTwice {A} x xs = (prefix middle back : List A) × (xs ≡ prefix ++ x ∷ middle ++ x ∷ back)
 
 -- one of its keys with its ticket stands at an event before it in the file, or twice in it
 abbrev pub IsTwice : List LogEvent → LogEvent → Type 0
@@ -35,7 +35,7 @@ pub data IsGreatestBefore (all : List LogEvent) (f : LogEvent) : ℕ → Type 0 
 abbrev pub IsClockWrong : List LogEvent → LogEvent → Type 0
 IsClockWrong all f = HoldsPredecessors all f × ((g : ℕ) × IsGreatestBefore all f g × (f.entry.clock ≢ g + 1))
 
--- the event fits the file in which it stands behind these
+-- the event fits the file in which it stands after these
 abbrev pub IsRight : Bool → List LogEvent → List LogEvent → LogEvent → Type 0
 IsRight whole all before e = (IsTwice before e → ⊥) × (IsMissing whole all e → ⊥) × (IsClockWrong all e → ⊥)
 
@@ -45,9 +45,9 @@ pub data IsWrong (whole : Bool) (all before : List LogEvent) (e : LogEvent) : Or
   as_missing : (IsTwice before e → ⊥) → IsMissing whole all e → IsWrong whole all before e (Missing e.name)
   as_clock : (IsTwice before e → ⊥) → (IsMissing whole all e → ⊥) → IsClockWrong all e → IsWrong whole all before e (Clock e.name)
 
--- each event of this front of the file fits
+-- each event of this prefix of the file fits
 abbrev pub AreRight : Bool → List LogEvent → List LogEvent → Type 0
-AreRight whole all front = (before : List LogEvent) (e : LogEvent) (after : List LogEvent) → front ≡ before ++ e ∷ after → IsRight whole all before e
+AreRight whole all prefix = (before : List LogEvent) (e : LogEvent) (after : List LogEvent) → prefix ≡ before ++ e ∷ after → IsRight whole all before e
 
 -- the error says what is wrong with the first event in file order that doesn't fit
 abbrev pub IsFirstWrong : Bool → List LogEvent → OrderError → Type 0

@@ -12,7 +12,7 @@ ghost use Rattle.log_closure.specs.KeyNumbers.{HaveNumbers};
 use crate::clocks::{Clocks, clocks_of, greatest};
 use crate::error::OrderError;
 use crate::numbering::numbering_of;
-use crate::place::Place;
+use crate::place::LogPlace;
 use crate::table::Table;
 use logical_clock::{KeyMark, Record};
 use std::alloc::Global;
@@ -32,7 +32,7 @@ fn repeats_at(clocks: &Clocks, at: usize) -> bool
 fn check_clock(
     table: &Table,
     whole: bool,
-    place: &Place,
+    place: &LogPlace,
     marks: &[KeyMark],
     numbers: &[u32],
     last: u32,
@@ -49,11 +49,11 @@ fn check_clock(
     }
 }
 
-/// Whether each event fits the file; `places` are those of the records.
+/// Whether each event fits the file; `memory_map` are those of the records.
 pub fn check(
     alloc: Global,
     records: &[Record],
-    places: &[Place],
+    places: &[LogPlace],
     whole: bool,
 ) -> Result<(), OrderError>
     requires { places.now ≡ places_from 0 (events_of records.now) }

@@ -18,7 +18,7 @@ use crate::check::check;
 use crate::error::OrderError;
 use crate::grow::grow;
 use crate::part::Closed;
-use crate::place::{Place, places_of};
+use crate::place::{LogPlace, places_of};
 use log_codec::Kept;
 use logical_clock::Record;
 use std::alloc::{AllocError, Global};
@@ -28,7 +28,7 @@ pub(crate) fn closed_places(
     alloc: Global,
     records: &[Record],
     whole: bool,
-) -> Result<Vec<Place>, OrderError>
+) -> Result<Vec<LogPlace>, OrderError>
     requires { length records.now < 2 ^ 32 }
     ensures check { Answers result (first_wrong whole (events_of records.now) [] (events_of records.now)) }
     ensures part { IfOk result (λ v. IsGrownPart (events_of records.now) (events_at records.now v.items)) }
@@ -58,7 +58,7 @@ fn empty_lists(alloc: Global) -> Result<Vec<Vec<u32>>, AllocError>
 }
 
 /// For each thread the places of its events in the file, by index.
-fn by_thread(alloc: Global, order: &[Place]) -> Result<Vec<Vec<u32>>, AllocError>
+fn by_thread(alloc: Global, order: &[LogPlace]) -> Result<Vec<Vec<u32>>, AllocError>
     ensures wide { IfOk result (λ v. length v.items ≡ 256) }
     ensures lists { IfOk result (λ v. (t : ℕ) → t < 256 → (d : Vec ℕ) → (slice_index_or v.items t d).items ≡ thread_places t order.now) }
 {
@@ -77,10 +77,10 @@ fn by_thread(alloc: Global, order: &[Place]) -> Result<Vec<Vec<u32>>, AllocError
 /// Refused, with the name of the first event in file order that doesn't fit: `Twice`, `Missing` (only in a whole log)
 /// and `Clock`, in this order for one event.
 pub fn closed(alloc: Global, kept: Kept) -> Result<Closed, OrderError>
-    // what passes fits, and what fits passes, but for want of memory
+    // what passes fits, and what fits passes, but when out of memory
     ensures fits { OnOk result (AreRight kept.whole (events_of kept.records) (events_of kept.records)) }
     ensures passes { AreRight kept.whole (events_of kept.records) (events_of kept.records) → IsOkUnless result Memory }
-    // the error named is the first in file order, and the first is named, but for want of memory
+    // the error named is the first in file order, and the first is named, but when out of memory
     ensures refused { (error : OrderError) → IsErrOf result error → error ≢ Memory → IsFirstWrong kept.whole (events_of kept.records) error }
     ensures first { (error : OrderError) → IsFirstWrong kept.whole (events_of kept.records) error → IsErrOf result error ⊎ IsErrOf result Memory }
     // the union of all closed sets, in order

@@ -5,14 +5,14 @@ ghost use Rattle.std.specs.List.{All, list_all};
 ghost use Rattle.std.specs.BTreeSet.{contains};
 ghost use Rattle.logical_clock.specs.declared.event.Record.{Record};
 ghost use Rattle.log_closure.specs.declared.tie.Tie.{Tie};
-ghost use Rattle.log_closure.specs.declared.place.Place.{Place};
+ghost use Rattle.log_closure.specs.declared.place.LogPlace.{LogPlace};
 ghost use Rattle.log_closure.specs.Events.{LogEvent};
 ghost use Rattle.log_closure.specs.Ties.{listed, key_tie, needs};
 ghost use Rattle.log_closure.specs.Tables.{tie_cmp, IsGrown};
 ghost use Rattle.log_closure.specs.Growing.{grow, has_before};
 ghost use Rattle.log_closure.specs.Places.{event_at, events_at};
 
-use crate::place::Place;
+use crate::place::LogPlace;
 use crate::tie::{Tie, tie_before, tie_of};
 use logical_clock::{KeyMark, Record};
 use std::alloc::{AllocError, Global};
@@ -50,7 +50,7 @@ struct Grown {
 
 impl Grown {
     /// Adds the event, if its direct predecessors were added.
-    fn join(&mut self, place: &Place, marks: &[KeyMark]) -> Result<bool, AllocError>
+    fn join(&mut self, place: &LogPlace, marks: &[KeyMark]) -> Result<bool, AllocError>
         ensures { (part : List LogEvent) (e : LogEvent) → IsGrown self.old part → place.now.thread ≡ e.name.thread → place.now.index ≡ e.name.index → marks.now ≡ e.entry.keys → IfOk result (λ r. (r ≡ has_before part e) × IsGrown self.new (cond r (part ++ e ∷ []) part)) }
     {
         let thread = usize::from(place.thread);
@@ -69,7 +69,11 @@ impl Grown {
 }
 
 /// The places of the closed part, in the order given.
-pub fn grow(alloc: Global, records: &[Record], order: &[Place]) -> Result<Vec<Place>, AllocError>
+pub fn grow(
+    alloc: Global,
+    records: &[Record],
+    order: &[LogPlace],
+) -> Result<Vec<LogPlace>, AllocError>
     requires { All (λ p. p.at < length records.now) order.now }
     ensures part { IfOk result (λ v. events_at records.now v.items ≡ grow [] (events_at records.now order.now)) }
     ensures within { IfOk result (λ v. All (λ p. p.at < length records.now) v.items) }

@@ -16,4 +16,3 @@ mod tie;
 pub use closing::closed;
 pub use error::OrderError;
 pub use part::Closed;
-

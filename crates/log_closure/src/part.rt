@@ -6,7 +6,7 @@ ghost use Rattle.log_closure.specs.Chains.{thread_count};
 ghost use Rattle.log_closure.specs.Indexed.{IsIndexed};
 ghost use Rattle.log_closure.specs.Places.{part_at};
 
-use crate::place::Place;
+use crate::place::LogPlace;
 use logical_clock::{EventName, Record};
 use std::marker::Model;
 
@@ -16,7 +16,7 @@ pub struct Closed {
     /// The records of the file, in file order.
     records: Vec<Record>,
     /// The places of the events in it, in order.
-    order: Vec<Place>,
+    order: Vec<LogPlace>,
     /// For each thread the places of its events in the file, by index.
     by_thread: Vec<Vec<u32>>,
     whole: bool,
@@ -33,7 +33,7 @@ impl Model for Closed {
 impl Closed {
     pub(crate) fn new(
         records: Vec<Record>,
-        order: Vec<Place>,
+        order: Vec<LogPlace>,
         by_thread: Vec<Vec<u32>>,
         whole: bool,
     ) -> Closed

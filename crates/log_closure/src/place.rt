@@ -9,14 +9,14 @@ use std::alloc::{AllocError, Global};
 
 /// An event by what orders it: its clock and its name, and the place of its record in the file.
 #[derive(Clone, Copy, PartialEq, Eq, PartialOrd, Ord)]
-pub struct Place {
+pub struct LogPlace {
     pub clock: u32,
     pub thread: u8,
     pub index: u32,
     pub at: u32,
 }
 
-impl Place {
+impl LogPlace {
     pub fn name(&self) -> EventName
         ensures { result ≡ record { thread = self.now.thread; index = self.now.index } }
     {
@@ -28,7 +28,7 @@ impl Place {
 }
 
 /// The places of the events, in file order.
-pub fn places_of(alloc: Global, records: &[Record]) -> Result<Vec<Place>, AllocError>
+pub fn places_of(alloc: Global, records: &[Record]) -> Result<Vec<LogPlace>, AllocError>
     requires { length records.now < 2 ^ 32 }
     ensures { IfOk result (λ v. v.items ≡ places_from 0 (events_of records.now)) }
 {
@@ -36,7 +36,7 @@ pub fn places_of(alloc: Global, records: &[Record]) -> Result<Vec<Place>, AllocE
     let mut places = Vec::with_capacity(alloc, records.len())?;
     for (at, entry) in records.iter().enumerate() {
         let thread = usize::from(entry.thread);
-        places.push(Place {
+        places.push(LogPlace {
             clock: entry.clock,
             thread: entry.thread,
             index: counts[thread],

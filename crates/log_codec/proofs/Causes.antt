@@ -10,7 +10,7 @@ use Rattle.logical_clock.specs.declared.event.Record.{Record}
 use Rattle.log_codec.specs.LogText.{Chunk, version_1, record_text, chunk_head, chunk_text, end_text, records_of, log_text, IsRecord, IsChunk, BeginsLog}
 use Rattle.log_codec.specs.Kept.{CanBeKept, records_within, chunks_within, log_within, StandInFull, AreAll, IsFirstWrong}
 use Rattle.log_codec.specs.Parsing.{AreKept, NamesWrong, HasRead}
-use Rattle.log_codec.proofs.Logs.{within_front}
+use Rattle.log_codec.proofs.Logs.{within_prefix}
 
 -- ---- in a whole log all records stand
 
@@ -19,7 +19,7 @@ all_whole cs =
     let chunks = flat_map (chunk_text fixed.text) cs in
     let end = end_text fixed.text (length (records_of cs)) in
     let left : length (log_text version_1 cs) - 6 ≡ length chunks + length end = omega (arith, length-append chunks end) in
-    rw left (ap (chunks_within fixed.text (length chunks + length end)) (sym (append-nil cs)) ∙ within_front fixed cs [] (length end) ∙ append-nil (records_of cs))
+    rw left (ap (chunks_within fixed.text (length chunks + length end)) (sym (append-nil cs)) ∙ within_prefix fixed cs [] (length end) ∙ append-nil (records_of cs))
 
 all_of : (bytes : List ℕ) (rs : List Record) → StandInFull bytes rs → AreAll bytes rs
 all_of bytes rs full cs log = full cs [] (log.0, append-nil bytes ∙ log.1) ∙ ap (λ (w : List ℕ). log_within version_1 (length w) cs) log.1 ∙ all_whole cs
@@ -51,10 +51,10 @@ can_of bytes rs (cs, more, log) full =
     let can = chunks_can (length bytes - 6) cs log.0.0 in
     subst CanBeKept (sym (full cs more log)) (record { few = omega (arith, can.1, log.0.1); each = can.0 })
 
--- ---- a log text that begins with bytes begins with their fronts
+-- ---- a log text that begins with bytes begins with their prefixes
 
-begins_front : (n : ℕ) (bytes : List ℕ) → BeginsLog bytes → BeginsLog (take n bytes)
-begins_front n bytes (cs, more, log) =
+begins_prefix : (n : ℕ) (bytes : List ℕ) → BeginsLog bytes → BeginsLog (take n bytes)
+begins_prefix n bytes (cs, more, log) =
     let parts : take n bytes ++ (drop n bytes ++ more) ≡ bytes ++ more = sym (append_assoc (take n bytes) (drop n bytes) more) ∙ ap (λ (w : List ℕ). w ++ more) (take-append-drop n bytes) in
     (cs, drop n bytes ++ more, (log.0, parts ∙ log.1))
 
@@ -65,10 +65,10 @@ take_less (suc k) (suc n) [] le = refl
 take_less (suc k) (suc n) (x ∷ xs) le = ap (λ (w : List _). x ∷ w) (take_less k n xs (omega arith))
 
 no_wrong : (bytes : List ℕ) → BeginsLog bytes → (n : ℕ) → IsFirstWrong bytes n → ⊥
-no_wrong bytes begins n wrong = wrong.here (begins_front (n + 1) bytes begins)
+no_wrong bytes begins n wrong = wrong.here (begins_prefix (n + 1) bytes begins)
 
 no_less : (bytes : List ℕ) (m n : ℕ) → IsFirstWrong bytes m → IsFirstWrong bytes n → m < n → ⊥
-no_less bytes m n one other lt = one.here (subst BeginsLog (take_less (m + 1) n bytes (omega arith)) (begins_front (m + 1) (take n bytes) other.before))
+no_less bytes m n one other lt = one.here (subst BeginsLog (take_less (m + 1) n bytes (omega arith)) (begins_prefix (m + 1) (take n bytes) other.before))
 
 pub are_kept : (bytes : List ℕ) (rs : List Record) → BeginsLog bytes → StandInFull bytes rs → AreKept bytes rs
 are_kept bytes rs begins full = record { begins = begins; full = full; all = all_of bytes rs full; can = can_of bytes rs begins full; right = no_wrong bytes begins }

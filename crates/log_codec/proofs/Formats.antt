@@ -19,12 +19,12 @@ use Rattle.logical_clock.specs.declared.event.Reason.TheVariants.{Halted, Fault}
 use Rattle.logical_clock.specs.declared.event.Event.{Event}
 use Rattle.logical_clock.specs.declared.event.Event.TheVariants.{Call, Ret, Up, UpRet, Alloc, Free, Stop}
 use Rattle.logical_clock.specs.declared.event.Record.{Record}
-use Rattle.log_codec.specs.declared.kind.Kind.{Kind}
-use Rattle.log_codec.specs.declared.kind.Kind.TheVariants as kind
-use Rattle.log_codec.specs.declared.kind.Mark.{Mark}
-use Rattle.log_codec.specs.declared.kind.Mark.TheVariants as mark
+use Rattle.log_codec.specs.declared.kind.EventTag.{EventTag}
+use Rattle.log_codec.specs.declared.kind.EventTag.TheVariants as kind
+use Rattle.log_codec.specs.declared.kind.Section.{Section}
+use Rattle.log_codec.specs.declared.kind.Section.TheVariants as mark
 use Rattle.log_codec.specs.LogText.{Chunk, end_text, key_text, piece_text, reason_number, kind_number, body_text, record_text, chunk_text, IsWord, IsKey, IsPiece, IsReason, IsBody, IsRecord, IsChunk}
-use Rattle.log_codec.specs.Reading.{class_from, kind_from, reason_from, mark_from, key_at, piece_at, call_at, up_at, values_at, ret_at, upret_at, alloc_at, free_at, stop_at, body_at, record_at, chunk_head_at, chunk_at, behind_mark, item_at}
+use Rattle.log_codec.specs.Reading.{class_from, kind_from, reason_from, mark_from, key_at, piece_at, call_at, up_at, values_at, ret_at, upret_at, alloc_at, free_at, stop_at, body_at, record_at, chunk_head_at, chunk_at, after_mark, item_at}
 
 -- ---- bytes that stand for values
 
@@ -70,7 +70,7 @@ fits_reason (Fault n) f = rw (ne_eqb n 0 (λ e. omega (arith, e, f.0)), le-leb n
 reads_reason : Reads (coded_at reason_from) (λ r. reason_number r ∷ []) IsReason
 reads_reason = reads_as (coded_at reason_from) _ _ _ IsReason (reads_code reason_from reason_number reason_law Halted refl) (λ r f. refl) reason_fits fits_reason
 
-kind_byte : Kind → ℕ
+kind_byte : EventTag → ℕ
 kind_byte kind.Call = 1
 kind_byte kind.Ret = 2
 kind_byte kind.Up = 3
@@ -79,11 +79,11 @@ kind_byte kind.Alloc = 5
 kind_byte kind.Free = 6
 kind_byte kind.Stop = 7
 
-kind_law : (b : ℕ) (k : Kind) → kind_from b ≡ Some k → kind_byte k ≡ b
+kind_law : (b : ℕ) (k : EventTag) → kind_from b ≡ Some k → kind_byte k ≡ b
 unfolding kind_byte
 kind_law b = law_if kind_byte b 1 kind.Call _ refl (law_if kind_byte b 2 kind.Ret _ refl (law_if kind_byte b 3 kind.Up _ refl (law_if kind_byte b 4 kind.UpRet _ refl (law_if kind_byte b 5 kind.Alloc _ refl (law_if kind_byte b 6 kind.Free _ refl (law_if kind_byte b 7 kind.Stop _ refl (law_none kind_byte b)))))))
 
-kind_again : (k : Kind) → kind_from (kind_byte k) ≡ Some k
+kind_again : (k : EventTag) → kind_from (kind_byte k) ≡ Some k
 unfolding kind_byte
 kind_again kind.Call = refl
 kind_again kind.Ret = refl
@@ -96,14 +96,14 @@ kind_again kind.Stop = refl
 reads_kind : Reads (coded_at kind_from) (λ k. kind_byte k ∷ []) Always
 reads_kind = reads_as (coded_at kind_from) _ _ _ Always (reads_code kind_from kind_byte kind_law kind.Call (kind_again kind.Call)) (λ c f. refl) (λ c f. tt) (λ c f. kind_again c)
 
-abbrev pub mark_code : Mark → ℕ
+abbrev pub mark_code : Section → ℕ
 mark_code mark.Chunk = 67
 mark_code mark.End = 69
 
-mark_law : (b : ℕ) (m : Mark) → mark_from b ≡ Some m → mark_code m ≡ b
+mark_law : (b : ℕ) (m : Section) → mark_from b ≡ Some m → mark_code m ≡ b
 mark_law b = law_if mark_code b 67 mark.Chunk _ refl (law_if mark_code b 69 mark.End _ refl (law_none mark_code b))
 
-mark_again : (m : Mark) → mark_from (mark_code m) ≡ Some m
+mark_again : (m : Section) → mark_from (mark_code m) ≡ Some m
 mark_again mark.Chunk = refl
 mark_again mark.End = refl
 
@@ -112,7 +112,7 @@ reads_mark = reads_as (coded_at mark_from) _ _ _ Always (reads_code mark_from ma
 
 -- ---- events
 
-abbrev kind_of : Event → Kind
+abbrev kind_of : Event → EventTag
 kind_of (Call func args) = kind.Call
 kind_of (Ret same result outs) = kind.Ret
 kind_of (Up func args) = kind.Up
@@ -131,7 +131,7 @@ kind_is (Alloc size addr) = refl
 kind_is (Free addr) = refl
 kind_is (Stop reason) = refl
 
-abbrev IsOf : Kind → Event → Type 0
+abbrev IsOf : EventTag → Event → Type 0
 IsOf k e = IsBody e × (kind_of e ≡ k)
 
 func_of : Event → ℕ
@@ -201,7 +201,7 @@ abbrev pub IsItem : Option Chunk → Type 0
 IsItem None = Unit {0}
 IsItem (Some c) = IsChunk c
 
-abbrev mark_of : Option Chunk → Mark
+abbrev mark_of : Option Chunk → Section
 mark_of None = mark.End
 mark_of (Some c) = mark.Chunk
 
@@ -209,28 +209,28 @@ abbrev chunk_or : Option Chunk → Chunk
 chunk_or None = record { thread = 0; records = [] }
 chunk_or (Some c) = c
 
-abbrev IsBehind : Mark → Option Chunk → Type 0
-IsBehind mark.Chunk o = IsChunk (chunk_or o) × (o ≡ Some (chunk_or o))
-IsBehind mark.End o = Unit {0} × (o ≡ None)
+abbrev IsAfter : Section → Option Chunk → Type 0
+IsAfter mark.Chunk o = IsChunk (chunk_or o) × (o ≡ Some (chunk_or o))
+IsAfter mark.End o = Unit {0} × (o ≡ None)
 
-behind_same : (m : Mark) (o : Option Chunk) → IsBehind m o → mark_of o ≡ m
-behind_same mark.Chunk o f = ap mark_of f.1
-behind_same mark.End o f = ap mark_of f.1
+after_same : (m : Section) (o : Option Chunk) → IsAfter m o → mark_of o ≡ m
+after_same mark.Chunk o f = ap mark_of f.1
+after_same mark.End o f = ap mark_of f.1
 
-item_is : (o : Option Chunk) → Unit {0} × IsBehind (mark_of o) o → IsItem o
+item_is : (o : Option Chunk) → Unit {0} × IsAfter (mark_of o) o → IsItem o
 item_is None f = tt
 item_is (Some c) f = f.1.0
 
-is_item : (o : Option Chunk) → IsItem o → Unit {0} × IsBehind (mark_of o) o
+is_item : (o : Option Chunk) → IsItem o → Unit {0} × IsAfter (mark_of o) o
 is_item None f = (tt, (tt, refl))
 is_item (Some c) f = (tt, (f, refl))
 
 module _ (num : Numbers) where
-  -- the text of a chunk's head behind the letter
+  -- the text of a chunk's head after the letter
   abbrev pub head_tail : ℕ × ℕ → List ℕ
   head_tail h = h.0 ∷ num.text w16 h.1
 
-  -- the text of a chunk behind the letter
+  -- the text of a chunk after the letter
   abbrev pub chunk_tail : Chunk → List ℕ
   chunk_tail c = head_tail (head_of c) ++ flat_map (record_text num.text) c.records
 
@@ -238,9 +238,9 @@ module _ (num : Numbers) where
   item_text total None = end_text num.text total
   item_text total (Some c) = chunk_text num.text c
 
-  abbrev behind_text : ℕ → Mark → Option Chunk → List ℕ
-  behind_text total mark.Chunk o = chunk_tail (chunk_or o) ++ []
-  behind_text total mark.End o = num.text w32 total ++ []
+  abbrev after_text : ℕ → Section → Option Chunk → List ℕ
+  after_text total mark.Chunk o = chunk_tail (chunk_or o) ++ []
+  after_text total mark.End o = num.text w32 total ++ []
 
 module _ (num : Numbers) (laws : ReadsNumbers num) where
   -- ---- a key
@@ -442,7 +442,7 @@ module _ (num : Numbers) (laws : ReadsNumbers num) where
       (then reason_of reads_reason (λ reason _. reads_done (Stop reason)) (λ reason e _ is. ap reason_of is))
       (λ e f. (stop_is e f).0) (λ e f. (stop_is e f).1) is_stop
 
-  reads_body : (k : Kind) → Reads (body_at num k) (body_text num.text) (IsOf k)
+  reads_body : (k : EventTag) → Reads (body_at num k) (body_text num.text) (IsOf k)
   unfolding body_at
   reads_body kind.Call = reads_call
   reads_body kind.Ret = reads_ret
@@ -499,17 +499,17 @@ module _ (num : Numbers) (laws : ReadsNumbers num) where
 
   -- ---- a chunk, or the end
 
-  reads_behind : (total : ℕ) (m : Mark) → Reads (behind_mark num m total) (behind_text num total m) (IsBehind m)
-  unfolding behind_mark
-  reads_behind total mark.Chunk = then chunk_or reads_chunk (λ c _. reads_done (Some c)) (λ c o _ is. ap chunk_or is)
-  reads_behind total mark.End = then (λ (o : Option Chunk). tt) (reads_literal (num.text w32 total)) (λ u _. reads_done (let v : Option Chunk = None in v)) (λ u o _ is. refl)
+  reads_after : (total : ℕ) (m : Section) → Reads (after_mark num m total) (after_text num total m) (IsAfter m)
+  unfolding after_mark
+  reads_after total mark.Chunk = then chunk_or reads_chunk (λ c _. reads_done (Some c)) (λ c o _ is. ap chunk_or is)
+  reads_after total mark.End = then (λ (o : Option Chunk). tt) (reads_literal (num.text w32 total)) (λ u _. reads_done (let v : Option Chunk = None in v)) (λ u o _ is. refl)
 
-  item_is_text : (total : ℕ) (o : Option Chunk) → Unit {0} × IsBehind (mark_of o) o → mark_code (mark_of o) ∷ behind_text num total (mark_of o) o ≡ item_text num total o
+  item_is_text : (total : ℕ) (o : Option Chunk) → Unit {0} × IsAfter (mark_of o) o → mark_code (mark_of o) ∷ after_text num total (mark_of o) o ≡ item_text num total o
   item_is_text total None f = ap (λ (z : List ℕ). 69 ∷ z) (append-nil (num.text w32 total))
   item_is_text total (Some c) f = ap (λ (z : List ℕ). 67 ∷ z) (append-nil (chunk_tail num c))
 
   pub reads_item : (total : ℕ) → Reads (item_at num total) (item_text num total) IsItem
   unfolding item_at
   reads_item total = reads_as (item_at num total) _ (item_text num total) _ IsItem
-      (then mark_of reads_mark (λ m _. reads_behind total m) (λ m o _ f. behind_same m o f))
+      (then mark_of reads_mark (λ m _. reads_after total m) (λ m o _ f. after_same m o f))
       (item_is_text total) item_is is_item

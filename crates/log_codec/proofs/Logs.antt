@@ -1,4 +1,5 @@
--- The records that stand in full in a front of a log's text, and what else the text alone says, for any way to spell numbers.
+-- The records that stand in full in a prefix of a log's text, and what else the text alone says, for any way
+-- to spell numbers.
 use Rattle.std.proofs.Common.{◌≡◌, ℕ, ◌+◌, ◌-◌, ◌<◌, ◌≤◌, List, [], ◌∷◌, ◌++◌, length, get_or, drop, Option, Some, refl, sym, ap, subst, ◌∙◌, append_assoc, zero-add, arith, inl, inr, ◌⊎◌}
 use Rattle.std.specs.List.{AllByRecursion, flat_map}
 use Rattle.std.proofs.lemmas.Bool.{cases_lt, le-leb, lt-leb}
@@ -6,15 +7,15 @@ use Rattle.std.proofs.lemmas.List.{append-nil, length-append}
 use Rattle.byte_format.specs.Reading.{Done, Short, read_list, after}
 use Rattle.byte_format.specs.Numbers.{Numbers}
 use Rattle.byte_format.proofs.Readers.{IsBytes, bytes-right, done_is}
-use Rattle.byte_format.proofs.Fronts.{same_front, cut_done, cut_not, after_nothing}
+use Rattle.byte_format.proofs.Prefixes.{same_prefix, cut_done, cut_not, after_nothing}
 use Rattle.byte_format.proofs.Spelled.{ReadsNumbers}
 use Rattle.logical_clock.specs.declared.event.Record.{Record}
 use Rattle.log_codec.specs.LogText.{Chunk, record_text, chunk_head, chunk_text, end_text, records_of, IsChunk}
 use Rattle.log_codec.specs.Kept.{records_within, chunks_within}
-use Rattle.log_codec.specs.Reading.{record_at, chunk_head_at, read_chunk, item_at, read_behind, read_item}
+use Rattle.log_codec.specs.Reading.{record_at, chunk_head_at, read_chunk, item_at, read_after, read_item}
 use Rattle.log_codec.proofs.Formats.{IsOwn, own_made, IsHead, head_of, head_tail, IsItem, item_text, reads_record, reads_chunk_head, reads_item}
 
--- ---- what stands in the front of a text, by lengths alone
+-- ---- what stands in the prefix of a text, by lengths alone
 
 module _ (num : Numbers) where
   within_none : (rs : List Record) → records_within num.text 0 rs ≡ []
@@ -37,15 +38,15 @@ module _ (num : Numbers) where
   pub chunk_length : (c : Chunk) → length (chunk_text num.text c) ≡ length (chunk_head num.text c) + length (flat_map (record_text num.text) c.records)
   chunk_length c = length-append (chunk_head num.text c) (flat_map (record_text num.text) c.records)
 
-  pub within_front : (cs later : List Chunk) (k : ℕ) → chunks_within num.text (length (flat_map (chunk_text num.text) cs) + k) (cs ++ later) ≡ records_of cs ++ chunks_within num.text k later
-  within_front [] later k = ap (λ n. chunks_within num.text n later) (zero-add k)
-  within_front (c ∷ cs) later k =
+  pub within_prefix : (cs later : List Chunk) (k : ℕ) → chunks_within num.text (length (flat_map (chunk_text num.text) cs) + k) (cs ++ later) ≡ records_of cs ++ chunks_within num.text k later
+  within_prefix [] later k = ap (λ n. chunks_within num.text n later) (zero-add k)
+  within_prefix (c ∷ cs) later k =
       let n = length (flat_map (chunk_text num.text) (c ∷ cs)) + k in
       let len : length (flat_map (chunk_text num.text) (c ∷ cs)) ≡ length (chunk_text num.text c) + length (flat_map (chunk_text num.text) cs) = length-append (chunk_text num.text c) (flat_map (chunk_text num.text) cs) in
       let size = chunk_length c in
       let all : records_within num.text (n - length (chunk_head num.text c)) c.records ≡ c.records = within_all (n - length (chunk_head num.text c)) c.records (omega arith) in
       let left : n - length (chunk_text num.text c) ≡ length (flat_map (chunk_text num.text) cs) + k = omega arith in
-      rw (all, left, within_front cs later k) (sym (append_assoc c.records (records_of cs) (chunks_within num.text k later)))
+      rw (all, left, within_prefix cs later k) (sym (append_assoc c.records (records_of cs) (chunks_within num.text k later)))
 
   -- a record has at least one byte
   pub records_bound : (cs : List Chunk) → length (records_of cs) ≤ length (flat_map (chunk_text num.text) cs)
@@ -83,7 +84,7 @@ module _ (num : Numbers) (laws : ReadsNumbers num) where
             (after_nothing (record_at num thread s) (λ x. x.0 ∷ read_list (record_at num thread) (length rs) x.1) (cut_not (record_at num thread) (record_text num.text) (IsOwn thread) (reads_record num laws thread lt) r each.0 z s more parts bytes less))
         | inr le ↦
             let d = cut_done (record_at num thread) (record_text num.text) (IsOwn thread) (reads_record num laws thread lt) r each.0 z s more parts le in
-            let f = same_front (record_text num.text r) z s more parts le in
+            let f = same_prefix (record_text num.text r) z s more parts le in
             let s' = drop (length (record_text num.text r)) s in
             let len : length s ≡ length (record_text num.text r) + length s' = ap length f.0 ∙ length-append (record_text num.text r) s' in
             let left : length s - length (record_text num.text r) ≡ length s' = omega arith in
@@ -98,14 +99,14 @@ module _ (num : Numbers) (laws : ReadsNumbers num) where
       parts = sym (append_assoc (record_text num.text r) (flat_map (record_text num.text) rs) y) ∙ e
 
   read_end : (total : ℕ) (rest more : List ℕ) → end_text num.text total ≡ rest ++ more → read_item num rest ≡ []
-  unfolding read_item read_behind
+  unfolding read_item read_after
   read_end total [] more e = refl
   read_end total (b ∷ s) more e =
       let heads : b ≡ 69 = ap (λ (s : List ℕ). get_or s 0 0) (sym e) in
       rw heads refl
 
   within_chunk : (c : Chunk) → IsChunk c → (y s more : List ℕ) → IsBytes s → chunk_text num.text c ++ y ≡ s ++ more → records_within num.text (length s - length (chunk_head num.text c)) c.records ≡ read_item num s
-  unfolding read_item read_behind read_chunk
+  unfolding read_item read_after read_chunk
   within_chunk c fits y [] more bytes e = let none : 0 - length (chunk_head num.text c) ≡ 0 = omega arith in rw none (within_none num c.records)
   within_chunk c fits y (b ∷ s) more bytes e =
       let heads : b ≡ 67 = ap (λ (s : List ℕ). get_or s 0 0) (sym e) in
@@ -130,7 +131,7 @@ module _ (num : Numbers) (laws : ReadsNumbers num) where
           rw (none, within_none num c.records) (sym (after_nothing (chunk_head_at num s) (λ h. read_list (record_at num h.0.0) h.0.1 h.1) (cut_not (chunk_head_at num) (head_tail num) IsHead (reads_chunk_head num laws) h fits_head z s more parts bytes.1 lt)))
       by (inr le) =
           let d = cut_done (chunk_head_at num) (head_tail num) IsHead (reads_chunk_head num laws) h fits_head z s more parts le in
-          let f = same_front (head_tail num h) z s more parts le in
+          let f = same_prefix (head_tail num h) z s more parts le in
           let s' = drop (length (head_tail num h)) s in
           let len : length s ≡ length (head_tail num h) + length s' = ap length f.0 ∙ length-append (head_tail num h) s' in
           let left : length s - length (head_tail num h) ≡ length s' = omega arith in

@@ -18,7 +18,7 @@ pub record CanBeKept (records : List Record) : Type 0 where
 -- ---- the records that stand in full in the first n bytes of a text
 
 module _ (number : Width → ℕ → List ℕ) where
-  -- of records spelled one behind the other, those that end within n bytes
+  -- of records spelled one after the other, those that end within n bytes
   abbrev pub records_within : ℕ → List Record → List Record
   records_within n [] = []
   records_within n (r ∷ rs) = if nat_le (length (record_text number r)) n then r ∷ records_within (n - length (record_text number r)) rs else []

@@ -50,7 +50,7 @@ module _ (number : Width → ℕ → List ℕ) where
   abbrev pub key_text : KeyMark → List ℕ
   key_text m = number_of m.key.class ∷ (number w64 m.key.value ++ number w32 m.ticket)
 
-  -- bytes, behind their number
+  -- bytes, after their number
   abbrev pub piece_text : List ℕ → List ℕ
   piece_text bytes = number w32 (length bytes) ++ bytes
 

@@ -1,4 +1,4 @@
--- What reading a log from its front says of the bytes.
+-- What reading a log from its prefix says of the bytes.
 use Rattle.std.specs.Prelude.{◌≡◌, ℕ, ◌-◌, ◌≤◌, List, length, Result, Ok, Err}
 use Rattle.logical_clock.specs.declared.event.Record.{Record}
 use Rattle.byte_format.specs.declared.stop.Stop.{Stop}

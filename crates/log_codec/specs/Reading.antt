@@ -12,10 +12,10 @@ use Rattle.logical_clock.specs.declared.event.Reason.TheVariants.{Halted, Fault}
 use Rattle.logical_clock.specs.declared.event.Event.{Event}
 use Rattle.logical_clock.specs.declared.event.Event.TheVariants as event
 use Rattle.logical_clock.specs.declared.event.Record.{Record}
-use Rattle.log_codec.specs.declared.kind.Kind.{Kind}
-use Rattle.log_codec.specs.declared.kind.Kind.TheVariants as kind
-use Rattle.log_codec.specs.declared.kind.Mark.{Mark}
-use Rattle.log_codec.specs.declared.kind.Mark.TheVariants as mark
+use Rattle.log_codec.specs.declared.kind.EventTag.{EventTag}
+use Rattle.log_codec.specs.declared.kind.EventTag.TheVariants as kind
+use Rattle.log_codec.specs.declared.kind.Section.{Section}
+use Rattle.log_codec.specs.declared.kind.Section.TheVariants as mark
 use Rattle.log_codec.specs.LogText.{Chunk}
 
 -- ---- bytes that stand for values
@@ -30,7 +30,7 @@ class_from b =
     if b == 6 then Some Out else
     if b == 7 then Some Async else None
 
-abbrev pub kind_from : ℕ → Option Kind
+abbrev pub kind_from : ℕ → Option EventTag
 kind_from b =
     if b == 1 then Some kind.Call else
     if b == 2 then Some kind.Ret else
@@ -43,7 +43,7 @@ kind_from b =
 abbrev pub reason_from : ℕ → Option Reason
 reason_from b = if b == 0 then Some Halted else if nat_le b 6 then Some (Fault b) else None
 
-abbrev pub mark_from : ℕ → Option Mark
+abbrev pub mark_from : ℕ → Option Section
 mark_from b = if b == 67 then Some mark.Chunk else if b == 69 then Some mark.End else None
 
 -- ---- parts of a log, for any way to read numbers
@@ -106,7 +106,7 @@ module _ (n : Numbers) where
     reason ← coded_at reason_from bytes
     Done (event.Stop reason.0, reason.1)
 
-  unfoldable pub body_at : Kind → List ℕ → Reading Event
+  unfoldable pub body_at : EventTag → List ℕ → Reading Event
   body_at kind.Call bytes = call_at bytes
   body_at kind.Ret bytes = ret_at bytes
   body_at kind.Up bytes = up_at bytes
@@ -124,7 +124,7 @@ module _ (n : Numbers) where
     event ← body_at kind.0 keys.1
     Done (record { thread = thread; steps = steps.0; clock = clock.0; keys = keys.0; event = event.0 }, event.1)
 
-  -- the thread and the count of a chunk, behind its letter
+  -- the thread and the count of a chunk, after its letter
   unfoldable pub chunk_head_at : List ℕ → Reading (ℕ × ℕ)
   chunk_head_at bytes = do
     thread ← coded_at (at_most 31) bytes
@@ -141,11 +141,11 @@ module _ (n : Numbers) where
   unfoldable pub read_chunk : List ℕ → List Record
   read_chunk bytes = after (chunk_head_at bytes) (λ head. read_list (record_at head.0.0) head.0.1 head.1)
 
-  unfoldable pub behind_mark : Mark → ℕ → List ℕ → Reading (Option Chunk)
-  behind_mark mark.Chunk total bytes = do
+  unfoldable pub after_mark : Section → ℕ → List ℕ → Reading (Option Chunk)
+  after_mark mark.Chunk total bytes = do
     c ← chunk_at bytes
     Done (Some c.0, c.1)
-  behind_mark mark.End total bytes = do
+  after_mark mark.End total bytes = do
     e ← literal_at (n.text w32 total) bytes
     Done (None, e.1)
 
@@ -153,14 +153,14 @@ module _ (n : Numbers) where
   unfoldable pub item_at : ℕ → List ℕ → Reading (Option Chunk)
   item_at total bytes = do
     m ← coded_at mark_from bytes
-    behind_mark m.0 total m.1
+    after_mark m.0 total m.1
 
-  unfoldable pub read_behind : Mark → List ℕ → List Record
-  read_behind mark.Chunk bytes = read_chunk bytes
-  read_behind mark.End bytes = []
+  unfoldable pub read_after : Section → List ℕ → List Record
+  read_after mark.Chunk bytes = read_chunk bytes
+  read_after mark.End bytes = []
 
   unfoldable pub read_item : List ℕ → List Record
-  read_item bytes = after (coded_at mark_from bytes) (λ m. read_behind m.0 m.1)
+  read_item bytes = after (coded_at mark_from bytes) (λ m. read_after m.0 m.1)
 
 -- ---- what a function does that adds the records of a part of a log
 
@@ -168,7 +168,7 @@ abbrev pub AddsChunk : {X : Type 0} → Numbers → (X → List ℕ) → List Re
 AddsChunk n view old new (Ok rest) bytes = (c : Chunk) × (chunk_at n bytes ≡ Done (c, view rest)) × (new ≡ old ++ c.records)
 AddsChunk n view old new (Err e) bytes = StopsAfter old new e (chunk_at n bytes) (read_chunk n bytes)
 
-abbrev pub AddsItem : {X : Type 0} → Numbers → (X → List ℕ) → List Record → List Record → Result (Mark × X) Stop → List ℕ → Type 0
+abbrev pub AddsItem : {X : Type 0} → Numbers → (X → List ℕ) → List Record → List Record → Result (Section × X) Stop → List ℕ → Type 0
 AddsItem n view old new (Ok (mark.Chunk, rest)) bytes = (c : Chunk) × (item_at n (length old) bytes ≡ Done (Some c, view rest)) × (new ≡ old ++ c.records)
 AddsItem n view old new (Ok (mark.End, rest)) bytes = (item_at n (length old) bytes ≡ Done (None, view rest)) × (new ≡ old)
 AddsItem n view old new (Err e) bytes = StopsAfter old new e (item_at n (length old) bytes) (read_item n bytes)

@@ -1,11 +1,11 @@
-//! The fields of a log, each a function from the bytes to its value and the bytes behind it.
+//! The fields of a log, each a function from the bytes to its value and the bytes after it.
 
 ghost use Rattle.std.specs.Prelude.{◌≡◌};
 ghost use Rattle.byte_format.specs.Reading.{Gives, coded_at};
 ghost use Rattle.byte_format.specs.Numbers.{fixed};
 ghost use Rattle.log_codec.specs.Reading.{class_from, kind_from, reason_from, mark_from, key_at, piece_at};
 
-use crate::kind::{Kind, Mark};
+use crate::kind::{EventTag, Section};
 use byte_format::{Stop, chars_at, u32_at, u64_at};
 use logical_clock::{Bytes, Class, Key, KeyMark, Reason};
 use std::alloc::Global;
@@ -26,18 +26,18 @@ pub fn class_at(bytes: &[u8]) -> Result<(Class, &[u8]), Stop>
     }
 }
 
-pub fn kind_at(bytes: &[u8]) -> Result<(Kind, &[u8]), Stop>
+pub fn kind_at(bytes: &[u8]) -> Result<(EventTag, &[u8]), Stop>
     ensures { Gives (λ x. (x.0, x.1.now)) result (coded_at kind_from bytes.now) }
 {
     match bytes {
         [] => Err(Stop::Short),
-        [1, rest @ ..] => Ok((Kind::Call, rest)),
-        [2, rest @ ..] => Ok((Kind::Ret, rest)),
-        [3, rest @ ..] => Ok((Kind::Up, rest)),
-        [4, rest @ ..] => Ok((Kind::UpRet, rest)),
-        [5, rest @ ..] => Ok((Kind::Alloc, rest)),
-        [6, rest @ ..] => Ok((Kind::Free, rest)),
-        [7, rest @ ..] => Ok((Kind::Stop, rest)),
+        [1, rest @ ..] => Ok((EventTag::Call, rest)),
+        [2, rest @ ..] => Ok((EventTag::Ret, rest)),
+        [3, rest @ ..] => Ok((EventTag::Up, rest)),
+        [4, rest @ ..] => Ok((EventTag::UpRet, rest)),
+        [5, rest @ ..] => Ok((EventTag::Alloc, rest)),
+        [6, rest @ ..] => Ok((EventTag::Free, rest)),
+        [7, rest @ ..] => Ok((EventTag::Stop, rest)),
         [_, ..] => Err(Stop::Wrong(bytes.len())),
     }
 }
@@ -54,13 +54,13 @@ pub fn reason_at(bytes: &[u8]) -> Result<(Reason, &[u8]), Stop>
 }
 
 /// The letter of a chunk, `C`, or of the end, `E`.
-pub fn mark_at(bytes: &[u8]) -> Result<(Mark, &[u8]), Stop>
+pub fn mark_at(bytes: &[u8]) -> Result<(Section, &[u8]), Stop>
     ensures { Gives (λ x. (x.0, x.1.now)) result (coded_at mark_from bytes.now) }
 {
     match bytes {
         [] => Err(Stop::Short),
-        [0x43, rest @ ..] => Ok((Mark::Chunk, rest)),
-        [0x45, rest @ ..] => Ok((Mark::End, rest)),
+        [0x43, rest @ ..] => Ok((Section::Chunk, rest)),
+        [0x45, rest @ ..] => Ok((Section::End, rest)),
         [_, ..] => Err(Stop::Wrong(bytes.len())),
     }
 }

@@ -2,7 +2,7 @@
 
 /// The kinds of event.
 #[derive(Clone, Copy)]
-pub enum Kind {
+pub enum EventTag {
     Call,
     Ret,
     Up,
@@ -12,9 +12,9 @@ pub enum Kind {
     Stop,
 }
 
-/// The parts of a log behind its head.
+/// The parts of a log after its head.
 #[derive(Clone, Copy)]
-pub enum Mark {
+pub enum Section {
     Chunk,
     End,
 }

@@ -14,4 +14,3 @@ pub use error::LogError;
 pub use kept::Kept;
 pub use parsing::parse;
 pub use writing::{put_chunk, put_end, put_head};
-

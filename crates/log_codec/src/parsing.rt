@@ -11,7 +11,7 @@ ghost use Rattle.log_codec.specs.Parsing.{HasRead};
 use crate::error::LogError;
 use crate::fields::mark_at;
 use crate::kept::Kept;
-use crate::kind::Mark;
+use crate::kind::Section;
 use crate::records::records_at;
 use byte_format::{Stop, count_at, literal_at, some_u16_at};
 use logical_clock::{LOG_THREADS, Record};
@@ -29,7 +29,7 @@ fn chunk_head_at(bytes: &[u8]) -> Result<((u8, u16), &[u8]), Stop>
     Ok(((thread, count), rest))
 }
 
-/// Adds the records of a chunk, whose letter was read, and hands on the bytes behind them.
+/// Adds the records of a chunk, whose letter was read, and hands on the bytes after them.
 #[tactic(auto, unfolding(crate::specs::Reading::chunk_at, crate::specs::Reading::read_chunk))]
 fn chunk_at<'a>(alloc: Global, bytes: &'a [u8], records: &mut Vec<Record>) -> Result<&'a [u8], Stop>
     ensures { AddsChunk fixed (λ x. x.now) records.old.items records.new.items result bytes.now }
@@ -39,19 +39,19 @@ fn chunk_at<'a>(alloc: Global, bytes: &'a [u8], records: &mut Vec<Record>) -> Re
 }
 
 /// Reads a chunk, and adds its records, or the end.
-#[tactic(auto, unfolding(crate::specs::Reading::item_at, crate::specs::Reading::behind_mark, crate::specs::Reading::read_item, crate::specs::Reading::read_behind))]
+#[tactic(auto, unfolding(crate::specs::Reading::item_at, crate::specs::Reading::after_mark, crate::specs::Reading::read_item, crate::specs::Reading::read_after))]
 fn item_at<'a>(
     alloc: Global,
     bytes: &'a [u8],
     records: &mut Vec<Record>,
-) -> Result<(Mark, &'a [u8]), Stop>
+) -> Result<(Section, &'a [u8]), Stop>
     requires { length records.old.items < 2 ^ 32 }
     ensures { AddsItem fixed (λ x. x.now) records.old.items records.new.items result bytes.now }
 {
     let (mark, rest) = mark_at(bytes)?;
     let rest = match mark {
-        Mark::Chunk => chunk_at(alloc, rest, records)?,
-        Mark::End => {
+        Section::Chunk => chunk_at(alloc, rest, records)?,
+        Section::End => {
             let total = records.len() as u32;
             literal_at(&total.to_be_bytes(), rest)?
         }
@@ -69,8 +69,8 @@ fn read_log(alloc: Global, bytes: &[u8], records: &mut Vec<Record>) -> Result<()
     'items: loop {
         let (mark, after) = item_at(alloc, rest, records)?;
         match mark {
-            Mark::Chunk => rest = after,
-            Mark::End => {
+            Section::Chunk => rest = after,
+            Section::End => {
                 if after.is_empty() {
                     return Ok(());
                 }
@@ -83,14 +83,14 @@ fn read_log(alloc: Global, bytes: &[u8], records: &mut Vec<Record>) -> Result<()
 /// The records of a log that stand in these bytes in full, also where the log is cut short.
 pub fn parse(alloc: Global, bytes: &[u8]) -> Result<Kept, LogError>
     requires { length bytes.now ≤ 67108864 }
-    // What is read begins a log text, and what begins one is read, but for want of memory.
+    // What is read begins a log text, and what begins one is read, but when out of memory.
     ensures begins { OnOk result (BeginsLog bytes.now) }
     ensures reads { BeginsLog bytes.now → IsOkUnless result LogError.Memory }
     ensures whole { IfOk result (λ kept. IsTrue kept.whole ↔ IsLog bytes.now) }
     ensures records { IfOk result (λ kept. StandInFull bytes.now kept.records) }
     ensures all { IfOk result (λ kept. AreAll bytes.now kept.records) }
     ensures kept { IfOk result (λ kept. CanBeKept kept.records) }
-    // The byte named is the first wrong one, and the first wrong one is named, but for want of memory.
+    // The byte named is the first wrong one, and the first wrong one is named, but when out of memory.
     ensures bad_byte { (n : ℕ) → IsErrOf result (LogError.BadByte n) → IsFirstWrong bytes.now n }
     ensures first_wrong { (n : ℕ) → IsFirstWrong bytes.now n → IsErrOf result (LogError.BadByte n) ⊎ IsErrOf result LogError.Memory }
 {

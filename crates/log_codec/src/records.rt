@@ -1,4 +1,4 @@
-//! Records, read from the front of bytes.
+//! Records, read from the prefix of bytes.
 
 ghost use Rattle.std.specs.Prelude.{◌≡◌};
 ghost use Rattle.byte_format.specs.Reading.{Gives, Adds, list_at, read_list};
@@ -6,7 +6,7 @@ ghost use Rattle.byte_format.specs.Numbers.{fixed};
 ghost use Rattle.log_codec.specs.Reading.{ret_at, body_at, record_at};
 
 use crate::fields::{kind_at, reason_at};
-use crate::kind::Kind;
+use crate::kind::EventTag;
 use crate::lists::{args_at, keys_at, outs_at};
 use byte_format::{Stop, flag_at, u16_at, u32_at, u64_at};
 use logical_clock::{Event, Pieces, Record};
@@ -33,35 +33,35 @@ fn ret_at(alloc: Global, bytes: &[u8]) -> Result<(Event, &[u8]), Stop>
 
 /// What an event of the kind has besides it.
 #[tactic(auto, unfolding(crate::specs::Reading::body_at, crate::specs::Reading::call_at, crate::specs::Reading::up_at, crate::specs::Reading::upret_at, crate::specs::Reading::alloc_at, crate::specs::Reading::free_at, crate::specs::Reading::stop_at))]
-fn event_at(alloc: Global, kind: Kind, bytes: &[u8]) -> Result<(Event, &[u8]), Stop>
+fn event_at(alloc: Global, kind: EventTag, bytes: &[u8]) -> Result<(Event, &[u8]), Stop>
     ensures { Gives (λ x. (x.0, x.1.now)) result (body_at fixed kind bytes.now) }
 {
     match kind {
-        Kind::Call => {
+        EventTag::Call => {
             let (func, rest) = u16_at(bytes)?;
             let (args, rest) = args_at(alloc, rest)?;
             Ok((Event::Call { func, args }, rest))
         }
-        Kind::Ret => ret_at(alloc, bytes),
-        Kind::Up => {
+        EventTag::Ret => ret_at(alloc, bytes),
+        EventTag::Up => {
             let (func, rest) = u16_at(bytes)?;
             let (args, rest) = args_at(alloc, rest)?;
             Ok((Event::Up { func, args }, rest))
         }
-        Kind::UpRet => {
+        EventTag::UpRet => {
             let (result, rest) = u64_at(bytes)?;
             Ok((Event::UpRet { result }, rest))
         }
-        Kind::Alloc => {
+        EventTag::Alloc => {
             let (size, rest) = u64_at(bytes)?;
             let (addr, rest) = u64_at(rest)?;
             Ok((Event::Alloc { size, addr }, rest))
         }
-        Kind::Free => {
+        EventTag::Free => {
             let (addr, rest) = u64_at(bytes)?;
             Ok((Event::Free { addr }, rest))
         }
-        Kind::Stop => {
+        EventTag::Stop => {
             let (reason, rest) = reason_at(bytes)?;
             Ok((Event::Stop { reason }, rest))
         }
@@ -87,7 +87,7 @@ fn record_at(alloc: Global, thread: u8, bytes: &[u8]) -> Result<(Record, &[u8]),
     Ok((record, rest))
 }
 
-/// Adds this many records of the thread, and hands on the bytes behind them.
+/// Adds this many records of the thread, and hands on the bytes after them.
 pub fn records_at<'a>(
     alloc: Global,
     thread: u8,

@@ -35,7 +35,7 @@ pub fn judge(alloc: Global, source: &[u8]) -> Judged {
     }
 }
 
-/// What a check says of a source without its mark, behind which a function main stands.
+/// What a check says of a source without its mark, after which a function main stands.
 pub fn judge_marked(alloc: Global, marked: &str) -> Result<Judged, AllocError> {
     let mut source = Vec::new(alloc);
     for byte in marked.as_bytes() {

@@ -1,6 +1,6 @@
 -- What a return has to give a used size for.
 use Rattle.std.specs.Prelude.{ℕ, length}
-use Rattle.held_regions.specs.Held.{HeldState, innermost}
+use Rattle.space_memory_access.specs.Held.{HeldState, innermost}
 use Rattle.space_memory.specs.Releases.{outs_of}
 
 -- how many regions the innermost call of a thread holds to write

@@ -1,11 +1,11 @@
 // Calls on the memory of the examples: what each leaves for a return.
 ghost use Rattle.std.specs.Prelude.{◌≡◌, ◌≤◌, ◌<◌, ◌+◌, ℕ, length, slice_index, OnOk};
-ghost use Rattle.places.specs.declared.areas.TheConstants.{THREADS};
+ghost use Rattle.memory_map.specs.declared.areas.TheConstants.{THREADS};
 ghost use Rattle.memory_scenes.specs.Counts.{out_count};
 
-use access_checks::Refusal;
-use places::Range;
+use memory_map::Range;
 use space_memory::{HoldError, Spaces};
+use space_memory_access::Refusal;
 use std::alloc::Global;
 use thiserror::Error;
 

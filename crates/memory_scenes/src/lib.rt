@@ -2,7 +2,7 @@
 #![tactic(auto)]
 
 mod calls;
-mod scene;
+mod example;
 
 pub use calls::{NotRefused, hand_down, prepare, refusal};
-pub use scene::{memory, range};
+pub use example::{memory, range};

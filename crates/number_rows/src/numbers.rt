@@ -12,8 +12,8 @@ fn marks_of_value(alloc: Global, expression: &str) -> Result<String, Fail> {
 }
 
 // That each expression has its value.
-fn check(rt: &(impl Abort + AllocGlobal), rows: &[(&str, &str)]) -> Result<(), Fail> {
-    for (expression, value) in rows {
+fn check(rt: &(impl Abort + AllocGlobal), cases: &[(&str, &str)]) -> Result<(), Fail> {
+    for (expression, value) in cases {
         let made = marks_of_value(rt.alloc(), expression)?;
         let marks = format!(in rt.alloc(); "enter.f() leave ends={value}")?;
         assert_eq!(rt; made.as_str(), marks.as_str(), "{expression}");
@@ -22,8 +22,8 @@ fn check(rt: &(impl Abort + AllocGlobal), rows: &[(&str, &str)]) -> Result<(), F
 }
 
 // That each expression has this fault.
-fn check_fault(rt: &(impl Abort + AllocGlobal), fault: &str, rows: &[&str]) -> Result<(), Fail> {
-    for expression in rows {
+fn check_fault(rt: &(impl Abort + AllocGlobal), fault: &str, cases: &[&str]) -> Result<(), Fail> {
+    for expression in cases {
         let made = marks_of_value(rt.alloc(), expression)?;
         let marks = format!(in rt.alloc(); "enter.f() fault.{fault}")?;
         assert_eq!(rt; made.as_str(), marks.as_str(), "{expression}");
@@ -33,7 +33,7 @@ fn check_fault(rt: &(impl Abort + AllocGlobal), fault: &str, rows: &[&str]) -> R
 
 #[test]
 fn arithmetic_wraps_at_the_width_of_its_type(rt: HostRuntime) -> Result<(), Fail> {
-    let rows = [
+    let cases = [
         ("2147483647 + 1", "-2147483648"),
         ("-2147483647 - 2", "2147483647"),
         ("65536 * 65536", "0"),
@@ -54,12 +54,12 @@ fn arithmetic_wraps_at_the_width_of_its_type(rt: HostRuntime) -> Result<(), Fail
         ("18446744073709551615ul / 2", "9223372036854775807"),
         ("18446744073709551615ul > 1", "1"),
     ];
-    check(&rt, rows.as_slice())
+    check(&rt, cases.as_slice())
 }
 
 #[test]
 fn small_types_are_promoted_to_int(rt: HostRuntime) -> Result<(), Fail> {
-    let rows = [
+    let cases = [
         ("(char)127 + (char)1", "128"),
         ("(char)-128 - (char)1", "-129"),
         ("(unsigned char)255 + (unsigned char)1", "256"),
@@ -78,12 +78,12 @@ fn small_types_are_promoted_to_int(rt: HostRuntime) -> Result<(), Fail> {
         ("sizeof((short)1 << 1L)", "4"),
         ("sizeof 'a'", "4"),
     ];
-    check(&rt, rows.as_slice())
+    check(&rt, cases.as_slice())
 }
 
 #[test]
 fn operands_have_the_wider_type_or_the_unsigned_one(rt: HostRuntime) -> Result<(), Fail> {
-    let rows = [
+    let cases = [
         ("-1 < 1", "1"),
         ("-1 < 1u", "0"),
         ("-1L < 1u", "1"),
@@ -107,12 +107,12 @@ fn operands_have_the_wider_type_or_the_unsigned_one(rt: HostRuntime) -> Result<(
         ("sizeof(1u + 1L)", "8"),
         ("sizeof(1 < 1L)", "4"),
     ];
-    check(&rt, rows.as_slice())
+    check(&rt, cases.as_slice())
 }
 
 #[test]
 fn quotients_go_towards_zero(rt: HostRuntime) -> Result<(), Fail> {
-    let rows = [
+    let cases = [
         ("7 / 2", "3"),
         ("-7 / 2", "-3"),
         ("7 / -2", "-3"),
@@ -129,12 +129,12 @@ fn quotients_go_towards_zero(rt: HostRuntime) -> Result<(), Fail> {
         ("(short)-32768 / -1", "32768"),
         ("9223372036854775807 / -1", "-9223372036854775807"),
     ];
-    check(&rt, rows.as_slice())
+    check(&rt, cases.as_slice())
 }
 
 #[test]
 fn a_quotient_that_no_number_is_is_a_fault(rt: HostRuntime) -> Result<(), Fail> {
-    let rows = [
+    let cases = [
         "1 / 0",
         "1 % 0",
         "0 / 0",
@@ -150,12 +150,12 @@ fn a_quotient_that_no_number_is_is_a_fault(rt: HostRuntime) -> Result<(), Fail> 
         "(-9223372036854775807 - 1) % -1L",
         "(int)2147483648 / (char)-1",
     ];
-    check_fault(&rt, "1", rows.as_slice())
+    check_fault(&rt, "1", cases.as_slice())
 }
 
 #[test]
 fn shifts_are_as_wide_as_their_left_side(rt: HostRuntime) -> Result<(), Fail> {
-    let rows = [
+    let cases = [
         ("1 << 0", "1"),
         ("1 << 30", "1073741824"),
         ("1 << 31", "-2147483648"),
@@ -175,12 +175,12 @@ fn shifts_are_as_wide_as_their_left_side(rt: HostRuntime) -> Result<(), Fail> {
         ("1 << 31ul", "-2147483648"),
         ("1L << (char)40", "1099511627776"),
     ];
-    check(&rt, rows.as_slice())
+    check(&rt, cases.as_slice())
 }
 
 #[test]
 fn a_count_out_of_the_width_is_a_fault(rt: HostRuntime) -> Result<(), Fail> {
-    let rows = [
+    let cases = [
         "1 << 32",
         "1 >> 32",
         "1 << -1",
@@ -198,12 +198,12 @@ fn a_count_out_of_the_width_is_a_fault(rt: HostRuntime) -> Result<(), Fail> {
         "1L << 18446744073709551615ul",
         "1 << 9223372036854775808ul",
     ];
-    check_fault(&rt, "2", rows.as_slice())
+    check_fault(&rt, "2", cases.as_slice())
 }
 
 #[test]
 fn casts_keep_the_low_bits(rt: HostRuntime) -> Result<(), Fail> {
-    let rows = [
+    let cases = [
         ("(char)127", "127"),
         ("(char)128", "-128"),
         ("(char)200", "-56"),
@@ -223,12 +223,12 @@ fn casts_keep_the_low_bits(rt: HostRuntime) -> Result<(), Fail> {
         ("(long)(int *)(char *)5L", "5"),
         ("'\\xff'", "-1"),
     ];
-    check(&rt, rows.as_slice())
+    check(&rt, cases.as_slice())
 }
 
 #[test]
 fn sums_of_pointers_wrap(rt: HostRuntime) -> Result<(), Fail> {
-    let rows = [
+    let cases = [
         ("(long)((char *)-1L + 1)", "0"),
         ("(long)((int *)-1L + 1)", "3"),
         ("(long)(1 + (long *)-8L)", "0"),
@@ -244,12 +244,12 @@ fn sums_of_pointers_wrap(rt: HostRuntime) -> Result<(), Fail> {
         ("(long)&((int *)0L)[-1]", "-4"),
         ("(long)&(-1)[(int *)0L]", "-4"),
     ];
-    check(&rt, rows.as_slice())
+    check(&rt, cases.as_slice())
 }
 
 #[test]
 fn differences_of_pointers_go_towards_zero(rt: HostRuntime) -> Result<(), Fail> {
-    let rows = [
+    let cases = [
         ("(int *)8L - (int *)0L", "2"),
         ("(int *)0L - (int *)8L", "-2"),
         ("(int *)7L - (int *)0L", "1"),
@@ -262,12 +262,12 @@ fn differences_of_pointers_go_towards_zero(rt: HostRuntime) -> Result<(), Fail> 
         ("(char (*)[3])8L - (char (*)[3])0L", "2"),
         ("sizeof((char *)0L - (char *)0L)", "8"),
     ];
-    check(&rt, rows.as_slice())
+    check(&rt, cases.as_slice())
 }
 
 #[test]
 fn pointers_are_compared_without_a_sign(rt: HostRuntime) -> Result<(), Fail> {
-    let rows = [
+    let cases = [
         ("(char *)-1L > (char *)1L", "1"),
         ("(char *)-1L < (char *)1L", "0"),
         (
@@ -283,7 +283,7 @@ fn pointers_are_compared_without_a_sign(rt: HostRuntime) -> Result<(), Fail> {
         ("!(char *)4L", "0"),
         ("(char *)4294967296 && 1", "1"),
     ];
-    check(&rt, rows.as_slice())
+    check(&rt, cases.as_slice())
 }
 
 #[test]

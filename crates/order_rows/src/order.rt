@@ -1,4 +1,4 @@
-use program_runs::{EMPTY, SUM, first_chunk, front, order_of, run_words, two_threads};
+use program_runs::{EMPTY, SUM, first_chunk, order_of, prefix, run_words, two_threads};
 use r2_base::{MemFiles, MemSink};
 use r2_cli::Status;
 use std::alloc::AllocError;
@@ -139,7 +139,7 @@ fn threads_that_are_cut_off_are_printed_as_far_as_they_are_closed(
 ) -> Result<(), AllocError> {
     let alloc = rt.alloc();
     // before the chunk of thread 2, whose end the main thread waits for
-    let left = order_of(alloc, front(&two_threads(alloc)?, 476))?;
+    let left = order_of(alloc, prefix(&two_threads(alloc)?, 476))?;
     assert_eq!(rt; left.status, Status::Short);
     assert_eq!(rt; left.out.as_slice(), WITHOUT_THREAD_2.as_bytes());
     // the first chunk alone, whose fourth record follows one of thread 1

@@ -32,17 +32,17 @@ passed_none p n aligned lie = record {
   least = λ other place. place.from_base;
 }
 
--- blocks from an address on begin there or behind it
+-- blocks from an address on begin there or after it
 all_from : (from to : ℕ) (bs : List Block) → LieBetween from to bs → All (λ b. from ≤ b.addr) bs
 all_from from to bs lie k d in_list = addr_from from to bs lie k d in_list
 
 module _ (p : PoolState) (n at addr : ℕ) (so_far : Passed p n at addr) where
-  -- n bytes fit where the blocks that are left begin behind them
+  -- n bytes fit where the blocks that are left begin after them
   pub gap_here : at ≤ length p.blocks → LieBetween (addr + n) (p.base + p.size) (drop at p.blocks) → IsGap p n at addr
   gap_here in_list lie =
-      let behind = all_from (addr + n) (p.base + p.size) (drop at p.blocks) lie in
+      let following = all_from (addr + n) (p.base + p.size) (drop at p.blocks) lie in
       let left = All-weaker (λ b. end_of b ≤ addr) (Misses addr n) (λ b before. inr before) (take at p.blocks) so_far.passed in
-      let right = All-weaker (λ b. addr + n ≤ b.addr) (Misses addr n) (λ b after. inl after) (drop at p.blocks) behind in
+      let right = All-weaker (λ b. addr + n ≤ b.addr) (Misses addr n) (λ b after. inl after) (drop at p.blocks) following in
       record {
         least_place = record {
           is_place = record {
@@ -55,22 +55,22 @@ module _ (p : PoolState) (n at addr : ℕ) (so_far : Passed p n at addr) where
         };
         in_list = in_list;
         before = so_far.passed;
-        after = behind;
+        after = following;
       }
 
-  -- the block at the walk's place, and those behind it
+  -- the block at the walk's place, and those after it
   pub left_at : at < length p.blocks → LieBetween addr (p.base + p.size) (get_or p.blocks at no_block ∷ drop (at + 1) p.blocks)
   left_at lt = subst (λ (bs : List Block). LieBetween addr (p.base + p.size) bs) (drop_more p.blocks at no_block lt) so_far.left
 
-  -- n bytes fit before the next block where it begins behind them
+  -- n bytes fit before the next block where it begins after them
   pub gap_before : at < length p.blocks → addr + n ≤ (get_or p.blocks at no_block).addr → IsGap p n at addr
   gap_before lt room =
       let lie = left_at lt in
       gap_here (omega arith) (subst (λ (bs : List Block). LieBetween (addr + n) (p.base + p.size) bs) (sym (drop_more p.blocks at no_block lt)) (room, lie.1, lie.2, lie.3))
 
-  -- where they don't fit, the walk goes on at the first multiple of 16 behind the block
+  -- where they don't fit, the walk goes on at the first multiple of 16 after the block
   pub passed_more : (next : ℕ) → at < length p.blocks → (p.base + p.size) % 16 ≡ 0 → (get_or p.blocks at no_block).addr < addr + n → next % 16 ≡ 0 → end_of (get_or p.blocks at no_block) ≤ next → next < end_of (get_or p.blocks at no_block) + 16 → Passed p n (at + 1) next
-  passed_more next lt ends short aligned behind near =
+  passed_more next lt ends short aligned following near =
       let b = get_or p.blocks at no_block in
       let lie = left_at lt in
       let forward : addr ≤ next = omega (arith, lie.0, lie.2) in
@@ -78,14 +78,14 @@ module _ (p : PoolState) (n at addr : ℕ) (so_far : Passed p n at addr) where
         aligned = aligned;
         from_base = omega (arith, so_far.from_base);
         left = lie_aligned (end_of b) next (p.base + p.size) (drop (at + 1) p.blocks) aligned ends near lie.3;
-        passed = All-more (λ b. end_of b ≤ next) p.blocks at no_block lt (All-weaker (λ b. end_of b ≤ addr) (λ b. end_of b ≤ next) (λ b before. omega arith) (take at p.blocks) so_far.passed) behind;
+        passed = All-more (λ b. end_of b ≤ next) p.blocks at no_block lt (All-weaker (λ b. end_of b ≤ addr) (λ b. end_of b ≤ next) (λ b before. omega arith) (take at p.blocks) so_far.passed) following;
         least = λ other place. elim (place.free at no_block lt) [
           | inl left ↦ absurd (omega (arith, so_far.least other place))
           | inr right ↦ omega (arith, place.aligned)
         ];
       }
 
-  -- behind the last block n bytes fit before the pool's end
+  -- after the last block n bytes fit before the pool's end
   pub gap_at_end : length p.blocks ≤ at → at ≤ length p.blocks → addr + n ≤ p.base + p.size → IsGap p n at addr
   gap_at_end all in_list room = gap_here in_list (subst (λ (bs : List Block). LieBetween (addr + n) (p.base + p.size) bs) (sym (drop_all at p.blocks all)) room)
 

@@ -36,7 +36,7 @@ lie_count from to (b ∷ bs) f t lie =
     let rest = lie_aligned (end_of b) (b.addr + 16) to bs next t (omega (arith, lie.2)) lie.3 in
     omega (arith, lie.0, lie_count (b.addr + 16) to bs next t rest)
 
--- every block begins at the lower bound or behind it
+-- every block begins at the lower bound or after it
 pub addr_from : (from to : ℕ) (bs : List Block) → LieBetween from to bs → (at : ℕ) (d : Block) → at < length bs → from ≤ (get_or bs at d).addr
 addr_from from to [] lie at d lt = absurd (omega arith)
 addr_from from to (b ∷ bs) lie zero d lt = lie.0

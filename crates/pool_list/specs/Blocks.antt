@@ -9,7 +9,7 @@ pub record PoolState : Type 0 where
   pub size : ℕ
   pub blocks : List Block
 
--- the address behind the last byte of a block
+-- the address after the last byte of a block
 abbrev pub end_of : Block → ℕ
 end_of b = b.addr + b.len
 

@@ -6,4 +6,3 @@ mod pool;
 
 pub use block::Block;
 pub use pool::{NotLive, Pool};
-

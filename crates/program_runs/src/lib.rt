@@ -6,5 +6,5 @@ mod runs;
 mod sources;
 
 pub use logs::{EMPTY, SUM, first_chunk, two_threads};
-pub use runs::{Left, check_cut, check_of, front, order_of, run_words};
+pub use runs::{Left, check_cut, check_of, order_of, prefix, run_words};
 pub use sources::{POOL, empty_statements, signs_before_zero, waiting_ones, zero_in_brackets};

@@ -31,10 +31,10 @@ const CALLBACK: u8 = 3;
 const THREAD: u8 = 4;
 
 /// A record: its kind, steps, clock, keys (class, value, ticket), function and words.
-type Row = (u8, u32, u32, &'static [(u8, u64, u32)], u16, &'static [u64]);
+type Case = (u8, u32, u32, &'static [(u8, u64, u32)], u16, &'static [u64]);
 
 /// The records of thread 0 of a program whose main thread spawns two threads that lock one mutex, and joins them.
-const THREAD_0: [Row; 10] = [
+const THREAD_0: [Case; 10] = [
     (UP, 0, 1, &[(CALLBACK, 17, 0)], 17, &[]),
     (CALL, 1, 2, &[(CALLBACK, 16, 0)], 2, &[0x1100, 0]),
     (RET, 0, 3, &[], 0, &[1]),
@@ -48,7 +48,7 @@ const THREAD_0: [Row; 10] = [
 ];
 
 /// The records of thread 1 of a program whose main thread spawns two threads that lock one mutex, and joins them.
-const THREAD_1: [Row; 6] = [
+const THREAD_1: [Case; 6] = [
     (UP, 0, 3, &[(CALLBACK, 16, 1)], 16, &[0]),
     (CALL, 1, 4, &[], 4, &[0]),
     (RET, 0, 5, &[(MUTEX, 0, 0)], 0, &[0]),
@@ -58,7 +58,7 @@ const THREAD_1: [Row; 6] = [
 ];
 
 /// The records of thread 2 of a program whose main thread spawns two threads that lock one mutex, and joins them.
-const THREAD_2: [Row; 6] = [
+const THREAD_2: [Case; 6] = [
     (UP, 0, 5, &[(CALLBACK, 16, 3)], 16, &[0]),
     (CALL, 1, 6, &[], 4, &[0]),
     (RET, 0, 7, &[(MUTEX, 0, 2)], 0, &[0]),
@@ -84,8 +84,8 @@ fn put_keys(log: &mut Vec<u8>, keys: &[(u8, u64, u32)]) -> Result<(), AllocError
     Ok(())
 }
 
-fn put_row(log: &mut Vec<u8>, row: Row) -> Result<(), AllocError> {
-    let (kind, steps, clock, keys, func, words) = row;
+fn put_case(log: &mut Vec<u8>, case: Case) -> Result<(), AllocError> {
+    let (kind, steps, clock, keys, func, words) = case;
     log.push(kind)?;
     log.extend_from_slice(&steps.to_be_bytes())?;
     log.extend_from_slice(&clock.to_be_bytes())?;
@@ -106,11 +106,11 @@ fn put_row(log: &mut Vec<u8>, row: Row) -> Result<(), AllocError> {
     Ok(())
 }
 
-fn put_chunk(log: &mut Vec<u8>, thread: u8, rows: &[Row]) -> Result<(), AllocError> {
+fn put_chunk(log: &mut Vec<u8>, thread: u8, cases: &[Case]) -> Result<(), AllocError> {
     log.extend_from_slice(&[b'C', thread])?;
-    log.extend_from_slice(&u16::try_from(rows.len()).unwrap_or(u16::MAX).to_be_bytes())?;
-    for row in rows {
-        put_row(log, *row)?;
+    log.extend_from_slice(&u16::try_from(cases.len()).unwrap_or(u16::MAX).to_be_bytes())?;
+    for case in cases {
+        put_case(log, *case)?;
     }
     Ok(())
 }

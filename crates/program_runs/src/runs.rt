@@ -57,6 +57,6 @@ fn left_of(alloc: Global, words: &[&str], bytes: &[u8], at_once: u64) -> Result<
 }
 
 /// The first bytes, at most so many.
-pub fn front(bytes: &[u8], length: usize) -> &[u8] {
+pub fn prefix(bytes: &[u8], length: usize) -> &[u8] {
     &bytes[..length.min(bytes.len())]
 }

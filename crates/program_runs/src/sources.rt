@@ -135,7 +135,8 @@ pub fn empty_statements(alloc: Global, count: usize) -> Result<Vec<u8>, AllocErr
     )
 }
 
-/// A source with the cut `c`, whose `main` gives a sum of so many ones, added from the right: each waits for those behind it.
+/// A source with the cut `c`, whose `main` gives a sum of so many ones, added from the right: each is on the
+/// stack below those after it.
 pub fn waiting_ones(alloc: Global, count: usize) -> Result<Vec<u8>, AllocError> {
     let mut source = Vec::from_slice(alloc, b"[cut(c)] void e(void); int main(void) { return ")?;
     for _ in 1..count {

@@ -12,7 +12,7 @@ next n = min (n + 1) (2 ^ 64 - 1)
 abbrev pub is_listed : List ℕ → ℕ → Bool
 is_listed numbers number = list_any (λ n. nat_eq n number) numbers
 
--- a call answers Failed exactly where it is a failing one, want of memory aside
+-- a call answers Failed exactly where it is a failing one, out of memory aside
 abbrev pub FailsExactly : {T : Type 0} → Bool → Result T Fault → Type 0
 FailsExactly fails (Ok x) = fails ≡ false
 FailsExactly fails (Err Failed) = fails ≡ true

@@ -44,7 +44,7 @@ fn natural(text: &[u8]) -> Option<u128>
     }
 }
 
-/// The number below 0 whose digits stand behind a `-`.
+/// The number below 0 whose digits stand after a `-`.
 fn negative(digits: &[u8]) -> Option<i128>
     ensures some { IfSome result (λ v. 45 ∷ digits.now ≡ signed_decimal v) }
     ensures none { IfNone result ((n : ℕ) → n < 2 ^ 127 → digits.now ≢ decimal (suc n)) }

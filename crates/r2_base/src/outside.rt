@@ -32,7 +32,7 @@ pub trait Files {
     // how many faults of `fresh` and `append` there were, up to 2^64 - 1
     ghost write_faults: { Self → ℕ };
 
-    /// Puts bytes of the name, from a place on, in front of `into`, and answers how many: 0 exactly at the end of what
+    /// Puts bytes of the name, from a place on, before `into`, and answers how many: 0 exactly at the end of what
     /// the name holds, or where `into` is empty. `Missing` where the name isn't there.
     fn read_at(&mut self, name: &str, from: u64, into: &mut [u8]) -> Result<usize, Fault>
         ensures told { IsTrue (tells self.old) → IsTrue (tells self.new) }

@@ -39,7 +39,7 @@ three_words f xs x y z w v u some few is it at e d g = ap (map f) (three_items x
 pub same_bytes : (a b : List ℕ) → bytes_eq a b ≡ true → a ≡ b
 same_bytes a b e = (bytes_eq-Decides a b).0 e
 
--- what is read behind a prefix makes a longer prefix
+-- what is read after a prefix makes a longer prefix
 pub longer_prefix : (bytes text into new : List ℕ) (n : ℕ) → take (length text) bytes ≡ text → IsPiece bytes (length text) into n → new ≡ text ++ take n into → take (length new) bytes ≡ new
 longer_prefix bytes text into new n prefix piece is =
     let parts : bytes ≡ text ++ drop (length text) bytes = sym (take-append-drop (length text) bytes) ∙ ap (λ (w : List ℕ). w ++ drop (length text) bytes) prefix in

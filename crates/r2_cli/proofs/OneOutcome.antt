@@ -22,7 +22,7 @@ use Rattle.r2_cli.proofs.OneCheck.{one_check}
 
 -- ---- lists
 
--- two ways to part one list: the fronts are equal, or one goes on past the item behind the other
+-- two ways to part one list: the prefixes are equal, or one goes on past the item after the other
 apart : {A : Type 0} (xs ys : List A) (x y : A) (ls rs : List A) → xs ++ x ∷ ls ≡ ys ++ y ∷ rs
     → ((xs ≡ ys) × (x ≡ y)) ⊎ (((m : List A) × (ys ≡ xs ++ x ∷ m)) ⊎ ((m : List A) × (xs ≡ ys ++ y ∷ m)))
 apart [] [] x y ls rs e = inl (refl, cc)
@@ -41,11 +41,11 @@ apart {A} (w ∷ ws) (z ∷ zs) x y ls rs e = longer (apart ws zs x y ls rs (let
 
 -- ---- the bytes of a log
 
-begins_front : (front rest : List ℕ) → BeginsLog (front ++ rest) → BeginsLog front
-begins_front front rest (cs, more, is) = (cs, rest ++ more, (is.0, sym (append_assoc front rest more) ∙ is.1))
+begins_prefix : (prefix rest : List ℕ) → BeginsLog (prefix ++ rest) → BeginsLog prefix
+begins_prefix prefix rest (cs, more, is) = (cs, rest ++ more, (is.0, sym (append_assoc prefix rest more) ∙ is.1))
 
 begins_take : (bytes : List ℕ) (n : ℕ) → BeginsLog bytes → BeginsLog (take n bytes)
-begins_take bytes n begins = begins_front (take n bytes) (drop n bytes) (subst BeginsLog (sym (take-append-drop n bytes)) begins)
+begins_take bytes n begins = begins_prefix (take n bytes) (drop n bytes) (subst BeginsLog (sym (take-append-drop n bytes)) begins)
 
 not_both : (bytes : List ℕ) (n : ℕ) → byte_place.IsFirstWrong bytes n → BeginsLog bytes → ⊥
 not_both bytes n first begins = first.here (begins_take bytes (n + 1) begins)
@@ -97,12 +97,12 @@ same_wrong whole all before e f g (wrong.as_clock a b c) (wrong.as_missing d x) 
 same_wrong whole all before e f g (wrong.as_clock a b c) (wrong.as_clock d x y) = refl
 
 first_event : (whole : Bool) (all : List LogEvent) (f g : OrderError) → wrong.IsFirstWrong whole all f → wrong.IsFirstWrong whole all g → f ≡ g
-first_event whole all f g (before, e, after, is, right, bad) (front, d, rest, it, good, worse) = by (apart before front e d after rest (sym is ∙ it))
+first_event whole all f g (before, e, after, is, right, bad) (prefix, d, rest, it, good, worse) = by (apart before prefix e d after rest (sym is ∙ it))
   where
-    by : ((before ≡ front) × (e ≡ d)) ⊎ (((m : List LogEvent) × (front ≡ before ++ e ∷ m)) ⊎ ((m : List LogEvent) × (before ≡ front ++ d ∷ m))) → f ≡ g
-    by (inl (same, eq)) = same_wrong whole all front d f g (subst (λ (x : LogEvent). wrong.IsWrong whole all front x f) eq (subst (λ (b : List LogEvent). wrong.IsWrong whole all b e f) same bad)) worse
+    by : ((before ≡ prefix) × (e ≡ d)) ⊎ (((m : List LogEvent) × (prefix ≡ before ++ e ∷ m)) ⊎ ((m : List LogEvent) × (before ≡ prefix ++ d ∷ m))) → f ≡ g
+    by (inl (same, eq)) = same_wrong whole all prefix d f g (subst (λ (x : LogEvent). wrong.IsWrong whole all prefix x f) eq (subst (λ (b : List LogEvent). wrong.IsWrong whole all b e f) same bad)) worse
     by (inr (inl (m, parts))) = absurd (right_not_wrong whole all before e f (good before e m parts) bad)
-    by (inr (inr (m, parts))) = absurd (right_not_wrong whole all front d g (right front d m parts) worse)
+    by (inr (inr (m, parts))) = absurd (right_not_wrong whole all prefix d g (right prefix d m parts) worse)
 
 none_wrong : (whole : Bool) (all : List LogEvent) (error : OrderError) → wrong.AreRight whole all all → wrong.IsFirstWrong whole all error → ⊥
 none_wrong whole all error right (before, e, after, is, fine, bad) = right_not_wrong whole all before e error (right before e after is) bad

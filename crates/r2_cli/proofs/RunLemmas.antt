@@ -20,7 +20,7 @@ use Rattle.r2_cli.specs.Log.{order_words}
 use Rattle.r2_cli.specs.Written.{Adds}
 use Rattle.r2_cli.specs.Endings.{status_of, line_of_ending, print_ending}
 use Rattle.r2_cli.specs.Run as run
-use Rattle.r2_cli.specs.Run.{IsAnswer, IsAnswerTo, Leaves, IsDecided, IsStopped, IsRefused, IsInput, IsLine, SaysLine, FaultsReading, PrintsPrefix}
+use Rattle.r2_cli.specs.Run.{IsAnswer, IsAnswerTo, Leaves, IsDecided, IsStopped, IsRefusal, IsInput, IsLine, SaysLine, FaultsReading, PrintsPrefix}
 use Rattle.r2_cli.specs.Performed.{IsOrderFault, EndingCause, WordsCause, IsSettled, IsEarly, Settles, LacksFile, Performs, Does}
 use Rattle.r2_cli.specs.Finishing.{LeavesLine, Finishes, status_after, in_full, failed, no_memory}
 
@@ -51,7 +51,7 @@ settled_of (TooLarge which) is = tt
 settled_of LogLimit is = tt
 settled_of NoMemory is = absurd is
 
-pub early_of : (ending : Ending) → IsRefused (status_of ending) → IsEarly ending
+pub early_of : (ending : Ending) → IsRefusal (status_of ending) → IsEarly ending
 early_of Done is = absurd is
 early_of Usage is = tt
 early_of (Source fault) is = tt
@@ -146,7 +146,7 @@ answers words held ending old new said_old said_new b n result does (inr (in_ful
 answers words held ending old new said_old said_new b n result does (inr (failed rose adds)) decided = absurd decided
 answers words held ending old new said_old said_new b n result does (inr (no_memory adds)) decided = absurd decided
 
--- an ending without a fault that rose a count is settled, or for want of memory
+-- an ending without a fault that rose a count is settled, or when out of memory
 complete_of : (words : Words) (held : Held) (ending : Ending) (old new said_old said_new : Told) (r s f g : ℕ) → WordsCause words r s f g ending → Does words held old new ending
     → (Rose r s → ⊥) → (Rose f g → ⊥) → Adds said_old said_new (line_of_ending ending) → (status_of ending ≡ status.NoMemory) ⊎ Leaves words held (status_of ending) old new said_old said_new
 complete_of words held ReadFault old new said_old said_new r s f g (form, is, cause) does read write adds = absurd (read cause)
@@ -241,7 +241,7 @@ faults_writing words ending said_old said_new r s f g b n result cause (inr (in_
 faults_writing words ending said_old said_new r s f g b n result cause (inr (failed rose adds)) is = inr rose
 faults_writing words ending said_old said_new r s f g b n result cause (inr (no_memory adds)) is = absurd cc
 
-pub early : (ending : Ending) (said_old said_new : Told) (b n : ℕ) (result : Status) → Finishes ending said_old said_new b n result → IsRefused result → IsEarly ending
+pub early : (ending : Ending) (said_old said_new : Told) (b n : ℕ) (result : Status) → Finishes ending said_old said_new b n result → IsRefusal result → IsEarly ending
 early ending said_old said_new b n result (inl (in_full adds)) is = early_of ending is
 early ending said_old said_new b n result (inl (failed rose adds)) is = absurd is
 early ending said_old said_new b n result (inl (no_memory adds)) is = absurd is

@@ -107,7 +107,7 @@ lines_sent es old now waiting more lines from to read s e =
     let longer = more_waits old now waiting lines (flat_map event_line (take from es)) s in
     record { sent = longer.sent; put = longer.put; parts = read ∙ longer.parts ∙ ap (λ (w : List ℕ). longer.sent ++ w) (sym e) }
 
--- what is left to print behind so many events
+-- what is left to print after so many events
 left_over : List LogEvent → ℕ → List ℕ
 left_over es i = flat_map event_line (drop i es) ++ end_line (length es)
 

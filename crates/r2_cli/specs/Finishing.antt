@@ -22,7 +22,7 @@ pub data LeavesLine (status : Status) (line : List ℕ) (old new : Option (List 
   failed : Rose before now → AddsPrefix old new line → LeavesLine status line old new before now WriteFault
   no_memory : AddsPrefix old new line → LeavesLine status line old new before now NoMemory
 
--- the same of the line of an ending, in whose place that for want of memory may stand
+-- the same of the line of an ending, in whose place that when out of memory may stand
 abbrev pub Finishes : Ending → Option (List ℕ) → Option (List ℕ) → ℕ → ℕ → Status → Type 0
 Finishes ending old new before now result = LeavesLine (status_of ending) (line_of_ending ending) old new before now result
     ⊎ LeavesLine NoMemory (line_of (codes "no memory")) old new before now result

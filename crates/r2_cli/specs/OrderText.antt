@@ -8,8 +8,8 @@ use Rattle.logical_clock.specs.declared.event.Record.{Record}
 use Rattle.logical_clock.specs.declared.event.Event.{Event}
 use Rattle.logical_clock.specs.declared.event.Event.TheVariants.{Call, Ret, Up, UpRet, Alloc, Free, Stop}
 use Rattle.log_closure.specs.Events.{LogEvent}
-use Rattle.r2_cli.specs.declared.order_line.Kind.{Kind}
-use Rattle.r2_cli.specs.declared.order_line.Kind.TheVariants as kind
+use Rattle.r2_cli.specs.declared.order_line.EventWord.{EventWord}
+use Rattle.r2_cli.specs.declared.order_line.EventWord.TheVariants as kind
 
 -- the word of the kind of an event
 abbrev pub kind_word : Event → List ℕ
@@ -22,7 +22,7 @@ kind_word (Free addr) = codes "free"
 kind_word (Stop reason) = codes "stop"
 
 -- the same word, by the kind
-abbrev pub word_of_kind : Kind → List ℕ
+abbrev pub word_of_kind : EventWord → List ℕ
 word_of_kind kind.Call = codes "call"
 word_of_kind kind.Ret = codes "ret"
 word_of_kind kind.Up = codes "up"
@@ -47,7 +47,7 @@ kind_text r = codes " " ++ kind_word r.event ++ codes " " ++ decimal r.steps
 abbrev pub event_line : LogEvent → List ℕ
 event_line e = decimal e.entry.clock ++ codes " " ++ name_text e.name ++ kind_text e.entry ++ flat_map key_text e.entry.keys ++ codes "\n"
 
--- lines, one behind the other
+-- lines, one after the other
 abbrev pub lines_text : List (List ℕ) → List ℕ
 lines_text ls = flat_map (λ (line : List ℕ). line) ls
 

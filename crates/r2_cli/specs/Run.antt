@@ -51,20 +51,20 @@ IsDecided WriteFault = ⊥
 IsDecided NoMemory = ⊥
 IsDecided status = Unit {0}
 
--- the status says that the run was stopped, at a write or for want of memory
+-- the status says that the run was stopped, at a write or when out of memory
 abbrev pub IsStopped : Status → Type 0
 IsStopped WriteFault = Unit {0}
 IsStopped NoMemory = Unit {0}
 IsStopped status = ⊥
 
 -- the status says that the run was refused before its first write
-abbrev pub IsRefused : Status → Type 0
-IsRefused Usage = Unit {0}
-IsRefused Source = Unit {0}
-IsRefused BadLog = Unit {0}
-IsRefused ReadFault = Unit {0}
-IsRefused Limit = Unit {0}
-IsRefused status = ⊥
+abbrev pub IsRefusal : Status → Type 0
+IsRefusal Usage = Unit {0}
+IsRefusal Source = Unit {0}
+IsRefusal BadLog = Unit {0}
+IsRefusal ReadFault = Unit {0}
+IsRefusal Limit = Unit {0}
+IsRefusal status = ⊥
 
 -- nothing was printed, or a prefix of what one of these outcomes prints
 abbrev pub PrintsPrefix : (Outcome → Type 0) → Option (List ℕ) → Option (List ℕ) → Type 0

@@ -24,7 +24,7 @@ rule_words (rules.Annotation n) = codes "annotation " ++ decimal n
 abbrev pub source_words : SourceRule → ℕ → List ℕ
 source_words rule n = codes "source " ++ decimal n ++ codes " " ++ rule_words rule
 
--- the words of a number that a source goes past, with the number
+-- the words of a limit that a source exceeds, with the limit
 abbrev pub limit_words : SourceLimit → List ℕ
 limit_words (Types numbers.Functions) = codes "limit functions 1000"
 limit_words (Types numbers.Params) = codes "limit params 8"

@@ -34,7 +34,7 @@ pub enum Ending<'a> {
     WriteFault,
     /// The source is too long.
     SourceLimit,
-    /// The number that the source goes past.
+    /// The limit that the source exceeds.
     TooLarge(SourceLimit),
     /// The log is too long.
     LogLimit,

@@ -8,7 +8,7 @@ use crate::status::Status;
 use r2_base::{Fault, Sink};
 use std::alloc::Global;
 
-/// The line for want of memory, which takes none.
+/// The line when out of memory, which takes none.
 const NO_MEMORY: &str = "r2: no memory\n";
 
 /// The status after a put on standard error.

@@ -4,12 +4,12 @@
 mod check;
 mod ending;
 mod finish;
-mod front;
 mod help;
 mod log_file;
 mod order;
 mod order_line;
 mod order_text;
+mod prefix;
 mod printing;
 mod reading;
 mod running;

@@ -5,14 +5,14 @@ ghost use Rattle.std.specs.List.{flat_map};
 ghost use Rattle.logical_clock.specs.Class.{word_of};
 ghost use Rattle.r2_cli.specs.OrderText.{kind_word, word_of_kind, name_text, key_text, event_line, lines_text};
 
-use crate::front::Front;
+use crate::prefix::Prefix;
 use logical_clock::{Class, Event, EventName, KeyMark, Record};
 use std::alloc::AllocError;
 use std::marker::Model;
 
 /// The kinds of event.
 #[derive(Clone, Copy)]
-pub enum Kind {
+pub enum EventWord {
     Call,
     Ret,
     Up,
@@ -22,18 +22,18 @@ pub enum Kind {
     Stop,
 }
 
-impl Kind {
-    fn of(event: &Event) -> Kind
+impl EventWord {
+    fn of(event: &Event) -> EventWord
         ensures { word_of_kind result ≡ kind_word event.now }
     {
         match event {
-            Event::Call { .. } => Kind::Call,
-            Event::Ret { .. } => Kind::Ret,
-            Event::Up { .. } => Kind::Up,
-            Event::UpRet { .. } => Kind::UpRet,
-            Event::Alloc { .. } => Kind::Alloc,
-            Event::Free { .. } => Kind::Free,
-            Event::Stop { .. } => Kind::Stop,
+            Event::Call { .. } => EventWord::Call,
+            Event::Ret { .. } => EventWord::Ret,
+            Event::Up { .. } => EventWord::Up,
+            Event::UpRet { .. } => EventWord::UpRet,
+            Event::Alloc { .. } => EventWord::Alloc,
+            Event::Free { .. } => EventWord::Free,
+            Event::Stop { .. } => EventWord::Stop,
         }
     }
 
@@ -42,13 +42,13 @@ impl Kind {
         ensures short { length result.now ≤ 8 }
     {
         match self {
-            Kind::Call => "call",
-            Kind::Ret => "ret",
-            Kind::Up => "up",
-            Kind::UpRet => "upret",
-            Kind::Alloc => "alloc",
-            Kind::Free => "free",
-            Kind::Stop => "stop",
+            EventWord::Call => "call",
+            EventWord::Ret => "ret",
+            EventWord::Up => "up",
+            EventWord::UpRet => "upret",
+            EventWord::Alloc => "alloc",
+            EventWord::Free => "free",
+            EventWord::Stop => "stop",
         }
     }
 }
@@ -58,7 +58,7 @@ impl Kind {
 pub struct Line<'a> {
     clock: u32,
     name: EventName,
-    kind: Kind,
+    kind: EventWord,
     steps: u32,
     keys: &'a [KeyMark],
 }
@@ -77,7 +77,7 @@ impl<'a> Line<'a> {
         Line {
             clock: entry.clock,
             name,
-            kind: Kind::of(&entry.event),
+            kind: EventWord::of(&entry.event),
             steps: entry.steps,
             keys: entry.keys.as_slice(),
         }
@@ -95,14 +95,14 @@ fn class_word(class: Class) -> &'static str
 fn put_key(text: &mut Vec<u8>, mark: &KeyMark) -> Result<(), AllocError>
     ensures { OnOk result (text.new.items ≡ text.old.items ++ key_text mark.now) }
 {
-    let mut front = Front::new();
-    front.put_number(u64::from(mark.ticket));
-    front.put_byte(b'@');
-    front.put_number(mark.key.value);
-    front.put_byte(b':');
-    front.put_word(class_word(mark.key.class));
-    front.put_byte(b' ');
-    text.extend_from_slice(front.as_slice())
+    let mut prefix = Prefix::new();
+    prefix.put_number(u64::from(mark.ticket));
+    prefix.put_byte(b'@');
+    prefix.put_number(mark.key.value);
+    prefix.put_byte(b':');
+    prefix.put_word(class_word(mark.key.class));
+    prefix.put_byte(b' ');
+    text.extend_from_slice(prefix.as_slice())
 }
 
 fn put_keys(text: &mut Vec<u8>, keys: &[KeyMark]) -> Result<(), AllocError>
@@ -118,17 +118,17 @@ fn put_keys(text: &mut Vec<u8>, keys: &[KeyMark]) -> Result<(), AllocError>
 fn put_line(text: &mut Vec<u8>, line: &Line<'_>) -> Result<(), AllocError>
     ensures { OnOk result (text.new.items ≡ text.old.items ++ line.now) }
 {
-    let mut front = Front::new();
-    front.put_number(u64::from(line.steps));
-    front.put_byte(b' ');
-    front.put_word(line.kind.word());
-    front.put_byte(b' ');
-    front.put_number(u64::from(line.name.index));
-    front.put_byte(b'.');
-    front.put_number(u64::from(line.name.thread));
-    front.put_byte(b' ');
-    front.put_number(u64::from(line.clock));
-    text.extend_from_slice(front.as_slice())?;
+    let mut prefix = Prefix::new();
+    prefix.put_number(u64::from(line.steps));
+    prefix.put_byte(b' ');
+    prefix.put_word(line.kind.word());
+    prefix.put_byte(b' ');
+    prefix.put_number(u64::from(line.name.index));
+    prefix.put_byte(b'.');
+    prefix.put_number(u64::from(line.name.thread));
+    prefix.put_byte(b' ');
+    prefix.put_number(u64::from(line.clock));
+    text.extend_from_slice(prefix.as_slice())?;
     put_keys(text, line.keys)?;
     text.push(b'\n')?;
     Ok(())

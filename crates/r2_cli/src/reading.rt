@@ -49,7 +49,7 @@ impl<T: Drop> From<AllocFailed<T>> for ReadError {
     }
 }
 
-/// Reads at most so many bytes of the file behind the text, and answers whether there were any.
+/// Reads at most so many bytes of the file after the text, and answers whether there were any.
 fn read_more<F: Files>(
     files: &mut F,
     name: &str,

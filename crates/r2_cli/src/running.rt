@@ -5,7 +5,7 @@ ghost use Rattle.r2_base.specs.Causes.{Rose};
 ghost use Rattle.r2_cli.specs.Outcome.{Outcome};
 ghost use Rattle.r2_cli.specs.Words.{texts_of, IsUsage};
 ghost use Rattle.r2_cli.specs.Performed.{WordsCause, IsEarly, Does};
-ghost use Rattle.r2_cli.specs.Run.{IsAnswer, SameOutcome, Leaves, IsDecided, IsStopped, IsRefused, PrintsPrefix, SaysLine, FaultsReading};
+ghost use Rattle.r2_cli.specs.Run.{IsAnswer, SameOutcome, Leaves, IsDecided, IsStopped, IsRefusal, PrintsPrefix, SaysLine, FaultsReading};
 
 use crate::check::check;
 use crate::ending::{Ending, print_ending};
@@ -51,7 +51,7 @@ fn work<'a, F: Files, S: Sink>(
 /// Runs the program: `words` are the command line without the program's name. The command reads and writes `files`,
 /// and prints to `out`; a status other than `Done` has its line on `err`, which no other line follows.
 ///
-/// A line of `err` that can't be put turns the status into `WriteFault`, or into `NoMemory` for want of memory.
+/// A line of `err` that can't be put turns the status into `WriteFault`, or into `NoMemory` when out of memory.
 pub fn run<F: Files, S: Sink, E: Sink>(
     alloc: Global,
     words: &[String],
@@ -63,7 +63,7 @@ pub fn run<F: Files, S: Sink, E: Sink>(
     ensures answer { IsTrue (F.tells files.old) → IsDecided result
         → Leaves (texts_of words.now) (F.held files.old) result
         (S.told out.old) (S.told out.new) (E.told err.old) (E.told err.new) }
-    // it is left wherever no fault is counted, but for want of memory
+    // it is left wherever no fault is counted, but when out of memory
     ensures complete { IsTrue (F.tells files.old)
         → (Rose (F.read_faults files.old) (F.read_faults files.new) → ⊥)
         → (Rose (S.faults out.old) (S.faults out.new) → ⊥)
@@ -85,7 +85,7 @@ pub fn run<F: Files, S: Sink, E: Sink>(
     ensures write_fault { result ≡ Status.WriteFault
         → Rose (S.faults out.old) (S.faults out.new) ⊎ Rose (E.faults err.old) (E.faults err.new) }
     // what is printed and said, whatever the status
-    ensures refused { IsRefused result → out.new ≡ out.old }
+    ensures refused { IsRefusal result → out.new ≡ out.old }
     ensures output { IsTrue (F.tells files.old)
         → PrintsPrefix (IsAnswer (texts_of words.now) (F.held files.old))
         (S.told out.old) (S.told out.new) }

@@ -50,7 +50,7 @@ pub fn put_source_fault(line: &mut Vec<u8>, fault: SourceFault) -> Result<(), Al
     put_rule(line, fault.rule)
 }
 
-/// The words `limit WORD N` for a number that a source goes past.
+/// The words `limit WORD N` for a limit that a source exceeds.
 pub fn limit_words(limit: SourceLimit) -> &'static str
     ensures { result.now ≡ limit_words limit }
 {

@@ -1,7 +1,7 @@
-use access_checks::Refusal;
 use marks::Side;
 use memory_scenes::{memory, range};
 use space_memory::{Cell, HoldError};
+use space_memory_access::Refusal;
 use std::test::Fail;
 
 #[test]

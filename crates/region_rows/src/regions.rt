@@ -1,7 +1,7 @@
-use access_checks::Refusal;
 use marks::Side;
 use memory_scenes::{memory, range};
 use space_memory::HoldError;
+use space_memory_access::Refusal;
 use std::test::Fail;
 
 #[test]
@@ -19,7 +19,7 @@ fn null_is_held_with_any_length_and_no_bytes_at_any_address(rt: HostRuntime) -> 
 }
 
 #[test]
-fn a_call_reads_what_it_writes_but_holds_no_byte_behind_a_pending_one(
+fn a_call_reads_what_it_writes_but_holds_no_byte_after_a_pending_one(
     rt: HostRuntime,
 ) -> Result<(), Fail> {
     let alloc = rt.alloc();
@@ -73,7 +73,7 @@ fn a_region_is_tested_for_its_side_its_life_and_then_what_is_pending(
     let mut memory = memory(alloc)?;
     let foreign = HoldError::Refused(Refusal::OtherSpace { addr: 0x50000000 });
     let dead = HoldError::Refused(Refusal::NotLive { addr: 0x2fffffff });
-    let behind = HoldError::Refused(Refusal::NotLive { addr: 0x30000010 });
+    let after = HoldError::Refused(Refusal::NotLive { addr: 0x30000010 });
     assert_eq!(rt; memory.alloc_in(Side::Replay, 16), Some(0x30000000));
     assert_eq!(rt; memory.hold(alloc, 0, range(0x30000000, 16), true), Ok(()));
     assert_eq!(rt;
@@ -82,7 +82,7 @@ fn a_region_is_tested_for_its_side_its_life_and_then_what_is_pending(
     );
     assert_eq!(rt;
         memory.hold(alloc, 0, range(0x30000008, 16), false),
-        Err(behind)
+        Err(after)
     );
     assert_eq!(rt;
         memory.hold(alloc, 0, range(0x30000008, 0x20000000), true),

@@ -13,7 +13,7 @@ use Rattle.replay_runs.specs.Rules.{replay_rules}
 use Rattle.replay_runs.specs.Records.{record_of, printed_by}
 use Rattle.replay_runs.specs.Laws.{IsReplayRun, Rearranged, OfProgram, WhollyOfProgram, NoneLeft}
 use Rattle.replay_runs.proofs.Swap.{Swapped}
-use Rattle.replay_runs.proofs.Facts.{race_front}
+use Rattle.replay_runs.proofs.Facts.{race_prefix}
 use Rattle.replay_runs.proofs.Race.{race_free_more, race_free_test}
 use Rattle.replay_runs.proofs.Same.{same_runs}
 use Rattle.replay_runs.proofs.Determined.{replay_determined}
@@ -39,4 +39,4 @@ who_is_left program s h w of t above =
     ap is_stopped (sym (same.parts t)) ∙ w.none_left t (ap (λ ms. is_above (program.want t ms)) (same.parts t) ∙ above)
 
 pub race_step : (r : Rules) (s : Start) (past : List Mark) (m : Mark) → Run r s (m ∷ past) → RaceFree (m ∷ past) ↔ (RaceFree past × NoRace past m)
-race_step r s past m h = (λ f. (race_front r s (m ∷ []) past h f, race_free_test r s past m h f), λ w. race_free_more r s past m h w.0 w.1)
+race_step r s past m h = (λ f. (race_prefix r s (m ∷ []) past h f, race_free_test r s past m h f), λ w. race_free_more r s past m h w.0 w.1)

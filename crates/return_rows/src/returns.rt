@@ -1,6 +1,6 @@
-use access_checks::Refusal;
 use marks::Side;
 use memory_scenes::{hand_down, memory, prepare, range, refusal};
+use space_memory_access::Refusal;
 use std::test::Fail;
 
 #[test]

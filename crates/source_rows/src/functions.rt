@@ -6,7 +6,7 @@ use std::test::Fail;
 
 #[test]
 fn keys_are_parameters(rt: HostRuntime) -> Result<(), Fail> {
-    let rows = [
+    let cases = [
         "[sync(@n)] int f(int a);",
         "[sync(@4)] int f(int a);",
         "[commit(@k, 4)] int f(int a);",
@@ -14,13 +14,13 @@ fn keys_are_parameters(rt: HostRuntime) -> Result<(), Fail> {
         "[sync(@a)] int f(int (*g)(int a));",
         "[sync(a), commit(k, 4)] int f(int a, void *k); int g([prepare(k), cap(4)] char *p, char k);",
     ];
-    assert_eq!(rt; first_other(rt.alloc(), 7, rows.as_slice())?, None);
+    assert_eq!(rt; first_other(rt.alloc(), 7, cases.as_slice())?, None);
     Ok(())
 }
 
 #[test]
 fn mutexes_are_ints_that_functions_with_bodies_hold(rt: HostRuntime) -> Result<(), Fail> {
-    let rows = [
+    let cases = [
         "[guarded_by(@2147483648)] int g;",
         "[guarded_by(@x)] int g;",
         "[holds(@4 * 2)] int f(void) { return 0; }",
@@ -28,19 +28,19 @@ fn mutexes_are_ints_that_functions_with_bodies_hold(rt: HostRuntime) -> Result<(
         "[cut(c), holds(1)] int @f(void) { return 0; }",
         "[guarded_by(2147483647)] int g; [holds(0), holds(1)] int f(void) { return 0; }",
     ];
-    assert_eq!(rt; first_other(rt.alloc(), 8, rows.as_slice())?, None);
+    assert_eq!(rt; first_other(rt.alloc(), 8, cases.as_slice())?, None);
     Ok(())
 }
 
 #[test]
 fn main_is_in_no_cut(rt: HostRuntime) -> Result<(), Fail> {
-    let rows = [
+    let cases = [
         "[@cut(c)] int main(void);",
         "[@holds(1)] int main(void);",
         "[cache, @cut(d)] int main(void);",
         "[cache] int main(void);",
     ];
-    assert_eq!(rt; first_other(rt.alloc(), 9, rows.as_slice())?, None);
+    assert_eq!(rt; first_other(rt.alloc(), 9, cases.as_slice())?, None);
     Ok(())
 }
 

@@ -3,8 +3,8 @@
 use front_end::{SourceError, SourceFault, SourceRule, check_source};
 use std::alloc::{AllocError, Global};
 
-/// What stands behind each source: a function that names the cut, and `main`.
-const BEHIND: &str = " [cut(c)] int x(void); int main(void) { return 0; }";
+/// What stands after each source: a function that names the cut, and `main`.
+const AFTER: &str = " [cut(c)] int x(void); int main(void) { return 0; }";
 
 /// What is wrong with a source as it stands, and the cut `c`; `None` where it is accepted.
 pub fn fault_of(alloc: Global, source: &[u8]) -> Option<SourceError> {
@@ -14,7 +14,7 @@ pub fn fault_of(alloc: Global, source: &[u8]) -> Option<SourceError> {
     check_source(alloc, source, b"c").err()
 }
 
-/// What is wrong with a source without its mark, and with what stands behind.
+/// What is wrong with a source without its mark, and with what stands after.
 fn fault_of_marked(alloc: Global, marked: &str) -> Result<Option<SourceError>, AllocError> {
     let mut source = Vec::new(alloc);
     for byte in marked.as_bytes() {
@@ -22,7 +22,7 @@ fn fault_of_marked(alloc: Global, marked: &str) -> Result<Option<SourceError>, A
             source.push(*byte)?;
         }
     }
-    source.extend_from_slice(BEHIND.as_bytes())?;
+    source.extend_from_slice(AFTER.as_bytes())?;
     Ok(fault_of(alloc, source.as_slice()))
 }
 
@@ -40,9 +40,9 @@ fn broken(marked: &str, rule: u8) -> Option<SourceError> {
 }
 
 /// The first of the sources that doesn't break this rule of annotations where its mark stands, or that is wrong though it has no mark.
-pub fn first_other(alloc: Global, rule: u8, rows: &[&str]) -> Result<Option<usize>, AllocError> {
+pub fn first_other(alloc: Global, rule: u8, cases: &[&str]) -> Result<Option<usize>, AllocError> {
     let mut place: usize = 0;
-    for marked in rows {
+    for marked in cases {
         if fault_of_marked(alloc, marked)? != broken(marked, rule) {
             return Ok(Some(place));
         }

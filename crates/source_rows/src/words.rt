@@ -5,7 +5,7 @@ use std::test::Fail;
 
 #[test]
 fn words_stand_in_their_places_with_their_items(rt: HostRuntime) -> Result<(), Fail> {
-    let rows = [
+    let cases = [
         "[@keep] int f(int a);",
         "[@cut] int f(void);",
         "[@cut(c, 4)] int f(void);",
@@ -19,13 +19,13 @@ fn words_stand_in_their_places_with_their_items(rt: HostRuntime) -> Result<(), F
         "int f(void) { int (*g)([@in] char *p); return 0; }",
         "[cut(c, d), sync(a), cache] int f(int a);",
     ];
-    assert_eq!(rt; first_other(rt.alloc(), 1, rows.as_slice())?, None);
+    assert_eq!(rt; first_other(rt.alloc(), 1, cases.as_slice())?, None);
     Ok(())
 }
 
 #[test]
 fn words_stand_on_first_declarations_once(rt: HostRuntime) -> Result<(), Fail> {
-    let rows = [
+    let cases = [
         "int f(void); [@cut(c)] int f(void);",
         "int f(char *p); int f([@in] char *p);",
         "[cache, @cache] int f(void);",
@@ -35,6 +35,6 @@ fn words_stand_on_first_declarations_once(rt: HostRuntime) -> Result<(), Fail> {
         "[holds(1), @holds(1)] int f(void) { return 0; }",
         "[sync(a), sync(b)] int f(int a, int b); int f(int, int); [guarded_by(1)] int g;",
     ];
-    assert_eq!(rt; first_other(rt.alloc(), 2, rows.as_slice())?, None);
+    assert_eq!(rt; first_other(rt.alloc(), 2, cases.as_slice())?, None);
     Ok(())
 }

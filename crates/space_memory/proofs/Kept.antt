@@ -5,17 +5,17 @@ use Rattle.std.proofs.lemmas.List.FromFn.{length-map-range_with_len, length-rang
 use Rattle.std.proofs.lemmas.List.Elements.{All-set, All-map, All-filter, All-weaker}
 use Rattle.marks.specs.declared.side.Side.{Side}
 use Rattle.marks.specs.declared.side.Side.TheVariants.{Replay, System}
-use Rattle.places.specs.declared.range.Range.{Range}
-use Rattle.places.specs.declared.areas.TheConstants.{THREADS, STACK_SIZE, POOL_SIZE}
-use Rattle.live_bytes.specs.Areas.{LiesIn}
-use Rattle.call_stacks.specs.Frames.{StackState, stack_of}
+use Rattle.memory_map.specs.declared.range.Range.{Range}
+use Rattle.memory_map.specs.declared.areas.TheConstants.{THREADS, STACK_SIZE, POOL_SIZE}
+use Rattle.space_memory_bytes.specs.Areas.{LiesIn}
+use Rattle.space_memory.specs.StackFrames.{StackState, stack_of}
 use Rattle.pool_list.specs.declared.block.Block.{Block}
-use Rattle.held_regions.specs.declared.holder.OpenCall.{OpenCall}
-use Rattle.held_regions.specs.declared.holder.Region.{Region}
-use Rattle.held_regions.specs.declared.holder.Holder.{Holder}
-use Rattle.held_regions.specs.declared.holder.Holder.TheVariants.{In, Out, Key}
-use Rattle.held_regions.specs.Holders.{is_pending, is_same_call, outlives, disowned}
-use Rattle.held_regions.specs.Held.{without_call, without_closed, disown}
+use Rattle.space_memory_access.specs.declared.holder.OpenCall.{OpenCall}
+use Rattle.space_memory_access.specs.declared.holder.Region.{Region}
+use Rattle.space_memory_access.specs.declared.holder.Holder.{Holder}
+use Rattle.space_memory_access.specs.declared.holder.Holder.TheVariants.{In, Out, Key}
+use Rattle.space_memory_access.specs.Holders.{is_pending, is_same_call, outlives, disowned}
+use Rattle.space_memory_access.specs.Held.{without_call, without_closed, disown}
 use Rattle.space_memory.specs.declared.sides.Sides.{Sides}
 use Rattle.space_memory.specs.Sides.{SideState, with_thread, with_blocks, fresh_stack, fresh_side, stack_range}
 use Rattle.space_memory.specs.Spaces.{side_of, with_side, IsHousedStack, IsHoused, IsWhole, IsKept}

@@ -4,3 +4,4 @@ mod Kept
 mod Placing
 mod Refused
 mod Returned
+mod Ends

@@ -1,15 +1,15 @@
 -- Objects lie in the areas, and the fresh sides too.
 use Rattle.std.proofs.Common.{◌≡◌, ℕ, ◌+◌, ◌-◌, ◌*◌, ◌<◌, ◌≤◌, List, [], length, All, get_or, refl, inl, inr, subst, sym, arith}
-use Rattle.places.specs.declared.range.Range.{Range}
-use Rattle.places.specs.declared.placed.Place.{Place}
-use Rattle.places.specs.declared.areas.TheConstants.{THREADS, CONSTANTS, GLOBALS_SIZE, STACK_SIZE, POOL_SIZE, REPLAY_GLOBALS, REPLAY_STACKS, REPLAY_POOL, SYSTEM_GLOBALS, SYSTEM_STACKS, SYSTEM_POOL}
-use Rattle.live_bytes.specs.Areas.{LiesIn}
+use Rattle.memory_map.specs.declared.range.Range.{Range}
+use Rattle.memory_map.specs.declared.placed.Place.{Place}
+use Rattle.memory_map.specs.declared.areas.TheConstants.{THREADS, CONSTANTS, GLOBALS_SIZE, STACK_SIZE, POOL_SIZE, REPLAY_GLOBALS, REPLAY_STACKS, REPLAY_POOL, SYSTEM_GLOBALS, SYSTEM_STACKS, SYSTEM_POOL}
+use Rattle.space_memory_bytes.specs.Areas.{LiesIn}
 use Rattle.space_memory.specs.Sides.{fresh_side}
 use Rattle.space_memory.specs.Spaces.{IsKept}
 use Rattle.space_memory.specs.Objects.{object_range, IsInArea, areas_to}
 use Rattle.space_memory.proofs.Kept.{housed_fresh}
 
--- an object lies in an area, where the constants end behind it
+-- an object lies in an area, where the constants end after it
 pub object_lies : (end : ℕ) (o : Place) → CONSTANTS.addr ≤ end → (o.addr < REPLAY_GLOBALS → o.addr + length o.init ≤ end) → IsInArea o → LiesIn (object_range o) (areas_to end)
 object_lies end o from to (inl in') =
     let last = to (omega (arith, in'.1)) in

@@ -1,20 +1,20 @@
 -- Ranges that lie in one another, and the addresses that they cover.
 use Rattle.std.proofs.Common.{◌≡◌, ℕ, ◌+◌, ◌<◌, ◌≤◌, ◌⊎◌, true, false, leb, ltb, List, [], ◌∷◌, IfSome, inl, inr, arith}
 use Rattle.std.proofs.lemmas.Bool.{cases_lt, lt-ltb, le-ltb, le-leb, lt-leb, and_from, and_left, and_right, cases_eq, eq-eqb, ne_eqb}
-use Rattle.places.specs.declared.range.Range.{Range}
-use Rattle.places.specs.Ranges.{covers}
-use Rattle.live_bytes.specs.Areas.{LiesIn}
+use Rattle.memory_map.specs.declared.range.Range.{Range}
+use Rattle.memory_map.specs.Ranges.{covers}
+use Rattle.space_memory_bytes.specs.Areas.{LiesIn}
 use Rattle.pool_list.specs.declared.block.Block.{Block}
 use Rattle.pool_list.specs.Blocks.{LieBetween, end_of, length_at}
 use Rattle.space_memory.specs.Sides.{IsWithin}
 
--- an address is covered by a range, or lies before or behind it
+-- an address is covered by a range, or lies before or after it
 pub cover_cases : (r : Range) (x : ℕ) → record { is : covers r x ≡ true; from : r.addr ≤ x; below : x < r.addr + r.len } ⊎ record { is : covers r x ≡ false; out : (x < r.addr) ⊎ (r.addr + r.len ≤ x) }
 cover_cases r x = elim (cases_lt x r.addr) [
   | inl before ↦ inr (record { is = and_left (leb r.addr x) (ltb x (r.addr + r.len)) (lt-leb r.addr x before); out = inl before })
   | inr from ↦ elim (cases_lt x (r.addr + r.len)) [
     | inl below ↦ inl (record { is = and_from (leb r.addr x) (ltb x (r.addr + r.len)) (le-leb r.addr x from) (lt-ltb x (r.addr + r.len) below); from = from; below = below })
-    | inr behind ↦ inr (record { is = and_right (leb r.addr x) (ltb x (r.addr + r.len)) (le-ltb x (r.addr + r.len) behind); out = inr behind })
+    | inr after ↦ inr (record { is = and_right (leb r.addr x) (ltb x (r.addr + r.len)) (le-ltb x (r.addr + r.len) after); out = inr after })
   ]
 ]
 

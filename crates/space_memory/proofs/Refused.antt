@@ -1,6 +1,6 @@
 -- A call is refused for one cause, whatever it answers where it isn't.
 use Rattle.std.proofs.Common.{◌≡◌, ◌↔◌, true, false, Result, Ok, Err, ap, subst, refl}
-use Rattle.access_checks.specs.declared.refusal.Refusal.{Refusal}
+use Rattle.space_memory_access.specs.declared.refusal.Refusal.{Refusal}
 
 err_same : (A : Type 0) (q r : Refusal) → ◌≡◌ {A = Result A Refusal} (Err q) (Err r) → q ≡ r
 err_same A q r same = cc

@@ -5,15 +5,15 @@ use Rattle.std.proofs.Math.Seq.{drop-cons}
 use Rattle.std.proofs.lemmas.Bool.{cond-true, cond-false, cases_Bool}
 use Rattle.std.proofs.lemmas.List.{append-nil}
 use Rattle.std.proofs.lemmas.List.Elements.{All-head, All-tail}
-use Rattle.live_bytes.specs.Areas.{AreaState}
-use Rattle.held_regions.specs.declared.holder.OpenCall.{OpenCall}
-use Rattle.held_regions.specs.declared.holder.Region.{Region}
-use Rattle.held_regions.specs.declared.holder.Holder.{Holder}
-use Rattle.held_regions.specs.declared.holder.Holder.TheVariants.{In, Out, Key}
-use Rattle.held_regions.specs.Holders.{is_out_of, is_pending, has_key}
-use Rattle.held_regions.specs.Held.{prepared_region}
-use Rattle.access_checks.specs.declared.refusal.Refusal.{Refusal}
-use Rattle.access_checks.specs.declared.refusal.Refusal.TheVariants.{NotLive, Pending, OtherSpace, ReadOnly, StackFull, KeyInUse, NoKey, Size}
+use Rattle.space_memory_bytes.specs.Areas.{AreaState}
+use Rattle.space_memory_access.specs.declared.holder.OpenCall.{OpenCall}
+use Rattle.space_memory_access.specs.declared.holder.Region.{Region}
+use Rattle.space_memory_access.specs.declared.holder.Holder.{Holder}
+use Rattle.space_memory_access.specs.declared.holder.Holder.TheVariants.{In, Out, Key}
+use Rattle.space_memory_access.specs.Holders.{is_out_of, is_pending, has_key}
+use Rattle.space_memory_access.specs.Held.{prepared_region}
+use Rattle.space_memory_access.specs.declared.refusal.Refusal.{Refusal}
+use Rattle.space_memory_access.specs.declared.refusal.Refusal.TheVariants.{NotLive, Pending, OtherSpace, ReadOnly, StackFull, KeyInUse, NoKey, Size}
 use Rattle.space_memory.specs.Spaces.{IsWhole}
 use Rattle.space_memory.specs.Releases.{outs_of, IsFilled, AllFilled, FirstUnfilled, committed, LacksKey, HasKey, AllReturned, IsReleaseRefused}
 
@@ -58,7 +58,7 @@ first_append bytes (r ∷ rs) more [] sizes x first = absurd first
 first_append bytes (r ∷ rs) more (n ∷ ns) sizes x (inl here) = inl here
 first_append bytes (r ∷ rs) more (n ∷ ns) sizes x (inr later) = inr (later.0, first_append bytes rs more ns sizes x later.1)
 
--- behind filled ones the next is the first
+-- after filled ones the next is the first
 first_last : (bytes : List AreaState) (rs : List Region) (used : List ℕ) (r : Region) (n : ℕ) → length used ≡ length rs → AllFilled bytes rs used → (IsFilled bytes n r → ⊥) → FirstUnfilled bytes (rs ++ r ∷ []) (used ++ n ∷ []) r.range.addr
 first_last bytes [] [] r n len all none = inl (none, refl)
 first_last bytes [] (m ∷ used) r n len all none = absurd (omega arith)

@@ -2,15 +2,15 @@
 use Rattle.std.specs.Prelude.{◌≡◌, ℕ, true, false, List, Some, None}
 use Rattle.marks.specs.declared.side.Side.{Side}
 use Rattle.marks.specs.declared.side.Side.TheVariants.{Replay, System}
-use Rattle.places.specs.declared.range.Range.{Range}
-use Rattle.places.specs.declared.areas.TheConstants.{REPLAY_MEMORY, SYSTEM_MEMORY}
-use Rattle.places.specs.Ranges.{covers, IsLeastIn}
+use Rattle.memory_map.specs.declared.range.Range.{Range}
+use Rattle.memory_map.specs.declared.areas.TheConstants.{REPLAY_MEMORY, SYSTEM_MEMORY}
+use Rattle.memory_map.specs.Ranges.{covers, IsLeastIn}
 use Rattle.pool_list.specs.declared.block.Block.{Block}
 use Rattle.pool_list.specs.Blocks.{length_at}
-use Rattle.held_regions.specs.declared.holder.Region.{Region}
-use Rattle.access_checks.specs.declared.refusal.Refusal.{Refusal}
-use Rattle.access_checks.specs.declared.refusal.Refusal.TheVariants.{NotLive, Pending, OtherSpace, ReadOnly, StackFull, KeyInUse, NoKey, Size}
-use Rattle.access_checks.specs.Accesses.{IsPendingTo}
+use Rattle.space_memory_access.specs.declared.holder.Region.{Region}
+use Rattle.space_memory_access.specs.declared.refusal.Refusal.{Refusal}
+use Rattle.space_memory_access.specs.declared.refusal.Refusal.TheVariants.{NotLive, Pending, OtherSpace, ReadOnly, StackFull, KeyInUse, NoKey, Size}
+use Rattle.space_memory_access.specs.Accesses.{IsPendingTo}
 
 -- the memory of the other side, in which code may free nothing, whatever it may read or write there
 abbrev pub other_memory : Side → Range

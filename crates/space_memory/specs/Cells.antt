@@ -1,10 +1,10 @@
 -- What a byte of memory shows.
 use Rattle.std.specs.Prelude.{ℕ, Bool, true, false, ◌&&◌, List, Option, Some, None}
 use Rattle.std.specs.List.{list_any}
-use Rattle.places.specs.Ranges.{covers}
-use Rattle.live_bytes.specs.Areas.{byte_at}
-use Rattle.held_regions.specs.declared.holder.Region.{Region}
-use Rattle.held_regions.specs.Holders.{is_pending}
+use Rattle.memory_map.specs.Ranges.{covers}
+use Rattle.space_memory_bytes.specs.Areas.{byte_at}
+use Rattle.space_memory_access.specs.declared.holder.Region.{Region}
+use Rattle.space_memory_access.specs.Holders.{is_pending}
 use Rattle.space_memory.specs.declared.cell.Cell.{Cell}
 use Rattle.space_memory.specs.declared.cell.Cell.TheVariants.{Dead, Pending, Byte}
 use Rattle.space_memory.specs.Spaces.{SpaceState}

@@ -1,14 +1,14 @@
 -- Entering and leaving frames, and setting the arguments of a frame.
 use Rattle.std.specs.Prelude.{◌≡◌, ℕ, ◌+◌, ◌-◌, List, ◌∷◌, Option, Some, if◌then◌else◌}
 use Rattle.marks.specs.declared.side.Side.{Side}
-use Rattle.places.specs.declared.range.Range.{Range}
-use Rattle.places.specs.Ranges.{covers, IsLeastIn}
-use Rattle.live_bytes.specs.Numbers.{digit}
-use Rattle.call_stacks.specs.Frames.{StackState, end_of, IsFullFor}
-use Rattle.held_regions.specs.declared.holder.Region.{Region}
-use Rattle.access_checks.specs.declared.refusal.Refusal.{Refusal}
-use Rattle.access_checks.specs.declared.refusal.Refusal.TheVariants.{NotLive, Pending, OtherSpace, ReadOnly, StackFull, KeyInUse, NoKey, Size}
-use Rattle.access_checks.specs.Accesses.{IsPendingTo}
+use Rattle.memory_map.specs.declared.range.Range.{Range}
+use Rattle.memory_map.specs.Ranges.{covers, IsLeastIn}
+use Rattle.space_memory_bytes.specs.Numbers.{digit}
+use Rattle.space_memory.specs.StackFrames.{StackState, end_of, IsFullFor}
+use Rattle.space_memory_access.specs.declared.holder.Region.{Region}
+use Rattle.space_memory_access.specs.declared.refusal.Refusal.{Refusal}
+use Rattle.space_memory_access.specs.declared.refusal.Refusal.TheVariants.{NotLive, Pending, OtherSpace, ReadOnly, StackFull, KeyInUse, NoKey, Size}
+use Rattle.space_memory_access.specs.Accesses.{IsPendingTo}
 
 -- a frame of the size doesn't fit on the stack: the place where it would lie is shown
 abbrev pub IsEnterRefused : StackState → ℕ → Refusal → Type 0

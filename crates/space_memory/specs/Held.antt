@@ -1,19 +1,19 @@
 -- What is held: the region of a range, and why a region isn't held.
 use Rattle.std.specs.Prelude.{◌≡◌, ◌≢◌, ◌⊎◌, ℕ, ◌==◌, Bool, true, false, if◌then◌else◌, List, [], ◌∷◌, ◌++◌, length, None}
 use Rattle.marks.specs.declared.side.Side.TheVariants.{Replay}
-use Rattle.places.specs.declared.range.Range.{Range}
-use Rattle.live_bytes.specs.Areas.{AreaState}
-use Rattle.live_bytes.specs.Numbers.{HasBytes}
-use Rattle.held_regions.specs.declared.holder.OpenCall.{OpenCall}
-use Rattle.held_regions.specs.declared.holder.Region.{Region}
-use Rattle.held_regions.specs.declared.holder.Holder.{Holder}
-use Rattle.held_regions.specs.declared.holder.Holder.TheVariants.{In, Out}
-use Rattle.held_regions.specs.Held.{HeldState, prepared_region}
-use Rattle.held_regions.specs.Holders.{is_pending}
-use Rattle.access_checks.specs.declared.access.Access.{Access}
-use Rattle.access_checks.specs.declared.refusal.Refusal.{Refusal}
-use Rattle.access_checks.specs.declared.refusal.Refusal.TheVariants.{KeyInUse}
-use Rattle.access_checks.specs.Accesses.{IsAllowed, IsRefused}
+use Rattle.memory_map.specs.declared.range.Range.{Range}
+use Rattle.space_memory_bytes.specs.Areas.{AreaState}
+use Rattle.space_memory_bytes.specs.Numbers.{HasBytes}
+use Rattle.space_memory_access.specs.declared.holder.OpenCall.{OpenCall}
+use Rattle.space_memory_access.specs.declared.holder.Region.{Region}
+use Rattle.space_memory_access.specs.declared.holder.Holder.{Holder}
+use Rattle.space_memory_access.specs.declared.holder.Holder.TheVariants.{In, Out}
+use Rattle.space_memory_access.specs.Held.{HeldState, prepared_region}
+use Rattle.space_memory_access.specs.Holders.{is_pending}
+use Rattle.space_memory_access.specs.declared.access.Access.{Access}
+use Rattle.space_memory_access.specs.declared.refusal.Refusal.{Refusal}
+use Rattle.space_memory_access.specs.declared.refusal.Refusal.TheVariants.{KeyInUse}
+use Rattle.space_memory_access.specs.Accesses.{IsAllowed, IsRefused}
 
 -- the region of a range: that of a NULL pointer is empty, whatever its capacity
 abbrev pub region_range : Range → Range

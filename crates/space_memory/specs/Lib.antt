@@ -6,3 +6,4 @@ pub mod Held
 pub mod Releases
 pub mod Blocks
 pub mod Cells
+pub mod StackFrames

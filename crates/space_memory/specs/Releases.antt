@@ -1,14 +1,14 @@
 -- Giving back the regions of a call: how much of each is used, and why that is refused.
 use Rattle.std.specs.Prelude.{◌≡◌, ◌⊎◌, ℕ, ◌+◌, ◌≤◌, ◌==◌, if◌then◌else◌, List, [], ◌∷◌, ◌++◌, filter, drop, Option, Some, None, option_map}
 use Rattle.std.specs.Option.{option_to_list}
-use Rattle.live_bytes.specs.Areas.{AreaState}
-use Rattle.live_bytes.specs.Numbers.{HasBytes}
-use Rattle.held_regions.specs.declared.holder.OpenCall.{OpenCall}
-use Rattle.held_regions.specs.declared.holder.Region.{Region}
-use Rattle.held_regions.specs.Held.{prepared_region}
-use Rattle.held_regions.specs.Holders.{is_out_of}
-use Rattle.access_checks.specs.declared.refusal.Refusal.{Refusal}
-use Rattle.access_checks.specs.declared.refusal.Refusal.TheVariants.{NotLive, Pending, OtherSpace, ReadOnly, StackFull, KeyInUse, NoKey, Size}
+use Rattle.space_memory_bytes.specs.Areas.{AreaState}
+use Rattle.space_memory_bytes.specs.Numbers.{HasBytes}
+use Rattle.space_memory_access.specs.declared.holder.OpenCall.{OpenCall}
+use Rattle.space_memory_access.specs.declared.holder.Region.{Region}
+use Rattle.space_memory_access.specs.Held.{prepared_region}
+use Rattle.space_memory_access.specs.Holders.{is_out_of}
+use Rattle.space_memory_access.specs.declared.refusal.Refusal.{Refusal}
+use Rattle.space_memory_access.specs.declared.refusal.Refusal.TheVariants.{NotLive, Pending, OtherSpace, ReadOnly, StackFull, KeyInUse, NoKey, Size}
 
 -- the regions that the call holds to write, the oldest first
 abbrev pub outs_of : OpenCall → List Region → List Region

@@ -1,9 +1,9 @@
 -- One side of memory: the stacks of its threads, and its pool.
 use Rattle.std.specs.Prelude.{ℕ, ◌+◌, ◌*◌, ◌-◌, ◌≤◌, List, [], map, length, slice_get, Option}
 use Rattle.std.specs.List.{range_with_len}
-use Rattle.places.specs.declared.range.Range.{Range}
-use Rattle.places.specs.declared.areas.TheConstants.{THREADS, STACK_SIZE, POOL_SIZE}
-use Rattle.call_stacks.specs.Frames.{StackState, stack_of, with_frames}
+use Rattle.memory_map.specs.declared.range.Range.{Range}
+use Rattle.memory_map.specs.declared.areas.TheConstants.{THREADS, STACK_SIZE, POOL_SIZE}
+use Rattle.space_memory.specs.StackFrames.{StackState, stack_of, with_frames}
 use Rattle.pool_list.specs.declared.block.Block.{Block}
 use Rattle.pool_list.specs.Blocks.{PoolState}
 

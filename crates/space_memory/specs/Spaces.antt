@@ -2,13 +2,13 @@
 use Rattle.std.specs.Prelude.{◌≡◌, ◌+◌, ◌^◌, ◌<◌, true, List, length, All}
 use Rattle.marks.specs.declared.side.Side.{Side}
 use Rattle.marks.specs.declared.side.Side.TheVariants.{Replay, System}
-use Rattle.places.specs.declared.range.Range.{Range}
-use Rattle.places.specs.declared.areas.TheConstants.{THREADS, STACK_SIZE}
-use Rattle.call_stacks.specs.Frames.{StackState}
-use Rattle.live_bytes.specs.Areas.{AreaState, LiesIn}
-use Rattle.held_regions.specs.declared.holder.Region.{Region}
-use Rattle.held_regions.specs.Held.{HeldState}
-use Rattle.held_regions.specs.Holders.{is_pending}
+use Rattle.memory_map.specs.declared.range.Range.{Range}
+use Rattle.memory_map.specs.declared.areas.TheConstants.{THREADS, STACK_SIZE}
+use Rattle.space_memory.specs.StackFrames.{StackState}
+use Rattle.space_memory_bytes.specs.Areas.{AreaState, LiesIn}
+use Rattle.space_memory_access.specs.declared.holder.Region.{Region}
+use Rattle.space_memory_access.specs.Held.{HeldState}
+use Rattle.space_memory_access.specs.Holders.{is_pending}
 use Rattle.space_memory.specs.declared.sides.Sides.{Sides}
 use Rattle.space_memory.specs.Sides.{SideState, stack_range, pool_range}
 

@@ -2,7 +2,7 @@
 ghost use Rattle.std.specs.Prelude.{◌≡◌};
 ghost use Rattle.space_memory.specs.declared.error.HoldError.TheVariants.{Memory, Refused};
 
-use access_checks::Refusal;
+use space_memory_access::Refusal;
 use std::alloc::{AllocError, AllocFailed};
 use thiserror::Error;
 

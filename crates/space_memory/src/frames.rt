@@ -1,10 +1,10 @@
 // The arguments of a frame.
 ghost use Rattle.std.specs.Prelude.{◌≡◌, ℕ, ◌+◌, ◌^◌, ◌<◌, ◌≤◌, length, slice_index};
-ghost use Rattle.live_bytes.specs.Areas.{byte_at, extents, LiesIn};
+ghost use Rattle.space_memory_bytes.specs.Areas.{byte_at, extents, LiesIn};
 ghost use Rattle.space_memory.specs.Frames.{with_args};
 
-use live_bytes::LiveBytes;
-use places::Range;
+use memory_map::Range;
+use space_memory_bytes::LiveBytes;
 
 /// Writes the arguments into the frame, each at its offset and in its width, low byte first.
 pub fn write_args(bytes: &mut LiveBytes, frame: Range, offsets: &[u64], widths: &[u8], args: &[u64])

@@ -10,9 +10,10 @@ mod release;
 mod side_space;
 mod sides;
 mod spaces;
+mod stack;
 
 pub use cell::Cell;
 pub use error::HoldError;
 pub use sides::Sides;
 pub use spaces::Spaces;
-
+pub use stack::Stack;

@@ -1,14 +1,14 @@
 // The objects that are placed before a run, and the areas that hold them.
 ghost use Rattle.std.specs.Prelude.{◌≡◌, ℕ, ◌+◌, ◌<◌, ◌≤◌, All, length};
-ghost use Rattle.places.specs.declared.areas.TheConstants.{CONSTANTS, REPLAY_GLOBALS};
-ghost use Rattle.live_bytes.specs.Areas.{byte_at, extents, LiesIn};
+ghost use Rattle.memory_map.specs.declared.areas.TheConstants.{CONSTANTS, REPLAY_GLOBALS};
+ghost use Rattle.space_memory_bytes.specs.Areas.{byte_at, extents, LiesIn};
 ghost use Rattle.space_memory.specs.Objects.{IsInArea, object_range, byte_of, areas_to};
 
-use live_bytes::LiveBytes;
-use places::{
+use memory_map::{
     CONSTANTS, GLOBALS_SIZE, POOL_SIZE, Place, REPLAY_GLOBALS, REPLAY_POOL, REPLAY_STACKS, Range,
     STACK_SIZE, SYSTEM_GLOBALS, SYSTEM_POOL, SYSTEM_STACKS, THREADS,
 };
+use space_memory_bytes::LiveBytes;
 
 /// The areas of memory, where the constants end at an address.
 pub fn areas(constants_end: u64) -> [Range; 7]
@@ -48,7 +48,7 @@ pub fn areas(constants_end: u64) -> [Range; 7]
     ]
 }
 
-/// Where the objects among the constants end: behind the last of them.
+/// Where the objects among the constants end: after the last of them.
 pub fn end_of_constants(objects: &[Place]) -> u64
     requires { All IsInArea objects.now }
     ensures from { CONSTANTS.addr ≤ result }
@@ -62,7 +62,7 @@ pub fn end_of_constants(objects: &[Place]) -> u64
     end
 }
 
-// The address behind an object, if it is among the constants; else where these begin.
+// The address after an object, if it is among the constants; else where these begin.
 fn end_among_constants(object: &Place) -> u64
     requires { IsInArea object.now }
     ensures to { result < REPLAY_GLOBALS }

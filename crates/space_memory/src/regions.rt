@@ -1,14 +1,14 @@
 // The region of a range, as a call holds it.
 ghost use Rattle.std.specs.Prelude.{◌≡◌, ◌+◌, ◌^◌, ◌<◌, true, IfOk, IfSome};
-ghost use Rattle.places.specs.Ranges.{IsFirstIn};
-ghost use Rattle.live_bytes.specs.Areas.{AllLive};
-ghost use Rattle.access_checks.specs.Accesses.{IsPendingTo};
+ghost use Rattle.memory_map.specs.Ranges.{IsFirstIn};
+ghost use Rattle.space_memory_bytes.specs.Areas.{AllLive};
+ghost use Rattle.space_memory_access.specs.Accesses.{IsPendingTo};
 ghost use Rattle.space_memory.specs.Held.{region_range, holder_of, IsRegionOf};
 
-use held_regions::{Holder, OpenCall, Region, Regions};
-use live_bytes::LiveBytes;
 use marks::Side;
-use places::{Bytes8, Range};
+use memory_map::{Bytes8, Range};
+use space_memory_access::{Holder, OpenCall, Region, Regions};
+use space_memory_bytes::LiveBytes;
 use std::alloc::{AllocError, Global};
 
 /// The region of a range: that of a NULL pointer is empty.

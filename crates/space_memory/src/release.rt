@@ -1,12 +1,11 @@
 // The tests of what a return gives back.
 ghost use Rattle.std.specs.Prelude.{◌≡◌, ◌<◌, ◌≤◌, ◌+◌, ◌^◌, ◌↔◌, All, IsTrue, IsOk, IfErr, MatchOption, Err, length};
-ghost use Rattle.access_checks.specs.declared.refusal.Refusal.{Refusal};
+ghost use Rattle.space_memory_access.specs.declared.refusal.Refusal.{Refusal};
 ghost use Rattle.space_memory.specs.Spaces.{IsWhole};
 ghost use Rattle.space_memory.specs.Releases.{outs_of, committed_key, IsFilled, AllFilled, FirstUnfilled, AllReturned, HasKey, IsReleaseRefused};
 
-use access_checks::Refusal;
-use held_regions::{OpenCall, Region, Regions};
-use live_bytes::LiveBytes;
+use space_memory_access::{OpenCall, Refusal, Region, Regions};
+use space_memory_bytes::LiveBytes;
 
 /// The key of what is committed.
 pub fn committed_key(commit: Option<(u64, u64)>) -> Option<u64>

@@ -1,13 +1,13 @@
 // One side of memory: the stacks of its threads, and its pool.
 ghost use Rattle.std.specs.Prelude.{◌≡◌, ◌+◌, ◌*◌, ◌%◌, ◌^◌, ◌<◌, ◌≤◌, ◌↔◌, ℕ, [], ◌∷◌, ◌++◌, length, IsNone, IsSome, IfSome, IfNone, IfOk};
-ghost use Rattle.places.specs.declared.areas.TheConstants.{THREADS, STACK_SIZE, POOL_SIZE};
-ghost use Rattle.call_stacks.specs.Frames.{stack_of, next_frame, end_of, IsFullFor};
+ghost use Rattle.memory_map.specs.declared.areas.TheConstants.{THREADS, STACK_SIZE, POOL_SIZE};
+ghost use Rattle.space_memory.specs.StackFrames.{stack_of, next_frame, end_of, IsFullFor};
 ghost use Rattle.pool_list.specs.Blocks.{length_at, with_block, without_block};
 ghost use Rattle.pool_list.specs.Places.{IsPlace, IsLeastPlace};
 ghost use Rattle.space_memory.specs.Sides.{SideState, frames_of, top_of, with_thread, with_blocks, fresh_side, stack_range, pool_range, IsWithin};
 
-use call_stacks::Stack;
-use places::{POOL_SIZE, Range, STACK_SIZE, THREADS};
+use crate::stack::Stack;
+use memory_map::{POOL_SIZE, Range, STACK_SIZE, THREADS};
 use pool_list::Pool;
 use std::alloc::{AllocError, Global};
 use std::marker::Model;
@@ -21,7 +21,7 @@ pub struct SideSpace {
 
 impl Model for SideSpace {
     ghost use Rattle.std.specs.Prelude.{◌≡◌, length};
-    ghost use Rattle.places.specs.declared.areas.TheConstants.{THREADS};
+    ghost use Rattle.memory_map.specs.declared.areas.TheConstants.{THREADS};
     ghost use Rattle.space_memory.specs.Sides.{SideState};
 
     ghost Value = { SideState };

@@ -1,7 +1,7 @@
 // The two sides of memory.
 ghost use Rattle.std.specs.Prelude.{◌≡◌, ◌<◌, ◌≤◌, ℕ, ◌↔◌, ◌∷◌, ◌++◌, [], length, IsNone, IsSome, IfSome, IfNone, IfOk};
-ghost use Rattle.places.specs.declared.areas.TheConstants.{THREADS, REPLAY_STACKS, REPLAY_POOL, SYSTEM_STACKS, SYSTEM_POOL};
-ghost use Rattle.call_stacks.specs.Frames.{stack_of, next_frame, IsFullFor};
+ghost use Rattle.memory_map.specs.declared.areas.TheConstants.{THREADS, REPLAY_STACKS, REPLAY_POOL, SYSTEM_STACKS, SYSTEM_POOL};
+ghost use Rattle.space_memory.specs.StackFrames.{stack_of, next_frame, IsFullFor};
 ghost use Rattle.pool_list.specs.Blocks.{length_at, with_block, without_block};
 ghost use Rattle.pool_list.specs.Places.{IsPlace, IsLeastPlace};
 ghost use Rattle.space_memory.specs.Sides.{frames_of, with_thread, with_blocks, fresh_side, stack_range, IsWithin};
@@ -9,7 +9,7 @@ ghost use Rattle.space_memory.specs.Spaces.{side_of, with_side};
 
 use crate::side_space::SideSpace;
 use marks::Side;
-use places::{REPLAY_POOL, REPLAY_STACKS, Range, SYSTEM_POOL, SYSTEM_STACKS};
+use memory_map::{REPLAY_POOL, REPLAY_STACKS, Range, SYSTEM_POOL, SYSTEM_STACKS};
 use std::alloc::{AllocError, Global};
 
 /// Memory above the cut and below it. Contracts see each side as its stacks by thread and its pool.

@@ -2,17 +2,17 @@
 ghost use Rattle.std.specs.Prelude.{◌≡◌, ◌⊎◌, ℕ, ◌+◌, ◌-◌, ◌*◌, ◌%◌, ◌^◌, ◌<◌, ◌≤◌, ◌↔◌, true, false, [], ◌∷◌, ◌++◌, All, EachIndex, IsTrue, length, map, replicate, option_map, slice_index, slice_set, Some, None, Ok, Err, IsOk, IsSomeAnd, IfOk, IfSome, IfNone, OnOk, OnErr};
 ghost use Rattle.std.specs.List.{range_with_len};
 ghost use Rattle.marks.specs.declared.side.Side.TheVariants.{Replay};
-ghost use Rattle.places.specs.declared.areas.TheConstants.{THREADS, REPLAY_STACKS, REPLAY_POOL, SYSTEM_STACKS, SYSTEM_POOL};
-ghost use Rattle.places.specs.Ranges.{IsFirstIn};
-ghost use Rattle.live_bytes.specs.Areas.{byte_at, extents, LiesIn};
-ghost use Rattle.live_bytes.specs.Numbers.{HasNumber, SameOutside, FillsWith};
-ghost use Rattle.call_stacks.specs.Frames.{stack_of, end_of};
+ghost use Rattle.memory_map.specs.declared.areas.TheConstants.{THREADS, REPLAY_STACKS, REPLAY_POOL, SYSTEM_STACKS, SYSTEM_POOL};
+ghost use Rattle.memory_map.specs.Ranges.{IsFirstIn};
+ghost use Rattle.space_memory_bytes.specs.Areas.{byte_at, extents, LiesIn};
+ghost use Rattle.space_memory_bytes.specs.Numbers.{HasNumber, SameOutside, FillsWith};
+ghost use Rattle.space_memory.specs.StackFrames.{stack_of, end_of};
 ghost use Rattle.pool_list.specs.Blocks.{length_at, with_block, without_block};
 ghost use Rattle.pool_list.specs.Places.{IsPlace, IsLeastPlace};
-ghost use Rattle.held_regions.specs.declared.holder.Holder.TheVariants.{Key};
-ghost use Rattle.held_regions.specs.Held.{innermost, prepared_region, without_call, without_closed};
-ghost use Rattle.access_checks.specs.declared.refusal.Refusal.{Refusal};
-ghost use Rattle.access_checks.specs.Accesses.{IsAllowed, IsRefused, IsPendingTo};
+ghost use Rattle.space_memory_access.specs.declared.holder.Holder.TheVariants.{Key};
+ghost use Rattle.space_memory_access.specs.Held.{innermost, prepared_region, without_call, without_closed};
+ghost use Rattle.space_memory_access.specs.declared.refusal.Refusal.{Refusal};
+ghost use Rattle.space_memory_access.specs.Accesses.{IsAllowed, IsRefused, IsPendingTo};
 ghost use Rattle.space_memory.specs.declared.error.HoldError.TheVariants.{Refused};
 ghost use Rattle.space_memory.specs.Sides.{frames_of, top_of, with_thread, with_blocks, fresh_side, pool_range, IsWithin};
 ghost use Rattle.space_memory.specs.Spaces.{side_of, with_side};
@@ -28,11 +28,10 @@ use crate::objects::{areas, end_of_constants, put_objects};
 use crate::regions::{first_pending, holder_of, region_of, region_range};
 use crate::release::{check_release, committed_key};
 use crate::{Cell, HoldError, Sides};
-use access_checks::{Access, Refusal, check_access, is_plain_word};
-use held_regions::{Holder, Regions};
-use live_bytes::LiveBytes;
 use marks::Side;
-use places::{Placed, REPLAY_MEMORY, Range, SYSTEM_MEMORY};
+use memory_map::{Placed, REPLAY_MEMORY, Range, SYSTEM_MEMORY};
+use space_memory_access::{Access, Holder, Refusal, Regions, check_access, is_plain_word};
+use space_memory_bytes::LiveBytes;
 use std::alloc::{AllocError, Global};
 use std::marker::Model;
 
@@ -46,7 +45,7 @@ pub struct Spaces {
 }
 
 impl Model for Spaces {
-    ghost use Rattle.live_bytes.specs.Areas.{extents};
+    ghost use Rattle.space_memory_bytes.specs.Areas.{extents};
     ghost use Rattle.space_memory.specs.Spaces.{SpaceState, IsKept};
 
     ghost Value = { SpaceState };

@@ -1,10 +1,10 @@
 //! Runs of one thread of flat code over a C source, with a word for each mark: what tables of worked examples are made of.
 #![tactic(auto)]
 
+mod example;
 mod memory;
 mod names;
 mod run;
-mod scene;
 mod steps;
 mod track;
 

@@ -1,7 +1,7 @@
 // Memory as a thread writes it.
 
 use c_code::{Shape, Side};
-use places::{REPLAY_POOL, REPLAY_STACKS, SYSTEM_STACKS};
+use memory_map::{REPLAY_POOL, REPLAY_STACKS, SYSTEM_STACKS};
 use std::alloc::{AllocError, Global};
 
 // A byte that was written.
@@ -103,7 +103,7 @@ impl Memory {
         }
     }
 
-    // Takes a frame of zeros behind those of the side, and tells where.
+    // Takes a frame of zeros after those of the side, and tells where.
     pub fn enter(&mut self, side: Side, size: u64) -> Result<u64, AllocError> {
         let addr = self.top(side);
         self.frames.push(Frame { side, addr, size })?;
@@ -140,7 +140,7 @@ impl Memory {
         self.frames.as_slice()
     }
 
-    // Takes a block behind all others from the pool, and tells where; 0 where it has no bytes.
+    // Takes a block after all others from the pool, and tells where; 0 where it has no bytes.
     pub fn block(&mut self, size: u64) -> u64 {
         if size == 0 {
             return 0;

@@ -1,8 +1,8 @@
 // What the functions and objects of a source are called.
 
 use c_builtins::{Builtin, FIRST_SOURCE_FUNCTION};
-use c_typed_program::TypedProgram;
-use places::{POOL_SIZE, REPLAY_POOL};
+use c_types_program::TypedProgram;
+use memory_map::{POOL_SIZE, REPLAY_POOL};
 use std::alloc::{AllocError, Global};
 
 // A range of memory that has a name.

@@ -1,6 +1,6 @@
 //! Runs of one thread.
 
-use crate::scene::scene_of;
+use crate::example::example_of;
 use crate::steps::drive;
 use crate::track::Track;
 use c_code::Side;
@@ -35,9 +35,9 @@ impl Run<'_> {
     /// The words for the marks of the thread: up to its end, to a fault, to a call for which `below` has no answer (`stuck`) or no depth
     /// is left (`full`), or to a great number of marks (`..`).
     pub fn marks(&self, alloc: Global) -> Result<String, SourceError> {
-        let scene = scene_of(alloc, self.source)?;
-        let mut track = Track::new(alloc, &scene, self.below)?;
-        drive(alloc, &scene, &mut track, self)?;
+        let example = example_of(alloc, self.source)?;
+        let mut track = Track::new(alloc, &example, self.below)?;
+        drive(alloc, &example, &mut track, self)?;
         Ok(track.into_words())
     }
 }

@@ -11,8 +11,8 @@ ghost use Rattle.c_machine.specs.Readers.{side_of, is_indirect};
 ghost use Rattle.c_machine.specs.Moves.{IsInside, open_on};
 ghost use Rattle.thread_runs.specs.Sides.{side_told};
 
+use crate::example::Example;
 use crate::run::{Below, Run};
-use crate::scene::Scene;
 use crate::track::Track;
 use c_code::{Shape, Side};
 use c_machine::{Answer, Thread, Want, is_call_of};
@@ -27,14 +27,14 @@ const MOST_STEPS: u32 = 100;
 // Makes the marks of a thread in which the function of the run has begun.
 pub fn drive(
     alloc: Global,
-    scene: &Scene,
+    example: &Example,
     track: &mut Track<'_>,
     run: &Run<'_>,
 ) -> Result<(), AllocError> {
-    let func = scene.names.number_of(run.func);
-    let mut thread = begun(alloc, scene, func, run.args, run.side)?;
+    let func = example.names.number_of(run.func);
+    let mut thread = begun(alloc, example, func, run.args, run.side)?;
     for _ in 0..MOST_STEPS {
-        if !step(&mut thread, alloc, scene, track)? {
+        if !step(&mut thread, alloc, example, track)? {
             return Ok(());
         }
     }
@@ -44,16 +44,16 @@ pub fn drive(
 // A new thread in which the function has begun on the side, if it may have the arguments; else it is in no function.
 fn begun(
     alloc: Global,
-    scene: &Scene,
+    example: &Example,
     func: u16,
     args: &[u64],
     side: Side,
 ) -> Result<Thread, AllocError>
-    ensures { IfOk result (λ thread. IsInside (laid scene.now.code scene.now.placed) thread.config) }
+    ensures { IfOk result (λ thread. IsInside (laid example.now.code example.now.placed) thread.config) }
 {
     let mut thread = Thread::new(alloc, 0, DEPTH)?;
-    if is_call_of(&scene.code, func, args) {
-        thread.begin(&scene.code, &scene.placed, func, args, side, false);
+    if is_call_of(&example.code, func, args) {
+        thread.begin(&example.code, &example.placed, func, args, side, false);
     }
     Ok(thread)
 }
@@ -62,27 +62,27 @@ fn begun(
 fn step(
     thread: &mut Thread,
     alloc: Global,
-    scene: &Scene,
+    example: &Example,
     track: &mut Track<'_>,
 ) -> Result<bool, AllocError>
-    requires { IsInside (laid scene.now.code scene.now.placed) thread.old.config }
-    ensures { IsInside (laid scene.now.code scene.now.placed) thread.new.config }
+    requires { IsInside (laid example.now.code example.now.placed) thread.old.config }
+    ensures { IsInside (laid example.now.code example.now.placed) thread.new.config }
 {
-    match thread.next(&scene.code, &scene.placed) {
-        Want::Call { func } => call(thread, alloc, scene, track, func),
-        _ => mark(thread, scene, track),
+    match thread.next(&example.code, &example.placed) {
+        Want::Call { func } => call(thread, alloc, example, track, func),
+        _ => mark(thread, example, track),
     }
 }
 
-fn mark(thread: &mut Thread, scene: &Scene, track: &mut Track<'_>) -> Result<bool, AllocError>
-    requires { IsInside (laid scene.now.code scene.now.placed) thread.old.config }
-    ensures { IsInside (laid scene.now.code scene.now.placed) thread.new.config }
+fn mark(thread: &mut Thread, example: &Example, track: &mut Track<'_>) -> Result<bool, AllocError>
+    requires { IsInside (laid example.now.code example.now.placed) thread.old.config }
+    ensures { IsInside (laid example.now.code example.now.placed) thread.new.config }
 {
-    let want = thread.next(&scene.code, &scene.placed);
-    let number = track.make(scene, thread, want)?;
+    let want = thread.next(&example.code, &example.placed);
+    let number = track.make(example, thread, want)?;
     match answer_to(want, number) {
         Some(answer) => {
-            thread.feed(&scene.code, &scene.placed, answer);
+            thread.feed(&example.code, &example.placed, answer);
             Ok(true)
         }
         None => Ok(false),
@@ -99,41 +99,41 @@ fn stuck(track: &mut Track<'_>) -> Result<bool, AllocError> {
 fn call(
     thread: &mut Thread,
     alloc: Global,
-    scene: &Scene,
+    example: &Example,
     track: &mut Track<'_>,
     func: u16,
 ) -> Result<bool, AllocError>
-    requires { IsInside (laid scene.now.code scene.now.placed) thread.old.config }
-    ensures { IsInside (laid scene.now.code scene.now.placed) thread.new.config }
+    requires { IsInside (laid example.now.code example.now.placed) thread.old.config }
+    ensures { IsInside (laid example.now.code example.now.placed) thread.new.config }
 {
-    if thread.crosses(&scene.code, &scene.placed) {
-        return cross(thread, alloc, scene, track, func);
+    if thread.crosses(&example.code, &example.placed) {
+        return cross(thread, alloc, example, track, func);
     }
-    if !has_body(scene, func) {
-        return step_over(thread, scene, track, func);
+    if !has_body(example, func) {
+        return step_over(thread, example, track, func);
     }
     if may_go_up(thread) && track.goes_up() {
-        return go_up(thread, alloc, scene, track);
+        return go_up(thread, alloc, example, track);
     }
-    run(thread, alloc, scene, track)
+    run(thread, alloc, example, track)
 }
 
 // A call that crosses the cut.
 fn cross(
     thread: &mut Thread,
     alloc: Global,
-    scene: &Scene,
+    example: &Example,
     track: &mut Track<'_>,
     func: u16,
 ) -> Result<bool, AllocError>
-    requires { IsInside (laid scene.now.code scene.now.placed) thread.old.config }
-    ensures { IsInside (laid scene.now.code scene.now.placed) thread.new.config }
+    requires { IsInside (laid example.now.code example.now.placed) thread.old.config }
+    ensures { IsInside (laid example.now.code example.now.placed) thread.new.config }
 {
-    track.call(scene, func, thread.args())?;
+    track.call(example, func, thread.args())?;
     match track.next_below() {
-        Some(Below::Gives(value)) => ret(thread, scene, track, func, value),
-        Some(Below::Runs) => run(thread, alloc, scene, track),
-        Some(Below::CallsBack(name, number)) => call_back(thread, scene, track, name, number),
+        Some(Below::Gives(value)) => ret(thread, example, track, func, value),
+        Some(Below::Runs) => run(thread, alloc, example, track),
+        Some(Below::CallsBack(name, number)) => call_back(thread, example, track, name, number),
         Some(Below::GoesUp) | None => stuck(track),
     }
 }
@@ -141,36 +141,36 @@ fn cross(
 // The call that crossed the cut returns with the value.
 fn ret(
     thread: &mut Thread,
-    scene: &Scene,
+    example: &Example,
     track: &mut Track<'_>,
     func: u16,
     value: u64,
 ) -> Result<bool, AllocError>
-    requires { IsInside (laid scene.now.code scene.now.placed) thread.old.config }
-    ensures { IsInside (laid scene.now.code scene.now.placed) thread.new.config }
+    requires { IsInside (laid example.now.code example.now.placed) thread.old.config }
+    ensures { IsInside (laid example.now.code example.now.placed) thread.new.config }
 {
-    if !give(thread, scene, value) {
+    if !give(thread, example, value) {
         return stuck(track);
     }
-    track.ret(scene, func, value)?;
+    track.ret(example, func, value)?;
     Ok(true)
 }
 
 // A function without a body is called by system code: one step.
 fn step_over(
     thread: &mut Thread,
-    scene: &Scene,
+    example: &Example,
     track: &mut Track<'_>,
     func: u16,
 ) -> Result<bool, AllocError>
-    requires { IsInside (laid scene.now.code scene.now.placed) thread.old.config }
-    ensures { IsInside (laid scene.now.code scene.now.placed) thread.new.config }
+    requires { IsInside (laid example.now.code example.now.placed) thread.old.config }
+    ensures { IsInside (laid example.now.code example.now.placed) thread.new.config }
 {
     let Some(Below::Gives(value)) = track.next_below() else {
         return stuck(track);
     };
-    track.one_step(scene, func, thread.args(), value)?;
-    if give(thread, scene, value) {
+    track.one_step(example, func, thread.args(), value)?;
+    if give(thread, example, value) {
         Ok(true)
     } else {
         stuck(track)
@@ -178,15 +178,15 @@ fn step_over(
 }
 
 // The call is given the value, if it may be.
-fn give(thread: &mut Thread, scene: &Scene, value: u64) -> bool
-    requires { IsInside (laid scene.now.code scene.now.placed) thread.old.config }
-    ensures { IsInside (laid scene.now.code scene.now.placed) thread.new.config }
+fn give(thread: &mut Thread, example: &Example, value: u64) -> bool
+    requires { IsInside (laid example.now.code example.now.placed) thread.old.config }
+    ensures { IsInside (laid example.now.code example.now.placed) thread.new.config }
 {
-    let Want::Call { func } = thread.next(&scene.code, &scene.placed) else {
+    let Want::Call { func } = thread.next(&example.code, &example.placed) else {
         return false;
     };
-    if is_given(thread, scene, func) && gives(scene, func, value) {
-        thread.feed(&scene.code, &scene.placed, Answer::Value(value));
+    if is_given(thread, example, func) && gives(example, func, value) {
+        thread.feed(&example.code, &example.placed, Answer::Value(value));
         return true;
     }
     false
@@ -196,19 +196,19 @@ fn give(thread: &mut Thread, scene: &Scene, value: u64) -> bool
 fn run(
     thread: &mut Thread,
     alloc: Global,
-    scene: &Scene,
+    example: &Example,
     track: &mut Track<'_>,
 ) -> Result<bool, AllocError>
-    requires { IsInside (laid scene.now.code scene.now.placed) thread.old.config }
-    ensures { IsInside (laid scene.now.code scene.now.placed) thread.new.config }
+    requires { IsInside (laid example.now.code example.now.placed) thread.old.config }
+    ensures { IsInside (laid example.now.code example.now.placed) thread.new.config }
 {
-    let Want::Call { func } = thread.next(&scene.code, &scene.placed) else {
+    let Want::Call { func } = thread.next(&example.code, &example.placed) else {
         return Ok(false);
     };
     let args = thread.args().to_vec(alloc)?;
-    let side = side_below(thread, scene);
-    if is_call_of(&scene.code, func, &args) && has_room(thread, side) {
-        thread.begin(&scene.code, &scene.placed, func, &args, side, false);
+    let side = side_below(thread, example);
+    if is_call_of(&example.code, func, &args) && has_room(thread, side) {
+        thread.begin(&example.code, &example.placed, func, &args, side, false);
         return Ok(true);
     }
     stopped(thread, track, side)
@@ -227,19 +227,29 @@ fn stopped(thread: &Thread, track: &mut Track<'_>, side: Side) -> Result<bool, A
 fn go_up(
     thread: &mut Thread,
     alloc: Global,
-    scene: &Scene,
+    example: &Example,
     track: &mut Track<'_>,
 ) -> Result<bool, AllocError>
-    requires { IsInside (laid scene.now.code scene.now.placed) thread.old.config }
-    ensures { IsInside (laid scene.now.code scene.now.placed) thread.new.config }
+    requires { IsInside (laid example.now.code example.now.placed) thread.old.config }
+    ensures { IsInside (laid example.now.code example.now.placed) thread.new.config }
 {
-    let Want::Call { func } = thread.next(&scene.code, &scene.placed) else {
+    let Want::Call { func } = thread.next(&example.code, &example.placed) else {
         return Ok(false);
     };
     let args = thread.args().to_vec(alloc)?;
-    if may_go_up(thread) && is_call_of(&scene.code, func, &args) && has_room(thread, Side::Replay) {
-        thread.begin(&scene.code, &scene.placed, func, &args, Side::Replay, true);
-        track.up(scene, func, &args)?;
+    if may_go_up(thread)
+        && is_call_of(&example.code, func, &args)
+        && has_room(thread, Side::Replay)
+    {
+        thread.begin(
+            &example.code,
+            &example.placed,
+            func,
+            &args,
+            Side::Replay,
+            true,
+        );
+        track.up(example, func, &args)?;
         return Ok(true);
     }
     stopped(thread, track, Side::Replay)
@@ -248,17 +258,17 @@ fn go_up(
 // System code below the call calls back the function of this name.
 fn call_back(
     thread: &mut Thread,
-    scene: &Scene,
+    example: &Example,
     track: &mut Track<'_>,
     name: &str,
     number: u64,
 ) -> Result<bool, AllocError>
-    requires { IsInside (laid scene.now.code scene.now.placed) thread.old.config }
-    ensures { IsInside (laid scene.now.code scene.now.placed) thread.new.config }
+    requires { IsInside (laid example.now.code example.now.placed) thread.old.config }
+    ensures { IsInside (laid example.now.code example.now.placed) thread.new.config }
 {
-    let func = scene.names.number_of(name);
-    track.up(scene, func, &[number])?;
-    if begin_back(thread, scene, func, number) {
+    let func = example.names.number_of(name);
+    track.up(example, func, &[number])?;
+    if begin_back(thread, example, func, number) {
         Ok(true)
     } else {
         stuck(track)
@@ -266,19 +276,26 @@ fn call_back(
 }
 
 // The function begins above the cut, below the call, if it may.
-fn begin_back(thread: &mut Thread, scene: &Scene, func: u16, number: u64) -> bool
-    requires { IsInside (laid scene.now.code scene.now.placed) thread.old.config }
-    ensures { IsInside (laid scene.now.code scene.now.placed) thread.new.config }
+fn begin_back(thread: &mut Thread, example: &Example, func: u16, number: u64) -> bool
+    requires { IsInside (laid example.now.code example.now.placed) thread.old.config }
+    ensures { IsInside (laid example.now.code example.now.placed) thread.new.config }
 {
-    let Want::Call { func: _ } = thread.next(&scene.code, &scene.placed) else {
+    let Want::Call { func: _ } = thread.next(&example.code, &example.placed) else {
         return false;
     };
     let args = [number];
-    if thread.crosses(&scene.code, &scene.placed)
-        && is_call_of(&scene.code, func, &args)
+    if thread.crosses(&example.code, &example.placed)
+        && is_call_of(&example.code, func, &args)
         && has_room(thread, Side::Replay)
     {
-        thread.begin(&scene.code, &scene.placed, func, &args, Side::Replay, true);
+        thread.begin(
+            &example.code,
+            &example.placed,
+            func,
+            &args,
+            Side::Replay,
+            true,
+        );
         return true;
     }
     false
@@ -302,10 +319,10 @@ fn has_room(thread: &Thread, side: Side) -> bool
 }
 
 // On which side the function of the call that is next runs.
-fn side_below(thread: &Thread, scene: &Scene) -> Side
-    ensures { result ≡ side_told (laid scene.now.code scene.now.placed) thread.now.config }
+fn side_below(thread: &Thread, example: &Example) -> Side
+    ensures { result ≡ side_told (laid example.now.code example.now.placed) thread.now.config }
 {
-    if thread.crosses(&scene.code, &scene.placed) {
+    if thread.crosses(&example.code, &example.placed) {
         Side::System
     } else {
         thread.side()
@@ -313,27 +330,27 @@ fn side_below(thread: &Thread, scene: &Scene) -> Side
 }
 
 // Whether the source says what the function does.
-fn has_body(scene: &Scene, func: u16) -> bool
-    ensures { result ≡ has_entry (entry (laid scene.now.code scene.now.placed) func) }
+fn has_body(example: &Example, func: u16) -> bool
+    ensures { result ≡ has_entry (entry (laid example.now.code example.now.placed) func) }
 {
-    match scene.code.func(func) {
+    match example.code.func(func) {
         Some(info) => info.entry.is_some(),
         None => false,
     }
 }
 
 // Whether the call of this function, which is next, is given a value in place of marks.
-fn is_given(thread: &Thread, scene: &Scene, func: u16) -> bool
-    ensures { result ≡ (crosses_at (laid scene.now.code scene.now.placed) thread.now.config || not (has_entry (entry (laid scene.now.code scene.now.placed) func))) }
+fn is_given(thread: &Thread, example: &Example, func: u16) -> bool
+    ensures { result ≡ (crosses_at (laid example.now.code example.now.placed) thread.now.config || not (has_entry (entry (laid example.now.code example.now.placed) func))) }
 {
-    thread.crosses(&scene.code, &scene.placed) || !has_body(scene, func)
+    thread.crosses(&example.code, &example.placed) || !has_body(example, func)
 }
 
 // Whether the value is one of the type of the function's result.
-fn gives(scene: &Scene, func: u16, value: u64) -> bool
-    ensures { result ≡ is_value (result_shape (func_of scene.now.code func)) value }
+fn gives(example: &Example, func: u16, value: u64) -> bool
+    ensures { result ≡ is_value (result_shape (func_of example.now.code func)) value }
 {
-    match scene.code.func(func) {
+    match example.code.func(func) {
         Some(info) => info.result.has_value(value),
         None => Shape::Void.has_value(value),
     }

@@ -1,8 +1,8 @@
 // What a thread did so far, as words.
 
+use crate::example::Example;
 use crate::memory::Memory;
 use crate::run::Below;
-use crate::scene::Scene;
 use c_machine::{Thread, Want};
 use std::alloc::{AllocError, Global};
 
@@ -27,11 +27,11 @@ impl<'a> Track<'a> {
     // Nothing was done yet: memory holds the strings.
     pub fn new(
         alloc: Global,
-        scene: &Scene,
+        example: &Example,
         below: &'a [Below<'a>],
     ) -> Result<Track<'a>, AllocError> {
         let mut memory = Memory::new(alloc);
-        for place in scene.placed.strings.as_slice() {
+        for place in example.placed.strings.as_slice() {
             memory.lay(place.addr, place.init.as_slice())?;
         }
         Ok(Track {
@@ -82,8 +82,8 @@ impl<'a> Track<'a> {
     }
 
     // The name of a place, if it has one.
-    fn named(&self, scene: &Scene, addr: u64) -> Result<Option<String>, AllocError> {
-        if let Some(area) = scene.names.area_at(addr) {
+    fn named(&self, example: &Example, addr: u64) -> Result<Option<String>, AllocError> {
+        if let Some(area) = example.names.area_at(addr) {
             let name = area.name.as_str();
             let offset = addr.wrapping_sub(area.addr);
             if offset == 0 {
@@ -109,16 +109,16 @@ impl<'a> Track<'a> {
         Ok(None)
     }
 
-    fn place(&self, scene: &Scene, addr: u64) -> Result<String, AllocError> {
-        match self.named(scene, addr)? {
+    fn place(&self, example: &Example, addr: u64) -> Result<String, AllocError> {
+        match self.named(example, addr)? {
             Some(name) => Ok(name),
             None => format!(in self.alloc; "{addr}"),
         }
     }
 
     // A number as it lies in memory.
-    fn bytes(&self, scene: &Scene, number: u64) -> Result<String, AllocError> {
-        match self.named(scene, number)? {
+    fn bytes(&self, example: &Example, number: u64) -> Result<String, AllocError> {
+        match self.named(example, number)? {
             Some(name) => {
                 let name = name.as_str();
                 format!(in self.alloc; "&{name}")
@@ -128,8 +128,8 @@ impl<'a> Track<'a> {
     }
 
     // A number as an argument or a result.
-    fn value(&self, scene: &Scene, number: u64) -> Result<String, AllocError> {
-        match self.named(scene, number)? {
+    fn value(&self, example: &Example, number: u64) -> Result<String, AllocError> {
+        match self.named(example, number)? {
             Some(name) => {
                 let name = name.as_str();
                 format!(in self.alloc; "&{name}")
@@ -141,81 +141,86 @@ impl<'a> Track<'a> {
         }
     }
 
-    fn values(&self, scene: &Scene, numbers: &[u64]) -> Result<String, AllocError> {
+    fn values(&self, example: &Example, numbers: &[u64]) -> Result<String, AllocError> {
         let mut text = String::new(self.alloc);
         for number in numbers {
             if !text.is_empty() {
                 text.push(',')?;
             }
-            let value = self.value(scene, *number)?;
+            let value = self.value(example, *number)?;
             text.push_str(value.as_str())?;
         }
         Ok(text)
     }
 
-    // A function with its arguments, behind the kind of what is done with it.
+    // A function with its arguments, after the kind of what is done with it.
     fn with_args(
         &self,
-        scene: &Scene,
+        example: &Example,
         kind: &str,
         func: u16,
         args: &[u64],
     ) -> Result<String, AllocError> {
-        let name = scene.names.name_of(self.alloc, func)?;
+        let name = example.names.name_of(self.alloc, func)?;
         let name = name.as_str();
-        let values = self.values(scene, args)?;
+        let values = self.values(example, args)?;
         let values = values.as_str();
         format!(in self.alloc; "{kind}.{name}({values})")
     }
 
-    fn result_word(&mut self, scene: &Scene, before: &str, value: u64) -> Result<(), AllocError> {
-        let value = self.value(scene, value)?;
+    fn result_word(
+        &mut self,
+        example: &Example,
+        before: &str,
+        value: u64,
+    ) -> Result<(), AllocError> {
+        let value = self.value(example, value)?;
         let value = value.as_str();
         let word = format!(in self.alloc; "{before}={value}")?;
         self.word(word.as_str())
     }
 
     // Adds that a call crosses the cut, but not again where code below it has called a function back.
-    pub fn call(&mut self, scene: &Scene, func: u16, args: &[u64]) -> Result<(), AllocError> {
+    pub fn call(&mut self, example: &Example, func: u16, args: &[u64]) -> Result<(), AllocError> {
         if self.came_back {
             self.came_back = false;
             return Ok(());
         }
-        let word = self.with_args(scene, "call", func, args)?;
+        let word = self.with_args(example, "call", func, args)?;
         self.word(word.as_str())
     }
 
     // Adds that a function is called back.
-    pub fn up(&mut self, scene: &Scene, func: u16, args: &[u64]) -> Result<(), AllocError> {
-        let word = self.with_args(scene, "up", func, args)?;
+    pub fn up(&mut self, example: &Example, func: u16, args: &[u64]) -> Result<(), AllocError> {
+        let word = self.with_args(example, "up", func, args)?;
         self.word(word.as_str())
     }
 
     // Adds that a builtin or an external is one step of system code.
     pub fn one_step(
         &mut self,
-        scene: &Scene,
+        example: &Example,
         func: u16,
         args: &[u64],
         value: u64,
     ) -> Result<(), AllocError> {
-        let word = self.with_args(scene, "step", func, args)?;
-        self.result_word(scene, word.as_str(), value)
+        let word = self.with_args(example, "step", func, args)?;
+        self.result_word(example, word.as_str(), value)
     }
 
     // Adds that a call that crossed the cut returns.
-    pub fn ret(&mut self, scene: &Scene, func: u16, value: u64) -> Result<(), AllocError> {
-        let name = scene.names.name_of(self.alloc, func)?;
+    pub fn ret(&mut self, example: &Example, func: u16, value: u64) -> Result<(), AllocError> {
+        let name = example.names.name_of(self.alloc, func)?;
         let name = name.as_str();
         let word = format!(in self.alloc; "ret.{name}")?;
-        self.result_word(scene, word.as_str(), value)
+        self.result_word(example, word.as_str(), value)
     }
 
-    fn load(&mut self, scene: &Scene, addr: u64, width: u8) -> Result<u64, AllocError> {
+    fn load(&mut self, example: &Example, addr: u64, width: u8) -> Result<u64, AllocError> {
         let number = self.memory.load(addr, width);
-        let place = self.place(scene, addr)?;
+        let place = self.place(example, addr)?;
         let place = place.as_str();
-        let bytes = self.bytes(scene, number)?;
+        let bytes = self.bytes(example, number)?;
         let bytes = bytes.as_str();
         let word = format!(in self.alloc; "load.{place}.{width}={bytes}")?;
         self.word(word.as_str())?;
@@ -224,15 +229,15 @@ impl<'a> Track<'a> {
 
     fn store(
         &mut self,
-        scene: &Scene,
+        example: &Example,
         addr: u64,
         width: u8,
         number: u64,
     ) -> Result<u64, AllocError> {
         self.memory.store(addr, u64::from(width), number)?;
-        let place = self.place(scene, addr)?;
+        let place = self.place(example, addr)?;
         let place = place.as_str();
-        let bytes = self.bytes(scene, number)?;
+        let bytes = self.bytes(example, number)?;
         let bytes = bytes.as_str();
         let word = format!(in self.alloc; "store.{place}.{width}={bytes}")?;
         self.word(word.as_str())?;
@@ -242,15 +247,15 @@ impl<'a> Track<'a> {
     // The word comes first: the arguments are written as the caller sees them.
     fn enter(
         &mut self,
-        scene: &Scene,
+        example: &Example,
         thread: &Thread,
         func: u16,
         size: u64,
     ) -> Result<u64, AllocError> {
-        let word = self.with_args(scene, "enter", func, thread.args())?;
+        let word = self.with_args(example, "enter", func, thread.args())?;
         self.word(word.as_str())?;
         let frame = self.memory.enter(thread.side(), size)?;
-        if let Some(info) = scene.code.func(func) {
+        if let Some(info) = example.code.func(func) {
             self.memory
                 .set_args(frame, info.params.as_slice(), thread.args())?;
         }
@@ -263,15 +268,15 @@ impl<'a> Track<'a> {
         Ok(0)
     }
 
-    fn alloc(&mut self, scene: &Scene, size: u64) -> Result<u64, AllocError> {
+    fn alloc(&mut self, example: &Example, size: u64) -> Result<u64, AllocError> {
         let block = self.memory.block(size);
         let word = format!(in self.alloc; "alloc.{size}")?;
-        self.result_word(scene, word.as_str(), block)?;
+        self.result_word(example, word.as_str(), block)?;
         Ok(block)
     }
 
-    fn free(&mut self, scene: &Scene, addr: u64) -> Result<u64, AllocError> {
-        let place = self.place(scene, addr)?;
+    fn free(&mut self, example: &Example, addr: u64) -> Result<u64, AllocError> {
+        let place = self.place(example, addr)?;
         let place = place.as_str();
         let word = format!(in self.alloc; "free.{place}")?;
         self.word(word.as_str())?;
@@ -286,21 +291,26 @@ impl<'a> Track<'a> {
 
     // Makes what the thread wants, if it is no call, and adds the word for it. The value or address that the thread is to be told, 0
     // where it needs none.
-    pub fn make(&mut self, scene: &Scene, thread: &Thread, want: Want) -> Result<u64, AllocError> {
+    pub fn make(
+        &mut self,
+        example: &Example,
+        thread: &Thread,
+        want: Want,
+    ) -> Result<u64, AllocError> {
         self.came_back = matches!(want, Want::UpRet { result: _ });
         match want {
             Want::Turn => self.word("turn").map(|_| 0),
-            Want::Load { addr, width } => self.load(scene, addr, width),
-            Want::Store { addr, width, value } => self.store(scene, addr, width, value),
-            Want::Enter { func, size } => self.enter(scene, thread, func, size),
+            Want::Load { addr, width } => self.load(example, addr, width),
+            Want::Store { addr, width, value } => self.store(example, addr, width, value),
+            Want::Enter { func, size } => self.enter(example, thread, func, size),
             Want::Leave => self.leave(),
-            Want::Ret { func, result } => self.ret(scene, func, result).map(|_| 0),
-            Want::Alloc { size } => self.alloc(scene, size),
-            Want::Free { addr } => self.free(scene, addr),
+            Want::Ret { func, result } => self.ret(example, func, result).map(|_| 0),
+            Want::Alloc { size } => self.alloc(example, size),
+            Want::Free { addr } => self.free(example, addr),
             Want::Call { func: _ } => Ok(0),
-            Want::UpRet { result } => self.result_word(scene, "upret", result).map(|_| 0),
+            Want::UpRet { result } => self.result_word(example, "upret", result).map(|_| 0),
             Want::Fault(kind) => self.fault(kind),
-            Want::Ended { result } => self.result_word(scene, "ends", result).map(|_| 0),
+            Want::Ended { result } => self.result_word(example, "ends", result).map(|_| 0),
         }
     }
 }

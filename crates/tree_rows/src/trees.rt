@@ -56,7 +56,7 @@ fn signs_group_their_operands(rt: HostRuntime) -> Result<(), AllocError> {
             "{value}"
         );
     }
-    // the longest sign is `--`, which stands behind `a`, and no operand can follow
+    // the longest sign is `--`, which stands after `a`, and no operand can follow
     assert!(rt; matches!(shown(alloc, b"int x = a--b;"), Err(ParseError::Token(11))));
     Ok(())
 }

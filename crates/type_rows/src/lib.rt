@@ -1,4 +1,4 @@
-//! Worked examples of the rules of members, subscripts and sizes, and of the numbers that a source may not go past.
+//! Worked examples of the rules of members, subscripts and sizes, and of the limits that a source may not exceed.
 #![tactic(auto)]
 
 #[cfg(test)]

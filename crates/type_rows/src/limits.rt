@@ -1,4 +1,4 @@
-//! Numbers that a source may not go past, at their edges.
+//! Limits that a source may not exceed, at their edges.
 
 use c_types::Which;
 use marked_sources::{Judged, judge_marked};

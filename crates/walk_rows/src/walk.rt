@@ -4,7 +4,7 @@
 ghost use Rattle.std.specs.Prelude.{◌≤◌, ◌<◌, length};
 
 use log_codec::parse;
-use plain_order::{first_wrong_byte, first_wrong_event};
+use log_reference::{first_wrong_byte, first_wrong_event};
 use program_runs::{SUM, order_of, two_threads};
 use r2_cli::Status;
 use std::alloc::{AllocError, Global};

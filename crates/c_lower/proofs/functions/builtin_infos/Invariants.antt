@@ -1,6 +1,6 @@
 use Rattle.std.proofs.Common.{◌≡◌, ◌++◌, map, drop}
 use Rattle.c_builtins.specs.declared.lookup.TheConstants.{BUILTINS}
-use Rattle.c_typed_program.specs.Declarations.{Declared}
+use Rattle.c_types_program.specs.Declarations.{Declared}
 use Rattle.c_lower.specs.Lowered.{builtin_info}
 use Rattle.c_lower.proofs.functions.builtin_infos.Given as goal
 

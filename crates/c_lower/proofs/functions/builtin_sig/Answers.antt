@@ -2,8 +2,8 @@ use Rattle.std.proofs.Common.{◌≡◌, ℕ, ◌⊎◌, inl, inr, refl, sym, ap
 use Rattle.c_builtins.specs.declared.builtin.Builtin.{Builtin}
 use Rattle.c_builtins.specs.declared.builtin.Builtin.TheVariants.{Malloc, Free, Spawn, Join, Lock, Unlock, Print}
 use Rattle.c_builtins.specs.Table.{prototype_of}
-use Rattle.c_typed_program.specs.Declarations.{Declared}
-use Rattle.c_lower_index.specs.Sources.{sig_in}
+use Rattle.c_types_program.specs.Declarations.{Declared}
+use Rattle.c_lower_layout.specs.Sources.{sig_in}
 use Rattle.c_lower.proofs.functions.builtin_sig.Goals as goal
 
 same_sig : (p : Declared) (b known : Builtin) (n : ℕ) → n ≡ sig_in p (prototype_of known) → b ≡ known → n ≡ sig_in p (prototype_of b)

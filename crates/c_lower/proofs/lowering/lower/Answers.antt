@@ -1,9 +1,9 @@
 use Rattle.std.proofs.Common.{sym, subst, arith}
 use Rattle.std.proofs.lemmas.List.{length-map}
 use Rattle.c_code.specs.Machine.{Flat}
-use Rattle.c_placement.specs.Laws.{MakesTheMarks}
-use Rattle.c_typed_program.specs.Declarations.{function_in}
-use Rattle.c_lower_index.specs.Sources.{source_in}
+use Rattle.c_lower_rules.specs.Laws.{MakesTheMarks}
+use Rattle.c_types_program.specs.Declarations.{function_in}
+use Rattle.c_lower_layout.specs.Sources.{source_in}
 use Rattle.c_lower.specs.Named.{NamesNoMore}
 use Rattle.c_lower.proofs.Names.{named}
 use Rattle.c_lower.proofs.Valid.{marks}

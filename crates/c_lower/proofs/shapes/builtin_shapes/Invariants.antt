@@ -1,6 +1,6 @@
 use Rattle.std.proofs.Common.{◌≡◌, ◌++◌, drop}
 use Rattle.c_builtins.specs.Table.{ctypes_of}
-use Rattle.c_meaning.specs.Context.{shapes_of}
+use Rattle.c_semantics.specs.Context.{shapes_of}
 use Rattle.c_lower.proofs.shapes.builtin_shapes.Given as goal
 
 abbrev pub invariant-loop-ty : goal.invariant-loop-ty

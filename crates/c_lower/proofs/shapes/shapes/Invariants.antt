@@ -1,6 +1,6 @@
 use Rattle.std.proofs.Common.{◌≡◌, ◌++◌, drop}
-use Rattle.c_type_table.specs.Tables.{all_at, types_of}
-use Rattle.c_meaning.specs.Context.{shapes_of}
+use Rattle.c_types_table.specs.Tables.{all_at, types_of}
+use Rattle.c_semantics.specs.Context.{shapes_of}
 use Rattle.c_lower.proofs.shapes.shapes.Given as goal
 
 abbrev pub invariant-loop-id : goal.invariant-loop-id

@@ -1,5 +1,5 @@
 use Rattle.std.proofs.Common.{◌≡◌, drop}
-use Rattle.c_lower.specs.Waits.{first_wide}
+use Rattle.c_lower.specs.Depths.{first_wide}
 use Rattle.c_lower.proofs.wide.first_wide.Given as goal
 
 abbrev pub invariant-loop-place : goal.invariant-loop-place

@@ -1,5 +1,5 @@
 use Rattle.std.proofs.Common.{arith}
-use Rattle.c_stacks.specs.Stacks.{held}
+use Rattle.c_machine_stack.specs.Stacks.{held}
 use Rattle.c_machine.proofs.Pushes.{count}
 use Rattle.c_machine.proofs.begin.push_all.Goals as goal
 

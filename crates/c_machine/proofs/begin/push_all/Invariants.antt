@@ -1,6 +1,6 @@
 use Rattle.std.proofs.Common.{◌≡◌, ◌++◌, take}
 use Rattle.std.specs.Prelude.{reverse}
-use Rattle.c_stacks.specs.Stacks.{held, room_of}
+use Rattle.c_machine_stack.specs.Stacks.{held, room_of}
 use Rattle.c_machine.proofs.begin.push_all.Given as goal
 
 abbrev pub invariant-loop-value : goal.invariant-loop-value

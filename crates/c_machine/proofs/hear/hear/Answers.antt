@@ -1,5 +1,5 @@
 use Rattle.std.proofs.Common.{sym, subst}
-use Rattle.c_stacks.specs.Stacks.{held}
+use Rattle.c_machine_stack.specs.Stacks.{held}
 use Rattle.c_machine.specs.Heard.{Hears}
 use Rattle.c_machine.specs.Wants.{told}
 use Rattle.c_machine.proofs.hear.hear.Goals as goal

@@ -1,5 +1,5 @@
 use Rattle.std.proofs.Common.{arith, refl}
-use Rattle.c_stacks.specs.Stacks.{held}
+use Rattle.c_machine_stack.specs.Stacks.{held}
 use Rattle.c_machine.proofs.Arguments.{no_address, has_address}
 use Rattle.c_machine.proofs.tops.below_args.Goals as goal
 

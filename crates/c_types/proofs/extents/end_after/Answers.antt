@@ -1,6 +1,6 @@
 use Rattle.std.proofs.Common.{◌<◌, sym, subst}
-use Rattle.c_type_model.specs.declared.extent.Extent.{Extent}
-use Rattle.c_type_table.specs.Tables.{type_at}
+use Rattle.c_types_model.specs.declared.extent.Extent.{Extent}
+use Rattle.c_types_table.specs.Tables.{type_at}
 use Rattle.c_types.proofs.Limited.{align_some}
 use Rattle.c_types.proofs.extents.end_after.Goals as goal
 

@@ -1,8 +1,8 @@
 use Rattle.std.proofs.Common.{map, sym, ap, ◌∙◌}
 use Rattle.std.specs.Option.{option_map}
-use Rattle.c_type_model.specs.Layouts.{capped_extent, extent_of}
-use Rattle.c_type_table.specs.Tables.{type_at}
-use Rattle.c_typing.specs.Environment.{extents}
+use Rattle.c_types_model.specs.Layouts.{capped_extent, extent_of}
+use Rattle.c_types_table.specs.Tables.{type_at}
+use Rattle.c_types_rules.specs.Environment.{extents}
 use Rattle.c_types.proofs.Limited.{extent_missing, extent_there}
 use Rattle.c_types.proofs.extents.extent_or.Goals as goal
 

@@ -1,7 +1,7 @@
 use Rattle.std.proofs.Common.{◌<◌, length, map, sym, subst, arith}
-use Rattle.c_typed_program.specs.declared.function.Function.{Function}
-use Rattle.c_typing.specs.Limits.{few_params}
-use Rattle.c_typed_program.specs.Declarations.{function_in}
+use Rattle.c_types_program.specs.declared.function.Function.{Function}
+use Rattle.c_types_rules.specs.Limits.{few_params}
+use Rattle.c_types_program.specs.Declarations.{function_in}
 use Rattle.c_types.proofs.Limited.{all_kept, kept_after, le_fails, le_holds, mapped_end, mapped_item, not_kept_here}
 use Rattle.c_types.proofs.limits.few_params.Goals as goal
 

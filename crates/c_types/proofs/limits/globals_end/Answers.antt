@@ -1,9 +1,9 @@
 use Rattle.std.proofs.Common.{map, refl, sym, ap, ◌∙◌, arith}
-use Rattle.c_type_model.specs.Layouts.{capped, end_from}
-use Rattle.c_type_table.specs.Tables.{type_at}
-use Rattle.c_typing.specs.Environment.{extents}
-use Rattle.c_typing.specs.Limits.{type_of}
-use Rattle.c_typing.specs.Sources.{extents_in}
+use Rattle.c_types_model.specs.Layouts.{capped, end_from}
+use Rattle.c_types_table.specs.Tables.{type_at}
+use Rattle.c_types_rules.specs.Environment.{extents}
+use Rattle.c_types_rules.specs.Limits.{type_of}
+use Rattle.c_types_rules.specs.Sources.{extents_in}
 use Rattle.c_types.proofs.Limited.{capped_again, end_goes_on, ends_there, extents_are, global_at, mapped_below, mapped_end, types_of_globals, types_seen}
 use Rattle.c_types.proofs.limits.globals_end.Goals as goal
 

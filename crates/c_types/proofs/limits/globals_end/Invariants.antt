@@ -1,6 +1,6 @@
 use Rattle.std.proofs.Common.{◌≡◌, drop}
-use Rattle.c_type_model.specs.Layouts.{capped, end_from}
-use Rattle.c_typing.specs.Environment.{extents}
+use Rattle.c_types_model.specs.Layouts.{capped, end_from}
+use Rattle.c_types_rules.specs.Environment.{extents}
 use Rattle.c_types.proofs.Limited.{extents_by, types_of_globals}
 use Rattle.c_types.proofs.limits.globals_end.Given as goal
 

@@ -1,8 +1,8 @@
 use Rattle.std.proofs.Common.{get_or, refl, sym, ap, ◌∙◌, arith}
-use Rattle.c_type_model.specs.Layouts.{capped, end_from}
-use Rattle.c_type_table.specs.Tables.{type_at}
-use Rattle.c_typing.specs.Environment.{extents}
-use Rattle.c_typed_program.specs.Declarations.{types_in}
+use Rattle.c_types_model.specs.Layouts.{capped, end_from}
+use Rattle.c_types_table.specs.Tables.{type_at}
+use Rattle.c_types_rules.specs.Environment.{extents}
+use Rattle.c_types_program.specs.Declarations.{types_in}
 use Rattle.c_types.proofs.Limited.{capped_again, end_goes_on, ends_there, extents_are, local_at, mapped_below, mapped_end}
 use Rattle.c_types.proofs.limits.locals_end.Goals as goal
 

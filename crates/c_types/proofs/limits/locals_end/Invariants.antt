@@ -1,7 +1,7 @@
 use Rattle.std.proofs.Common.{◌≡◌, drop}
-use Rattle.c_type_model.specs.Layouts.{capped, end_from}
-use Rattle.c_typing.specs.Environment.{extents}
-use Rattle.c_typed_program.specs.Declarations.{types_in}
+use Rattle.c_types_model.specs.Layouts.{capped, end_from}
+use Rattle.c_types_rules.specs.Environment.{extents}
+use Rattle.c_types_program.specs.Declarations.{types_in}
 use Rattle.c_types.proofs.Limited.{extents_by}
 use Rattle.c_types.proofs.limits.locals_end.Given as goal
 

@@ -1,6 +1,6 @@
 use Rattle.std.proofs.Common.{map, sym, ◌∙◌}
-use Rattle.c_typing.specs.Limits.{small_frame}
-use Rattle.c_typed_program.specs.Declarations.{function_in}
+use Rattle.c_types_rules.specs.Limits.{small_frame}
+use Rattle.c_types_program.specs.Declarations.{function_in}
 use Rattle.c_types.proofs.Limited.{all_kept, kept_after, mapped_end, mapped_item, not_kept_here}
 use Rattle.c_types.proofs.limits.small_frames.Goals as goal
 

@@ -1,7 +1,7 @@
 use Rattle.std.proofs.Common.{◌≡◌, map, drop}
-use Rattle.c_typing.specs.Limits.{all_keep, small_frame}
-use Rattle.c_typing.specs.Sources.{Program}
-use Rattle.c_typed_program.specs.Declarations.{function_in}
+use Rattle.c_types_rules.specs.Limits.{all_keep, small_frame}
+use Rattle.c_types_rules.specs.Sources.{Program}
+use Rattle.c_types_program.specs.Declarations.{function_in}
 use Rattle.c_types.proofs.limits.small_frames.Given as goal
 
 abbrev pub invariant-loop-function : goal.invariant-loop-function

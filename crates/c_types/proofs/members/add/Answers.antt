@@ -1,8 +1,8 @@
 use Rattle.std.proofs.Common.{Ok, Err, refl, sym, ◌∙◌}
-use Rattle.c_typing.specs.Checked.{Broken, Fine}
-use Rattle.c_operators.specs.Answers.{Agrees}
-use Rattle.c_operators.specs.declared.error.TypeError.TheVariants.{Rule}
-use Rattle.c_type_table.specs.Tables.{at, type_at, types_of}
+use Rattle.c_types_rules.specs.Checked.{Broken, Fine}
+use Rattle.c_types_operators.specs.Answers.{Agrees}
+use Rattle.c_types_operators.specs.declared.error.TypeError.TheVariants.{Rule}
+use Rattle.c_types_table.specs.Tables.{at, type_at, types_of}
 use Rattle.c_types.specs.Members.{members_in}
 use Rattle.c_types.proofs.Gathered.{MemberIs, agrees_as, members_added, new_member, still_named, taken_member}
 use Rattle.c_types.proofs.members.add.Goals as goal

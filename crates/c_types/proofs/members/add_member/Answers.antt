@@ -1,7 +1,7 @@
 use Rattle.std.proofs.Common.{◌≡◌, Err, ap, ◌∙◌, subst}
 use Rattle.std.proofs.lemmas.Result.{err_from_is_err_and}
-use Rattle.c_type_table.specs.Tables.{type_at}
-use Rattle.c_operators.specs.Answers.{Agrees}
+use Rattle.c_types_table.specs.Tables.{type_at}
+use Rattle.c_types_operators.specs.Answers.{Agrees}
 use Rattle.c_types.specs.Members.{members_in}
 use Rattle.c_types.specs.Pieces.{named_member}
 use Rattle.c_types.proofs.Gathered.{MemberIs, member_incomplete, member_named, members_in_kept}

@@ -1,9 +1,9 @@
 use Rattle.std.proofs.Common.{suc, Err, Ok, [], get_or, drop, refl, sym, ap, ◌∙◌, subst, add-one}
 use Rattle.std.proofs.lemmas.Result.{err_from_is_err_and}
 use Rattle.std.proofs.lemmas.List.{drop_all}
-use Rattle.c_typing.specs.Sources.{member_of, members_from}
-use Rattle.c_expressions.specs.Found.{Found}
-use Rattle.c_expressions.proofs.Kept.{then_stay}
+use Rattle.c_types_rules.specs.Sources.{member_of, members_from}
+use Rattle.c_types_expressions.specs.Found.{Found}
+use Rattle.c_types_expressions.proofs.Kept.{then_stay}
 use Rattle.c_types.specs.Members.{members_in}
 use Rattle.c_types.proofs.Gathered.{AreMembers, MemberIs, RestOfMembers, no_member_left, one_member, one_member_stops}
 use Rattle.c_types.proofs.Parts.{ids_left, one_of_all}

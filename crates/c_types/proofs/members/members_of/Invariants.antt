@@ -1,7 +1,7 @@
 use Rattle.std.proofs.Common.{drop}
 use Rattle.c_syntax.specs.Syntax.{Decls}
 use Rattle.c_syntax.specs.Stands.{StandDecls}
-use Rattle.c_expressions.specs.Found.{Stays}
+use Rattle.c_types_expressions.specs.Found.{Stays}
 use Rattle.c_types.specs.Members.{AreBelow, members_in}
 use Rattle.c_types.proofs.Gathered.{RestOfMembers}
 use Rattle.c_types.proofs.members.members_of.Given as goal

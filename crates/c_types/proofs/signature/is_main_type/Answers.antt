@@ -1,8 +1,8 @@
 use Rattle.std.proofs.Common.{◌==◌, length, sym, ap, ◌∙◌}
-use Rattle.c_type_table.specs.declared.ty.Ty.TheVariants as nodes
-use Rattle.c_type_table.specs.Tables.{types_of}
-use Rattle.c_typing.specs.Sources.{main_type}
-use Rattle.c_typing.specs.TypeTests.{same_type}
+use Rattle.c_types_table.specs.declared.ty.Ty.TheVariants as nodes
+use Rattle.c_types_table.specs.Tables.{types_of}
+use Rattle.c_types_rules.specs.Sources.{main_type}
+use Rattle.c_types_rules.specs.TypeTests.{same_type}
 use Rattle.c_types.proofs.FunctionSteps.{with_params}
 use Rattle.c_types.proofs.Naming.{made_there}
 use Rattle.c_types.proofs.signature.is_main_type.Goals as goal

@@ -1,8 +1,8 @@
 use Rattle.std.proofs.Common.{length, sym, ap, ◌∙◌}
-use Rattle.c_type_table.specs.declared.ty.Ty.TheVariants as nodes
-use Rattle.c_type_table.specs.Tables.{types_of}
-use Rattle.c_typing.specs.Limits.{count}
-use Rattle.c_typing.specs.Sources.{params_of}
+use Rattle.c_types_table.specs.declared.ty.Ty.TheVariants as nodes
+use Rattle.c_types_table.specs.Tables.{types_of}
+use Rattle.c_types_rules.specs.Limits.{count}
+use Rattle.c_types_rules.specs.Sources.{params_of}
 use Rattle.c_types.proofs.Limited.{count_is}
 use Rattle.c_types.proofs.Naming.{made_there}
 use Rattle.c_types.proofs.signature.param_count.Goals as goal

@@ -2,7 +2,7 @@ use Rattle.std.proofs.Common.{suc, Err, get_or, drop, sym, ap, ◌∙◌, subst,
 use Rattle.std.proofs.lemmas.Result.{err_from_is_err_and}
 use Rattle.std.proofs.lemmas.List.{drop_all}
 use Rattle.c_syntax.specs.Stands.{StandDecls}
-use Rattle.c_expressions.specs.Walks.{AreDecls}
+use Rattle.c_types_expressions.specs.Walks.{AreDecls}
 use Rattle.c_types.proofs.Ended.{RestOfAll, all_left, ends_failed, none_left, one_done, one_stops}
 use Rattle.c_types.proofs.Parts.{ids_left, one_of_all}
 use Rattle.c_types.proofs.Stepping.{goes_through, stands_still}

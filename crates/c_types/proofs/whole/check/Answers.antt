@@ -1,5 +1,5 @@
-use Rattle.c_typing.specs.Limits.{outcome}
-use Rattle.c_typing.specs.Sources.{tags_of}
+use Rattle.c_types_rules.specs.Limits.{outcome}
+use Rattle.c_types_rules.specs.Sources.{tags_of}
 use Rattle.c_types.specs.Texts.{texts_among}
 use Rattle.c_types.proofs.Sourced.{program_checked}
 use Rattle.c_types.proofs.whole.check.Goals as goal

@@ -1,7 +1,7 @@
 use Rattle.std.proofs.Common.{Err, sym, ap, ◌∙◌, subst}
 use Rattle.std.proofs.lemmas.Result.{err_from_is_err_and}
-use Rattle.c_typing.specs.Limits.{outcome}
-use Rattle.c_typing.specs.Sources.{tags_of}
+use Rattle.c_types_rules.specs.Limits.{outcome}
+use Rattle.c_types_rules.specs.Sources.{tags_of}
 use Rattle.c_types.specs.Answers.{IsCheckedSource}
 use Rattle.c_types.specs.Texts.{texts_among}
 use Rattle.c_types.proofs.whole.check_source.Goals as goal

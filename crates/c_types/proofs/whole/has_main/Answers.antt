@@ -1,6 +1,6 @@
 use Rattle.std.proofs.Common.{◌≡◌, ℕ, map, drop, sym, ◌∙◌, subst, add-one}
-use Rattle.c_typing.specs.Sources.{has_main}
-use Rattle.c_typed_program.specs.Declarations.{function_in}
+use Rattle.c_types_rules.specs.Sources.{has_main}
+use Rattle.c_types_program.specs.Declarations.{function_in}
 use Rattle.c_types.proofs.Ended.{main_here, main_item, main_so_far, other_item}
 use Rattle.c_types.proofs.Limited.{mapped_item}
 use Rattle.c_types.proofs.whole.has_main.Goals as goal

@@ -1,7 +1,7 @@
 use Rattle.std.proofs.Common.{◌≡◌, map, drop}
-use Rattle.c_typing.specs.Sources.{has_main}
-use Rattle.c_typed_table.specs.Tables.{Table}
-use Rattle.c_typed_program.specs.Declarations.{function_in}
+use Rattle.c_types_rules.specs.Sources.{has_main}
+use Rattle.c_types_nodes.specs.Tables.{Table}
+use Rattle.c_types_program.specs.Declarations.{function_in}
 use Rattle.c_types.proofs.whole.has_main.Given as goal
 
 abbrev pub invariant-loop-function : goal.invariant-loop-function

@@ -1,8 +1,8 @@
 use Rattle.std.proofs.Common.{◌≡◌, Result, Err, IfErr, map, ap, sym, subst, ◌∙◌}
 use Rattle.std.proofs.lemmas.Result.{err_from_is_err_and}
 use Rattle.c_code.specs.Machine.{Flat}
-use Rattle.c_waits.specs.Functions.{function_waits}
-use Rattle.c_waits.specs.Waits.{capped}
+use Rattle.c_lower_stack.specs.Functions.{function_depth}
+use Rattle.c_lower_stack.specs.Depths.{capped}
 use Rattle.front_end.specs.declared.error.SourceError.{SourceError}
 use Rattle.front_end.specs.Answers.{IsTooLarge}
 use Rattle.front_end.proofs.Lowering.{counted, large, small}
@@ -15,14 +15,14 @@ pub returns-in_err-lower-clause-refused : goal.returns-in_err-lower-clause-refus
 returns-in_err-lower-clause-refused c = λ ds p holds typed is.
     let d = c.args.program.now in
     let q = err_from_is_err_and c.from_residual-in_err-lower.result c.from_residual-in_err-lower.ensures.1 in
-    let us : c.deref.result.now ≡ map capped (function_waits ds) = c.deref.ensures.value ∙ c.in_ok-waits.ensures ds holds in
-    let all = counted ds p d c.node_count.result c.deref.result.now (c.node_count.ensures ds holds) us (c.typed_bodies_wait_no_more.ensures ds p typed) is in
+    let us : c.deref.result.now ≡ map capped (function_depth ds) = c.deref.ensures.value ∙ c.in_ok-depth.ensures ds holds in
+    let all = counted ds p d c.node_count.result c.deref.result.now (c.node_count.ensures ds holds) us (c.typed_bodies_are_no_deeper.ensures ds p typed) is in
     subst (λ (r : Result Flat SourceError). IfErr r (IsTooLarge ds)) (sym (q.1 ∙ ap Err q.2))
     (large ds d.table d.functions c.node_count.result c.deref.result.now all c.in_err-lower.field-0.0 c.in_err-lower.ensures.long c.in_err-lower.ensures.wide)
 
 pub returns-clause-small : goal.returns-clause-small
 returns-clause-small c = λ ds p holds typed is.
     let d = c.args.program.now in
-    let us : c.deref.result.now ≡ map capped (function_waits ds) = c.deref.ensures.value ∙ c.in_ok-waits.ensures ds holds in
-    let all = counted ds p d c.node_count.result c.deref.result.now (c.node_count.ensures ds holds) us (c.typed_bodies_wait_no_more.ensures ds p typed) is in
+    let us : c.deref.result.now ≡ map capped (function_depth ds) = c.deref.ensures.value ∙ c.in_ok-depth.ensures ds holds in
+    let all = counted ds p d c.node_count.result c.deref.result.now (c.node_count.ensures ds holds) us (c.typed_bodies_are_no_deeper.ensures ds p typed) is in
     small ds d.table d.functions c.node_count.result c.deref.result.now all c.in_ok-lower.ensures.few

@@ -1,8 +1,8 @@
 use Rattle.std.proofs.Common.{List, subst, sym}
-use Rattle.c_typing.specs.Sources.{tags_of}
-use Rattle.c_typed_program.specs.declared.function.Function.{Function}
-use Rattle.annot_types.specs.Sources.{IsTypedSource}
-use Rattle.front_end.specs.Answers.{IsRefused}
+use Rattle.c_types_rules.specs.Sources.{tags_of}
+use Rattle.c_types_program.specs.declared.function.Function.{Function}
+use Rattle.annot_reader.specs.Sources.{IsTypedSource}
+use Rattle.front_end.specs.Answers.{IsSourceError}
 use Rattle.front_end.proofs.Accepting.{typed_source}
 use Rattle.front_end.proofs.Refusals.{by_reading}
 use Rattle.front_end.proofs.source.with_interface.Goals as goal
@@ -12,7 +12,7 @@ returns-in-Err c = λ bytes ds source t.
     let N = c.args.tree.now in
     let s = c.args.source in
     let readable = subst (λ (fs : List Function). IsTypedSource N s.env fs ds t.program) (sym c.as_slice.ensures.items) (typed_source N source.tokens ds s t) in
-    subst (IsRefused bytes c.args.cut.now) (sym c.from.ensures)
+    subst (IsSourceError bytes c.args.cut.now) (sym c.from.ensures)
     (by_reading bytes c.args.cut.now ds t.program c.in-Err.error t.typed source (c.in-Err.ensures.interface ds t.program readable))
 
 pub into_program-requires-clause-functions : goal.into_program-requires-clause-functions

@@ -4,7 +4,7 @@ use Rattle.std.proofs.lemmas.Result.{err_from_is_err_and}
 use Rattle.std.proofs.lemmas.List.{length-replicate, length-set}
 use Rattle.std.proofs.Math.ListN.{drop_of_length-le}
 use Rattle.logical_clock.specs.declared.event.EventName.{EventName}
-use Rattle.log_closure.specs.declared.place.Place.{Place}
+use Rattle.log_closure.specs.declared.place.LogPlace.{LogPlace}
 use Rattle.log_closure.specs.declared.error.OrderError.{OrderError}
 use Rattle.log_closure.specs.declared.error.OrderError.TheVariants.{Twice}
 use Rattle.log_closure.specs.Events.{events_of, event_of, of_thread}
@@ -19,7 +19,7 @@ use Rattle.log_closure.proofs.TableSteps.{length-events}
 use Rattle.log_closure.proofs.CheckSteps.{no_place, place_here, length-places, event_here, last_none, last_more, twice_here, not_twice_here, wrong_twice, wrong_here}
 use Rattle.log_closure.proofs.check.check.Goals as goal
 
-abbrev name_of : Place → EventName
+abbrev name_of : LogPlace → EventName
 name_of p = record { thread = p.thread; index = p.index }
 
 pub bounds-places-at : goal.bounds-places-at
@@ -94,7 +94,7 @@ returns-then-repeats_at c =
     let is = c.index-records-at.is in
     let e = event_of (take i rs) r in
     let place = place_here rs c.args.places.now i r no_place lt is c.requires in
-    let name_is : c.name.result ≡ e.name = c.name.ensures ∙ ap (λ (q : Place). name_of q) place in
+    let name_is : c.name.result ≡ e.name = c.name.ensures ∙ ap (λ (q : LogPlace). name_of q) place in
     let found = twice_here rs i r lt is (sym c.in_ok-clocks.ensures.twice ∙ c.if-repeats_at.ensures.there) in
     c.loop-at.invariant.same ∙ first_at c.args.whole all i e (omega (arith, length-events [] rs, lt)) (event_here rs i r lt is)
     ∙ ap (λ (o : Option OrderError). or_else o (first_wrong c.args.whole all (take (i + 1) all) (drop (i + 1) all))) (wrong_twice c.args.whole all (take i all) e found)

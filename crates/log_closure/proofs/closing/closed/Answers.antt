@@ -3,7 +3,7 @@ use Rattle.std.proofs.Common.{◌<◌, length, arith, Vec, Global, ◌≡◌, []
 use Rattle.std.proofs.lemmas.Result.{err_from_is_err_and}
 use Rattle.logical_clock.specs.declared.event.Record.{Record}
 use Rattle.log_closure.specs.declared.error.OrderError.TheVariants.{Memory}
-use Rattle.log_closure.specs.declared.place.Place.{Place}
+use Rattle.log_closure.specs.declared.place.LogPlace.{LogPlace}
 use Rattle.log_closure.specs.Events.{LogEvent, Part, In, events_of}
 use Rattle.log_closure.specs.Closed.{IsClosedPart}
 use Rattle.log_closure.specs.Chains.{IsClock, CountUp}
@@ -20,29 +20,29 @@ returns-in_err-order-clause-passes c = λ h.
     let rs = c.args.kept.records in
     let w = c.args.kept.whole in
     let x = c.in_err-order.field-0.0 in
-    let a : Answers {X = Vec Place Global} (Err x) (first_wrong w (events_of rs) [] (events_of rs)) = moved {X = Vec Place Global} (Err x) c.whole-whole.result w c.records.result.now rs c.whole-whole.ensures c.records.ensures.these c.in_err-order.ensures.check in
+    let a : Answers {X = Vec LogPlace Global} (Err x) (first_wrong w (events_of rs) [] (events_of rs)) = moved {X = Vec LogPlace Global} (Err x) c.whole-whole.result w c.records.result.now rs c.whole-whole.ensures c.records.ensures.these c.in_err-order.ensures.check in
     let q = err_from_is_err_and c.from_residual.result c.from_residual.ensures.1 in
-    rw (q.1, q.2) (refused_only (Vec Place Global) x (first_wrong w (events_of rs) [] (events_of rs)) a (right_passes rs w h))
+    rw (q.1, q.2) (refused_only (Vec LogPlace Global) x (first_wrong w (events_of rs) [] (events_of rs)) a (right_passes rs w h))
 
 pub returns-in_err-order-clause-refused : goal.returns-in_err-order-clause-refused
 returns-in_err-order-clause-refused c = λ error is ne.
     let rs = c.args.kept.records in
     let w = c.args.kept.whole in
     let x = c.in_err-order.field-0.0 in
-    let a : Answers {X = Vec Place Global} (Err x) (first_wrong w (events_of rs) [] (events_of rs)) = moved {X = Vec Place Global} (Err x) c.whole-whole.result w c.records.result.now rs c.whole-whole.ensures c.records.ensures.these c.in_err-order.ensures.check in
+    let a : Answers {X = Vec LogPlace Global} (Err x) (first_wrong w (events_of rs) [] (events_of rs)) = moved {X = Vec LogPlace Global} (Err x) c.whole-whole.result w c.records.result.now rs c.whole-whole.ensures c.records.ensures.these c.in_err-order.ensures.check in
     let q = err_from_is_err_and c.from_residual.result c.from_residual.ensures.1 in
     let e : x ≡ error = sym q.2 ∙ same_err c.from_residual.result q.0 error q.1 is in
-    first_meant rs w error (answered_as (Vec Place Global) x (first_wrong w (events_of rs) [] (events_of rs)) error a e ne)
+    first_meant rs w error (answered_as (Vec LogPlace Global) x (first_wrong w (events_of rs) [] (events_of rs)) error a e ne)
 
 pub returns-in_err-order-clause-first : goal.returns-in_err-order-clause-first
 returns-in_err-order-clause-first c = λ error h.
     let rs = c.args.kept.records in
     let w = c.args.kept.whole in
     let x = c.in_err-order.field-0.0 in
-    let a : Answers {X = Vec Place Global} (Err x) (first_wrong w (events_of rs) [] (events_of rs)) = moved {X = Vec Place Global} (Err x) c.whole-whole.result w c.records.result.now rs c.whole-whole.ensures c.records.ensures.these c.in_err-order.ensures.check in
+    let a : Answers {X = Vec LogPlace Global} (Err x) (first_wrong w (events_of rs) [] (events_of rs)) = moved {X = Vec LogPlace Global} (Err x) c.whole-whole.result w c.records.result.now rs c.whole-whole.ensures c.records.ensures.these c.in_err-order.ensures.check in
     let q = err_from_is_err_and c.from_residual.result c.from_residual.ensures.1 in
     ⊎_elim (λ e. inl (err_to c.from_residual.result q.0 error q.1 (q.2 ∙ e))) (λ e. inr (err_to c.from_residual.result q.0 Memory q.1 (q.2 ∙ e)))
-    (refused_as (Vec Place Global) x (first_wrong w (events_of rs) [] (events_of rs)) error a (meant_first rs w error h))
+    (refused_as (Vec LogPlace Global) x (first_wrong w (events_of rs) [] (events_of rs)) error a (meant_first rs w error h))
 
 pub returns-clause-fits : goal.returns-clause-fits
 returns-clause-fits c =
@@ -103,7 +103,7 @@ new-requires c =
     let count = ap length c.records.ensures.these in
     record {
       few = omega (arith, count, c.in_ok-order.ensures.few, c.into_records.ensures.kept.few);
-      within = subst (λ (l : List Record). All (λ (p : Place). p.at < length l) order) same c.in_ok-order.ensures.within;
+      within = subst (λ (l : List Record). All (λ (p : LogPlace). p.at < length l) order) same c.in_ok-order.ensures.within;
       wide = c.in_ok-by_thread.ensures.wide;
       listed = λ t lt d. c.in_ok-by_thread.ensures.lists t lt d ∙ ap (thread_places t) c.deref.ensures.value;
       counts = subst (λ (l : List Record). CountUp (events_at l order)) (sym c.into_records.ensures.these) (part_counts rs w (events_at rs order) passes (moved_part c.records.result.now rs order c.records.ensures.these c.in_ok-order.ensures.part));

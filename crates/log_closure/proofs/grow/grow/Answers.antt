@@ -4,7 +4,7 @@ use Rattle.std.specs.BTreeSet.{contains}
 use Rattle.std.proofs.lemmas.List.Elements.{All-nil}
 use Rattle.logical_clock.specs.declared.event.Record.{Record}
 use Rattle.log_closure.specs.declared.tie.Tie.{Tie}
-use Rattle.log_closure.specs.declared.place.Place.{Place}
+use Rattle.log_closure.specs.declared.place.LogPlace.{LogPlace}
 use Rattle.std.proofs.Math.ListN.{replicate}
 use Rattle.log_closure.specs.declared.grow.Grown.{Grown}
 use Rattle.log_closure.specs.Tables.{IsGrown, tie_cmp}
@@ -22,10 +22,10 @@ loop-place-init c =
     let start : Grown = record { keys = c.new.result; lengths = replicate 256 0 } in
     let empty = sym c.new-part.ensures.items in
     record {
-      done = subst (λ (l : List Place). IsGrown start (events_at rs l)) empty (grown_none start none refl);
-      same = ap (λ (l : List Place). grow (events_at rs l) (events_at rs c.args.order.now)) empty;
-      within = subst (All (λ (p : Place). p.at < length rs)) empty (All-nil (λ (p : Place). p.at < length rs));
-      few = subst (λ (l : List Place). length l ≤ 0) empty (omega arith);
+      done = subst (λ (l : List LogPlace). IsGrown start (events_at rs l)) empty (grown_none start none refl);
+      same = ap (λ (l : List LogPlace). grow (events_at rs l) (events_at rs c.args.order.now)) empty;
+      within = subst (All (λ (p : LogPlace). p.at < length rs)) empty (All-nil (λ (p : LogPlace). p.at < length rs));
+      few = subst (λ (l : List LogPlace). length l ≤ 0) empty (omega arith);
     }
 
 pub loop-place-preserved : goal.loop-place-preserved
@@ -36,8 +36,8 @@ loop-place-preserved c =
     let r = c.in_ok-join.field-0 in
     let next : c.if-branch.part.items ≡ cond r (part ++ p ∷ []) part =
     elim c.if-branch.branch [
-      | then-branch+in_ok-push w ↦ ap (λ (v : Vec Place Global). v.items) w.part-is ∙ w.in_ok-push.ensures.items ∙ ap (λ (b : Bool). cond b (part ++ p ∷ []) part) (sym w.if-branch.true)
-      | else-branch w ↦ ap (λ (v : Vec Place Global). v.items) w.part-is ∙ ap (λ (b : Bool). cond b (part ++ p ∷ []) part) (sym w.if-branch.false)
+      | then-branch+in_ok-push w ↦ ap (λ (v : Vec LogPlace Global). v.items) w.part-is ∙ w.in_ok-push.ensures.items ∙ ap (λ (b : Bool). cond b (part ++ p ∷ []) part) (sym w.if-branch.true)
+      | else-branch w ↦ ap (λ (v : Vec LogPlace Global). v.items) w.part-is ∙ ap (λ (b : Bool). cond b (part ++ p ∷ []) part) (sym w.if-branch.false)
     ] in
     let within : p.at < length rs = c.requires c.loop-place.place-index no_place c.loop-place-test.true in
     let keys_are = c.as_slice.ensures ∙ ap (λ (x : Record). x.keys) (c.index-records-place.is ∙ at_any rs p.at c.index-records-place.result no_record within) in
@@ -45,6 +45,6 @@ loop-place-preserved c =
     record {
       done = subst (IsGrown c.join.new.self) (joined rs part c.if-branch.part.items p r next) did.1;
       same = c.loop-place.invariant.same ∙ grow_step rs c.args.order.now part c.if-branch.part.items c.loop-place.place-index no_place r c.loop-place-test.true did.0 next;
-      within = subst (All (λ (q : Place). q.at < length rs)) (sym next) (within_more rs part p r c.loop-place.invariant.within within);
-      few = subst (λ (l : List Place). length l ≤ c.loop-place.place-index + 1) (sym next) (few_more part p r c.loop-place.place-index c.loop-place.invariant.few);
+      within = subst (All (λ (q : LogPlace). q.at < length rs)) (sym next) (within_more rs part p r c.loop-place.invariant.within within);
+      few = subst (λ (l : List LogPlace). length l ≤ c.loop-place.place-index + 1) (sym next) (few_more part p r c.loop-place.place-index c.loop-place.invariant.few);
     }

@@ -1,6 +1,6 @@
 use Rattle.std.proofs.Common.{◌++◌}
 use Rattle.std.proofs.lemmas.Result.{err_from_is_err_and}
-use Rattle.byte_format.specs.Reading.{list_at, read_list, with_front}
+use Rattle.byte_format.specs.Reading.{list_at, read_list, with_prefix}
 use Rattle.byte_format.specs.Numbers.{fixed}
 use Rattle.log_codec.specs.Reading.{record_at}
 use Rattle.byte_format.proofs.Loops.{goes_on, is_done, reads_more, ends_after}
@@ -16,9 +16,9 @@ pub loop-preserved : goal.loop-preserved
 loop-preserved c =
     let item = record_at fixed c.args.thread in
     record {
-      reading = rw c.in_ok-push.ensures.items (goes_on item c.loop.records.items c.args.count c.loop.counter c.loop.rest.now c.in_ok-record.record c.in_ok-record.after.now (with_front c.args.records.now.items (list_at item c.args.count c.args.bytes.now)) c.loop-test.true c.in_ok-record.ensures c.loop.invariant.reading);
+      reading = rw c.in_ok-push.ensures.items (goes_on item c.loop.records.items c.args.count c.loop.counter c.loop.rest.now c.in_ok-record.record c.in_ok-record.after.now (with_prefix c.args.records.now.items (list_at item c.args.count c.args.bytes.now)) c.loop-test.true c.in_ok-record.ensures c.loop.invariant.reading);
       read = rw c.in_ok-push.ensures.items (reads_more item c.loop.records.items c.args.count c.loop.counter c.loop.rest.now c.in_ok-record.record c.in_ok-record.after.now (c.args.records.now.items ++ read_list item c.args.count c.args.bytes.now) c.loop-test.true c.in_ok-record.ensures c.loop.invariant.read);
     }
 
 pub returns : goal.returns
-returns c = let item = record_at fixed c.args.thread in is_done item c.loop.records.items c.args.count c.loop.counter c.loop.rest.now (with_front c.args.records.now.items (list_at item c.args.count c.args.bytes.now)) c.loop-test.false c.loop.invariant.reading
+returns c = let item = record_at fixed c.args.thread in is_done item c.loop.records.items c.args.count c.loop.counter c.loop.rest.now (with_prefix c.args.records.now.items (list_at item c.args.count c.args.bytes.now)) c.loop-test.false c.loop.invariant.reading

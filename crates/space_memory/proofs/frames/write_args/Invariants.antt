@@ -1,5 +1,5 @@
 use Rattle.std.proofs.Common.{◌≡◌, ℕ, drop}
-use Rattle.live_bytes.specs.Areas.{byte_at, extents}
+use Rattle.space_memory_bytes.specs.Areas.{byte_at, extents}
 use Rattle.space_memory.specs.Frames.{with_args}
 use Rattle.space_memory.proofs.frames.write_args.Given as goal
 

@@ -1,6 +1,6 @@
 use Rattle.std.proofs.Common.{ℕ, ◌+◌, ◌<◌, ◌≤◌, length, get_or}
-use Rattle.places.specs.declared.placed.Place.{Place}
-use Rattle.places.specs.declared.areas.TheConstants.{CONSTANTS, REPLAY_GLOBALS}
+use Rattle.memory_map.specs.declared.placed.Place.{Place}
+use Rattle.memory_map.specs.declared.areas.TheConstants.{CONSTANTS, REPLAY_GLOBALS}
 use Rattle.space_memory.proofs.objects.end_of_constants.Given as goal
 
 -- the objects so far end there, or before it

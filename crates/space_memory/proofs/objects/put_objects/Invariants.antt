@@ -1,5 +1,5 @@
 use Rattle.std.proofs.Common.{◌≡◌, ℕ, drop}
-use Rattle.live_bytes.specs.Areas.{byte_at, extents}
+use Rattle.space_memory_bytes.specs.Areas.{byte_at, extents}
 use Rattle.space_memory.specs.Objects.{byte_of}
 use Rattle.space_memory.proofs.objects.put_objects.Given as goal
 

@@ -1,5 +1,5 @@
 use Rattle.std.proofs.Common.{refl, sym}
-use Rattle.access_checks.specs.declared.refusal.Refusal.TheVariants.{NoKey, Size}
+use Rattle.space_memory_access.specs.declared.refusal.Refusal.TheVariants.{NoKey, Size}
 use Rattle.space_memory.specs.Releases.{HasKey, AllReturned, IsReleaseRefused}
 use Rattle.space_memory.proofs.Refused.{refused_so, refused_not, allowed_so, allowed}
 use Rattle.space_memory.proofs.Returned.{release_once, release_clash, size_none, all_none, no_key, size_out, size_committed, all_committed, prepared_whole}

@@ -6,7 +6,7 @@ use Rattle.thread_runs.proofs.steps.begun.Goals as goal
 
 pub begin-requires-clause-may : goal.begin-requires-clause-may
 begin-requires-clause-may c =
-    let l = laid c.args.scene.now.code c.args.scene.now.placed in
+    let l = laid c.args.example.now.code c.args.example.now.placed in
     let new : c.in_ok-thread.thread.config ≡ Done 0 = ap (λ t. t.config) c.in_ok-thread.ensures.new in
-    let call : IsCallOf l c.args.func c.args.args.now = c.if-is_call_of.ensures.yes c.args.scene.now.placed refl in
+    let call : IsCallOf l c.args.func c.args.args.now = c.if-is_call_of.ensures.yes c.args.example.now.placed refl in
     subst (λ d. MayBegin l d c.args.func c.args.args.now c.args.side false) (sym new) call

@@ -8,7 +8,7 @@ use Rattle.thread_runs.proofs.steps.give.Goals as goal
 
 pub feed-requires-clause-may : goal.feed-requires-clause-may
 feed-requires-clause-may c =
-    let l = laid c.args.scene.now.code c.args.scene.now.placed in
+    let l = laid c.args.example.now.code c.args.example.now.placed in
     let d = c.args.thread.now.config in
     let f = c.in-Call.func in
     let at : IsAtCall l d f = c.in-Call.ensures.call f refl in

@@ -1,4 +1,4 @@
-use Rattle.c_typed_table.specs.Tables.{object_at, value_at}
+use Rattle.c_types_nodes.specs.Tables.{object_at, value_at}
 use Rattle.c_lower_bodies.proofs.Weights.{object_weight, value_weight}
 use Rattle.c_lower_bodies.proofs.emitter.Emitter.+origins.Given as goal
 

@@ -1,7 +1,7 @@
 use Rattle.std.proofs.Common.{◌+◌}
-use Rattle.c_typed_table.specs.Parts.{values}
-use Rattle.c_typed_table.specs.Tables.{Table, callee_at, node_at, object_at, typed_of, value_at}
-use Rattle.c_typed_table.specs.declared.ids.NodeId.{NodeId}
+use Rattle.c_types_nodes.specs.Parts.{values}
+use Rattle.c_types_nodes.specs.Tables.{Table, callee_at, node_at, object_at, typed_of, value_at}
+use Rattle.c_types_nodes.specs.declared.ids.NodeId.{NodeId}
 use Rattle.c_lower_bodies.proofs.Weights.{callee_weight, object_weight, value_weight, values_weight, weight}
 use Rattle.c_lower_bodies.proofs.emitter.Emitter.+values.Given as goal
 

@@ -1,5 +1,5 @@
 use Rattle.std.proofs.Common.{arith}
-use Rattle.c_stacks.specs.Stacks.{held}
+use Rattle.c_machine_stack.specs.Stacks.{held}
 use Rattle.c_machine.proofs.Arguments.{uncovered_few}
 use Rattle.c_machine.proofs.position.Position.begin_up.Goals as goal
 

@@ -1,9 +1,9 @@
 use Rattle.std.proofs.Common.{◌≡◌, ap, ◌∙◌, List, Some}
-use Rattle.places.specs.declared.placed.Placed.{Placed as Places}
+use Rattle.memory_map.specs.declared.placed.Placed.{Placed as Places}
 use Rattle.c_code.specs.declared.activation.Waiting.{Waiting}
 use Rattle.c_code.specs.declared.instr.Instr.TheVariants.{Call as ByNumber}
 use Rattle.c_code.specs.Machine.{Laid, Config, Under, act}
-use Rattle.c_stacks.specs.Stacks.{held}
+use Rattle.c_machine_stack.specs.Stacks.{held}
 use Rattle.c_machine.specs.Positions.{laid}
 use Rattle.c_machine.specs.Moves.{at_call}
 use Rattle.c_machine.proofs.Halts.{if_some, if_none}

@@ -1,6 +1,6 @@
 use Rattle.std.proofs.Common.{ap, sym, ◌∙◌, true}
 use Rattle.c_code.specs.Machine.{Under}
-use Rattle.c_stacks.specs.Stacks.{held}
+use Rattle.c_machine_stack.specs.Stacks.{held}
 use Rattle.c_machine.specs.Positions.{laid}
 use Rattle.c_machine.proofs.Halts.{stops_at_pointer, bad_pointer}
 use Rattle.c_machine.proofs.position.Position.call_through.Goals as goal

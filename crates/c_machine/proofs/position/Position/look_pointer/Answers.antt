@@ -1,7 +1,7 @@
 use Rattle.std.proofs.Common.{ap, sym, ◌∙◌, ◌+◌, take, drop, Some}
 use Rattle.std.specs.Prelude.{reverse}
 use Rattle.c_code.specs.Machine.{to_callee}
-use Rattle.c_stacks.specs.Stacks.{held}
+use Rattle.c_machine_stack.specs.Stacks.{held}
 use Rattle.c_machine.specs.declared.wants.Want.TheVariants.{Fault}
 use Rattle.c_machine.specs.Positions.{laid}
 use Rattle.c_machine.specs.Wants.{shown}

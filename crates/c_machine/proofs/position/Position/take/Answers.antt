@@ -2,7 +2,7 @@ use Rattle.std.proofs.Common.{ap, ◌∙◌, ◌<◌, subst, arith, length, get_
 use Rattle.c_code.specs.declared.instr.Instr.TheVariants.{Push}
 use Rattle.c_code.specs.declared.instr.Push.TheVariants.{Number}
 use Rattle.c_code.specs.Fits.{values_of}
-use Rattle.c_stacks.specs.Stacks.{held, room_of}
+use Rattle.c_machine_stack.specs.Stacks.{held, room_of}
 use Rattle.c_machine.specs.Positions.{laid, config_of}
 use Rattle.c_machine.specs.Wants.{told}
 use Rattle.c_machine.specs.Heard.{ended}

@@ -1,4 +1,4 @@
-use Rattle.c_stacks.specs.Stacks.{held}
+use Rattle.c_machine_stack.specs.Stacks.{held}
 use Rattle.c_machine.proofs.Arguments.{uncovered_few}
 use Rattle.c_machine.proofs.position.Position.wait.Goals as goal
 

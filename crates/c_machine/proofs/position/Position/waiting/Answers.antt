@@ -1,5 +1,5 @@
 use Rattle.std.proofs.Common.{◌∙◌}
-use Rattle.c_stacks.specs.Stacks.{held}
+use Rattle.c_machine_stack.specs.Stacks.{held}
 use Rattle.c_machine.proofs.Counts.{counted_all}
 use Rattle.c_machine.proofs.position.Position.waiting.Goals as goal
 

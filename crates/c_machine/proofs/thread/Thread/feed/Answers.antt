@@ -1,5 +1,5 @@
 use Rattle.std.proofs.Common.{sym, subst, ap, ◌∙◌, arith}
-use Rattle.c_stacks.specs.Stacks.{room_of}
+use Rattle.c_machine_stack.specs.Stacks.{room_of}
 use Rattle.c_machine.specs.Positions.{laid, config}
 use Rattle.c_machine.specs.Wants.{told}
 use Rattle.c_machine.specs.Moves.{ThreadState, IsInside, MayFeed, FitsIn, ready, rested}

@@ -1,7 +1,7 @@
 use Rattle.std.proofs.Common.{Some, sym, subst}
-use Rattle.c_type_table.specs.Tables.{type_at, types_of}
-use Rattle.c_typing.specs.Sources.{declared_again}
-use Rattle.c_environment.specs.Reading.{meaning_by}
+use Rattle.c_types_table.specs.Tables.{type_at, types_of}
+use Rattle.c_types_rules.specs.Sources.{declared_again}
+use Rattle.c_types_environment.specs.Reading.{meaning_by}
 use Rattle.c_types.specs.States.{IsFunctionPlace, Steps, program_of}
 use Rattle.c_types.proofs.FunctionSteps.{another_sort, function_again}
 use Rattle.c_types.proofs.declarations.Declarations.declared_again.Goals as goal

@@ -1,10 +1,10 @@
 use Rattle.std.proofs.Common.{◌≡◌, Err, ap, ◌∙◌, subst}
 use Rattle.std.proofs.lemmas.Result.{err_from_is_err_and}
-use Rattle.c_type_table.specs.Tables.{type_at}
-use Rattle.c_expressions.proofs.Kept.{type_inside, type_stays}
+use Rattle.c_types_table.specs.Tables.{type_at}
+use Rattle.c_types_expressions.proofs.Kept.{type_inside, type_stays}
 use Rattle.c_types.specs.States.{Follows, program_of}
 use Rattle.c_types.specs.Pieces.{defined_of}
-use Rattle.c_types.proofs.FunctionSteps.{body_behind, declaration_stops, members_behind, nothing_more, value_behind}
+use Rattle.c_types.proofs.FunctionSteps.{body_after, declaration_stops, members_after, nothing_more, value_after}
 use Rattle.c_types.proofs.Naming.{IsProgramOf}
 use Rattle.c_types.proofs.Parts.{body_of_rest, decl_inside, rest_of}
 use Rattle.c_types.proofs.Stepping.{failed_so}
@@ -39,12 +39,12 @@ returns-in-None c =
 pub returns-in-Value : goal.returns-in-Value
 returns-in-Value c =
     let d = c.args.self.now in
-    value_behind c.args.tree.now c.args.id c.decl-decl.result.now c.decl-decl.ensures.node d c.function_declared.new.self (type_at d.env.table.types c.args.ty) c.name_of.result.now c.name_of.ensures c.in_ok-place.place c.in_ok-place.ensures c.in-Value.field-0 c.in-Value.is
+    value_after c.args.tree.now c.args.id c.decl-decl.result.now c.decl-decl.ensures.node d c.function_declared.new.self (type_at d.env.table.types c.args.ty) c.name_of.result.now c.name_of.ensures c.in_ok-place.place c.in_ok-place.ensures c.in-Value.field-0 c.in-Value.is
 
 pub returns-in-Members : goal.returns-in-Members
 returns-in-Members c =
     let d = c.args.self.now in
-    members_behind c.args.tree.now c.args.id c.decl-decl.result.now c.decl-decl.ensures.node d c.function_declared.new.self (type_at d.env.table.types c.args.ty) c.name_of.result.now c.name_of.ensures c.in_ok-place.place c.in_ok-place.ensures c.in-Members.field-0 c.in-Members.is
+    members_after c.args.tree.now c.args.id c.decl-decl.result.now c.decl-decl.ensures.node d c.function_declared.new.self (type_at d.env.table.types c.args.ty) c.name_of.result.now c.name_of.ensures c.in_ok-place.place c.in_ok-place.ensures c.in-Members.field-0 c.in-Members.is
 
 pub returns-in-Body : goal.returns-in-Body
 returns-in-Body c =
@@ -52,6 +52,6 @@ returns-in-Body c =
     let m = c.function_declared.new.self in
     let new = c.function_defined.new.self in
     let same : type_at m.env.table.types c.args.ty ≡ type_at d.env.table.types c.args.ty = type_stays d.env.table m.env.table c.args.ty c.in_ok-place.ensures.kept.numbers c.requires.ty in
-    body_behind c.args.tree.now c.args.id c.decl-decl.result.now c.decl-decl.ensures.node d m (type_at d.env.table.types c.args.ty) c.name_of.result.now c.name_of.ensures c.in_ok-place.place c.in_ok-place.ensures c.in-Body.block c.in-Body.is
+    body_after c.args.tree.now c.args.id c.decl-decl.result.now c.decl-decl.ensures.node d m (type_at d.env.table.types c.args.ty) c.name_of.result.now c.name_of.ensures c.in_ok-place.place c.in_ok-place.ensures c.in-Body.block c.in-Body.is
     new c.function_defined.result
     (λ y b z s. subst (λ t. Follows m new (defined_of m.env.env.tags (program_of m) c.in_ok-place.place t y b) c.function_defined.result) same (c.function_defined.ensures y b z s))

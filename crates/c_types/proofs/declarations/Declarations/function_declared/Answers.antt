@@ -1,6 +1,6 @@
 use Rattle.std.proofs.Common.{None, Some, sym, ap, ◌∙◌}
-use Rattle.c_type_table.specs.Tables.{type_at, types_of}
-use Rattle.c_environment.specs.Reading.{maybe_by, meaning_by}
+use Rattle.c_types_table.specs.Tables.{type_at, types_of}
+use Rattle.c_types_environment.specs.Reading.{maybe_by, meaning_by}
 use Rattle.c_types.proofs.FunctionSteps.{allowed_function, reserved_function}
 use Rattle.c_types.proofs.declarations.Declarations.function_declared.Goals as goal
 

@@ -4,11 +4,11 @@ use Rattle.std.specs.List.{All}
 use Rattle.std.proofs.lemmas.List.{with_items_is}
 use Rattle.std.proofs.lemmas.Result.{err_from_is_err_and}
 use Rattle.c_syntax.specs.Stands.{StandParts}
-use Rattle.c_type_table.specs.Tables.{type_at}
-use Rattle.c_typing.specs.Sources.{body_at, is_main, with_body}
-use Rattle.c_typing.specs.Expressions.{declared_name}
-use Rattle.c_typed_program.specs.Declarations.{IsFunction, body_in, function_in}
-use Rattle.c_expressions.specs.Walks.{AreParts}
+use Rattle.c_types_table.specs.Tables.{type_at}
+use Rattle.c_types_rules.specs.Sources.{body_at, is_main, with_body}
+use Rattle.c_types_rules.specs.Expressions.{declared_name}
+use Rattle.c_types_program.specs.Declarations.{IsFunction, body_in, function_in}
+use Rattle.c_types_expressions.specs.Walks.{AreParts}
 use Rattle.c_types.specs.States.{program_of}
 use Rattle.c_types.proofs.Followed.{going_on}
 use Rattle.c_types.proofs.FunctionSteps.{another_name, body_given, body_stops, body_twice, main_broken, of_main}

@@ -1,8 +1,8 @@
 use Rattle.std.proofs.Common.{◌<◌, ◌++◌, ◌∷◌, [], ℕ, List, length, Err, sym, ap, ◌∙◌, refl, subst}
 use Rattle.std.proofs.lemmas.Result.{err_from_is_err_and}
-use Rattle.c_typing.specs.Environment.{declarable}
-use Rattle.c_operators.specs.declared.error.TypeError.TheVariants.{Memory}
-use Rattle.c_typed_program.specs.declared.global.Global.{Global}
+use Rattle.c_types_rules.specs.Environment.{declarable}
+use Rattle.c_types_operators.specs.declared.error.TypeError.TheVariants.{Memory}
+use Rattle.c_types_program.specs.declared.global.Global.{Global}
 use Rattle.c_types.proofs.Followed.{going_on}
 use Rattle.c_types.proofs.GlobalSteps.{global_added, global_value_stops, not_complete, not_declared}
 use Rattle.c_types.proofs.Naming.{IsProgramOf}

@@ -1,7 +1,7 @@
 use Rattle.std.proofs.Common.{Err, sym, ap, ◌∙◌, subst}
 use Rattle.std.proofs.lemmas.Result.{err_from_is_err_and}
 use Rattle.c_syntax.specs.Stands.{StandAnnots}
-use Rattle.c_expressions.specs.Walks.{AreAnnots}
+use Rattle.c_types_expressions.specs.Walks.{AreAnnots}
 use Rattle.c_types.proofs.Followed.{going_on}
 use Rattle.c_types.proofs.Naming.{IsProgramOf, annotations_stop, sound_two, type_goes_on, type_stops}
 use Rattle.c_types.proofs.Parts.{annots_of, decl_inside}

@@ -1,11 +1,11 @@
 use Rattle.std.proofs.Common.{◌+◌, ◌++◌, ◌∷◌, [], ℕ, List, None, Err, ap, ◌∙◌, refl}
 use Rattle.std.proofs.lemmas.Result.{err_from_is_err_and}
-use Rattle.c_typing.specs.Environment.{FunctionNamed, declarable}
-use Rattle.c_type_table.specs.Tables.{type_at}
-use Rattle.c_operators.specs.declared.error.TypeError.TheVariants.{Memory}
+use Rattle.c_types_rules.specs.Environment.{FunctionNamed, declarable}
+use Rattle.c_types_table.specs.Tables.{type_at}
+use Rattle.c_types_operators.specs.declared.error.TypeError.TheVariants.{Memory}
 use Rattle.c_types.specs.States.{IsFunctionPlace}
 use Rattle.c_builtins.specs.Table.{first_source_function}
-use Rattle.c_typed_program.specs.declared.function.Function.{Function}
+use Rattle.c_types_program.specs.declared.function.Function.{Function}
 use Rattle.c_types.proofs.Followed.{going_on}
 use Rattle.c_types.proofs.FunctionSteps.{function_new}
 use Rattle.c_types.proofs.Pushed.{agreed, may_be_declared, no_rule_here, with_one}

@@ -1,10 +1,10 @@
 use Rattle.std.proofs.Common.{◌≡◌, ◌↔◌, Bool, ℕ, ◌-◌, IsTrue, List, Ok, Err, refl, sym, ap, ◌∙◌, subst}
 use Rattle.c_builtins.specs.Table.{first_source_function}
-use Rattle.c_type_table.specs.declared.ty.Ty.{Ty}
-use Rattle.c_type_table.specs.Tables.{type_at}
-use Rattle.c_typing.specs.Checked.{keep}
-use Rattle.c_operators.specs.Answers.{Agrees}
-use Rattle.c_operators.specs.declared.error.TypeError.TheVariants.{Rule}
+use Rattle.c_types_table.specs.declared.ty.Ty.{Ty}
+use Rattle.c_types_table.specs.Tables.{type_at}
+use Rattle.c_types_rules.specs.Checked.{keep}
+use Rattle.c_types_operators.specs.Answers.{Agrees}
+use Rattle.c_types_operators.specs.declared.error.TypeError.TheVariants.{Rule}
 use Rattle.c_types.proofs.FunctionSteps.{same_as_test}
 use Rattle.c_types.proofs.declarations.Declarations.same_function.Goals as goal
 

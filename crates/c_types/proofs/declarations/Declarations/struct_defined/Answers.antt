@@ -1,6 +1,6 @@
 use Rattle.std.proofs.Common.{Err, sym, ap, ◌∙◌}
 use Rattle.std.proofs.lemmas.Result.{err_from_is_err_and}
-use Rattle.c_operators.specs.declared.error.TypeError.TheVariants.{Memory}
+use Rattle.c_types_operators.specs.declared.error.TypeError.TheVariants.{Memory}
 use Rattle.c_types.proofs.Followed.{going_on}
 use Rattle.c_types.proofs.Naming.{IsProgramOf}
 use Rattle.c_types.proofs.StructSteps.{not_next, reserved_tag, sound_next, struct_next}

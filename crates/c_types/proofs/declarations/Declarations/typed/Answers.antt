@@ -1,6 +1,6 @@
 use Rattle.std.proofs.Common.{ap, ◌∙◌, refl}
-use Rattle.c_type_table.specs.declared.ty.Ty.TheVariants as nodes
-use Rattle.c_type_table.specs.Tables.{type_at, types_of}
+use Rattle.c_types_table.specs.declared.ty.Ty.TheVariants as nodes
+use Rattle.c_types_table.specs.Tables.{type_at, types_of}
 use Rattle.c_types.specs.States.{program_of}
 use Rattle.c_types.proofs.Naming.{IsProgramOf, made_there, typed_function, typed_global}
 use Rattle.c_types.proofs.Stepping.{steps_as}

@@ -1,5 +1,5 @@
 use Rattle.std.proofs.Common.{sym, subst}
-use Rattle.c_typed_program.specs.Programs.{IsProgram}
+use Rattle.c_types_program.specs.Programs.{IsProgram}
 use Rattle.c_types.proofs.Sourced.{is_program}
 use Rattle.c_types.proofs.source.TypedSource.into_program.Goals as goal
 

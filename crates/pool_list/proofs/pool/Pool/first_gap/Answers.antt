@@ -10,7 +10,7 @@ loop-at-init c = passed_none _ _ c.self.invariant.base_aligned (rw c.deref-block
 pub overflow_sub-block : goal.overflow_sub-block
 overflow_sub-block c = (left_at _ _ _ _ c.loop-at.invariant c.loop-at-test.true).0
 
--- the block at the walk's place begins behind n bytes
+-- the block at the walk's place begins after n bytes
 pub returns-then-block-addr-clause-gap : goal.returns-then-block-addr-clause-gap
 returns-then-block-addr-clause-gap c =
     let b = get_or c.deref-block-items.result.now c.loop-at.at no_block in
@@ -40,11 +40,11 @@ loop-at-preserved c =
     let ends : (c.self.inside.base + c.self.inside.size) % 16 ≡ 0 = omega (arith, c.self.invariant.base_aligned, c.self.invariant.size_aligned) in
     let short : b.addr < c.loop-at.addr + c.args.n = omega (arith, lie.0) in
     let aligned : next % 16 ≡ 0 = omega (arith, c.next_multiple_of-addr.ensures.value) in
-    let behind : end_of b ≤ next = omega (arith, c.next_multiple_of-addr.ensures.value) in
+    let following : end_of b ≤ next = omega (arith, c.next_multiple_of-addr.ensures.value) in
     let near : next < end_of b + 16 = omega (arith, c.next_multiple_of-addr.ensures.value) in
-    passed_more _ _ _ _ c.loop-at.invariant next c.loop-at-test.true ends short aligned behind near
+    passed_more _ _ _ _ c.loop-at.invariant next c.loop-at-test.true ends short aligned following near
 
--- n bytes fit behind the last block
+-- n bytes fit after the last block
 pub returns-then-end-addr-clause-gap : goal.returns-then-end-addr-clause-gap
 returns-then-end-addr-clause-gap c =
     let all : length c.deref-block-items.result.now ≤ c.loop-at.at = c.loop-at-test.false in

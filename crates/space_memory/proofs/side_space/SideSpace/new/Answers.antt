@@ -1,7 +1,7 @@
 use Rattle.std.proofs.Common.{◌++◌, ◌∷◌, [], List, map, ap, sym, ◌∙◌, arith}
 use Rattle.std.specs.List.{range_with_len}
 use Rattle.std.proofs.lemmas.List.FromFn.{map-range_with_len_more}
-use Rattle.call_stacks.specs.Frames.{StackState}
+use Rattle.space_memory.specs.StackFrames.{StackState}
 use Rattle.space_memory.specs.Sides.{fresh_stack}
 use Rattle.space_memory.proofs.side_space.SideSpace.new.Goals as goal
 

@@ -1,6 +1,6 @@
 use Rattle.std.proofs.Common.{◌≡◌, ◌≤◌, map}
 use Rattle.std.specs.List.{range_with_len}
-use Rattle.places.specs.declared.areas.TheConstants.{THREADS}
+use Rattle.memory_map.specs.declared.areas.TheConstants.{THREADS}
 use Rattle.space_memory.specs.Sides.{fresh_stack}
 use Rattle.space_memory.proofs.side_space.SideSpace.new.Given as goal
 

@@ -1,5 +1,5 @@
 use Rattle.std.proofs.Common.{◌≡◌, ◌↔◌, Err, subst}
-use Rattle.access_checks.specs.Accesses.{IsRefused}
+use Rattle.space_memory_access.specs.Accesses.{IsRefused}
 use Rattle.space_memory.specs.Spaces.{SpaceState}
 use Rattle.space_memory.proofs.spaces.Spaces.check.Goals as goal
 

@@ -1,5 +1,5 @@
-use Rattle.live_bytes.specs.Areas.{extents}
-use Rattle.call_stacks.specs.Frames.{stack_of}
+use Rattle.space_memory_bytes.specs.Areas.{extents}
+use Rattle.space_memory.specs.StackFrames.{stack_of}
 use Rattle.space_memory.specs.Sides.{stack_range}
 use Rattle.space_memory.specs.Spaces.{side_of}
 use Rattle.space_memory.proofs.Ranges.{within_lies}

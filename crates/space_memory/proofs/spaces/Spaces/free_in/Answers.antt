@@ -1,4 +1,4 @@
-use Rattle.live_bytes.specs.Areas.{extents}
+use Rattle.space_memory_bytes.specs.Areas.{extents}
 use Rattle.space_memory.specs.Spaces.{side_of}
 use Rattle.space_memory.proofs.Kept.{housed_side, housed_blocks, kept_side, kept_along}
 use Rattle.space_memory.proofs.spaces.Spaces.free_in.Goals as goal

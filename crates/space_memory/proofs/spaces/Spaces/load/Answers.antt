@@ -1,5 +1,5 @@
 use Rattle.std.proofs.Common.{ℕ, false}
-use Rattle.access_checks.specs.Accesses.{IsRefused}
+use Rattle.space_memory_access.specs.Accesses.{IsRefused}
 use Rattle.space_memory.proofs.Refused.{carried}
 use Rattle.space_memory.proofs.spaces.Spaces.load.Goals as goal
 

@@ -1,9 +1,9 @@
 use Rattle.std.proofs.Common.{◌≡◌, List, [], All, sym, subst, ap, ◌∙◌, arith}
-use Rattle.places.specs.declared.placed.Place.{Place}
-use Rattle.places.specs.declared.areas.TheConstants.{REPLAY_STACKS, REPLAY_POOL, SYSTEM_STACKS, SYSTEM_POOL}
-use Rattle.live_bytes.specs.Areas.{extents}
-use Rattle.held_regions.specs.declared.holder.Region.{Region}
-use Rattle.held_regions.specs.Held.{HeldState}
+use Rattle.memory_map.specs.declared.placed.Place.{Place}
+use Rattle.memory_map.specs.declared.areas.TheConstants.{REPLAY_STACKS, REPLAY_POOL, SYSTEM_STACKS, SYSTEM_POOL}
+use Rattle.space_memory_bytes.specs.Areas.{extents}
+use Rattle.space_memory_access.specs.declared.holder.Region.{Region}
+use Rattle.space_memory_access.specs.Held.{HeldState}
 use Rattle.space_memory.specs.declared.sides.Sides.{Sides}
 use Rattle.space_memory.specs.Sides.{SideState, fresh_side}
 use Rattle.space_memory.proofs.Kept.{kept_along}

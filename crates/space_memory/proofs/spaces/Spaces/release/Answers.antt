@@ -1,9 +1,9 @@
 use Rattle.std.proofs.Common.{◌≡◌, ◌↔◌, List, All, Result, Err, sym, subst}
 use Rattle.std.proofs.lemmas.Result.{err_from_is_err_and}
-use Rattle.held_regions.specs.declared.holder.OpenCall.{OpenCall}
-use Rattle.held_regions.specs.declared.holder.Region.{Region}
-use Rattle.held_regions.specs.Held.{innermost}
-use Rattle.access_checks.specs.declared.refusal.Refusal.{Refusal}
+use Rattle.space_memory_access.specs.declared.holder.OpenCall.{OpenCall}
+use Rattle.space_memory_access.specs.declared.holder.Region.{Region}
+use Rattle.space_memory_access.specs.Held.{innermost}
+use Rattle.space_memory_access.specs.declared.refusal.Refusal.{Refusal}
 use Rattle.space_memory.specs.Spaces.{IsWhole}
 use Rattle.space_memory.specs.Releases.{IsReleaseRefused}
 use Rattle.space_memory.proofs.Kept.{kept_regions, whole_without_closed}

@@ -1,6 +1,6 @@
 use Rattle.std.proofs.Common.{List, All, sym, subst}
-use Rattle.held_regions.specs.declared.holder.Region.{Region}
-use Rattle.held_regions.specs.Held.{innermost}
+use Rattle.space_memory_access.specs.declared.holder.Region.{Region}
+use Rattle.space_memory_access.specs.Held.{innermost}
 use Rattle.space_memory.specs.Spaces.{IsWhole}
 use Rattle.space_memory.proofs.Kept.{kept_regions, whole_without_call}
 use Rattle.space_memory.proofs.spaces.Spaces.undo.Goals as goal

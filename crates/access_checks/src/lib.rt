@@ -1,9 +1,0 @@
-//! The tests of an access to memory, in their order, and why an access or a call is refused.
-#![tactic(auto)]
-
-mod access;
-mod refusal;
-
-pub use access::{Access, check_access, is_plain_word};
-pub use refusal::Refusal;
-

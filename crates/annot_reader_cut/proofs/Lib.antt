@@ -1,0 +1,6 @@
+mod Listed
+mod Headed
+mod Noting
+mod Meant
+mod Finding
+mod Saying

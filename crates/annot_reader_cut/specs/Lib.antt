@@ -1,0 +1,6 @@
+pub mod Interface
+pub mod Errors
+pub mod Headings
+pub mod Builtins
+pub mod Reading
+pub mod Interfaces

@@ -1,0 +1,40 @@
+//! The declarations of a source, one after another.
+
+ghost use Rattle.std.specs.Prelude.{◌≡◌, OnOk};
+ghost use Rattle.std.specs.List.{All};
+ghost use Rattle.c_scopes.specs.Scopes.{innermost};
+ghost use Rattle.c_syntax.specs.Stands.{StandDecls};
+ghost use Rattle.c_syntax.specs.Syntax.{Decls};
+ghost use Rattle.c_types_rules.specs.Sources.{Program};
+ghost use Rattle.annot_reader_rules.specs.Cuts.{all_noted};
+ghost use Rattle.annot_reader_bare.specs.Answers.{Tells};
+ghost use Rattle.annot_reader_functions.specs.Parameters.{AreDecls};
+ghost use Rattle.annot_reader_parameters.specs.Rules.{Stays};
+ghost use Rattle.annot_reader_cut.specs.Headings.{AreHeadings, IsHeading};
+ghost use Rattle.annot_reader_cut.specs.Reading.{IsReading, nothing_read};
+
+use crate::reading::Reading;
+use crate::source::Source;
+use annot_reader_bare::AnnotationError;
+use annot_reader_parameters::TypeRules;
+use c_syntax::DeclId;
+use std::alloc::Global;
+
+/// What declarations of a source say. `Rule` names the first rule of annotations that they break, with the offset of its node.
+pub(crate) fn read<T: TypeRules>(
+    alloc: Global,
+    rules: &mut T,
+    source: &Source,
+    ids: &[DeclId],
+) -> Result<Reading, AnnotationError>
+    requires ids { AreDecls source.now.tree.now ids.now }
+    requires numbers { All (IsHeading (T.declared rules.old)) source.now.functions.now }
+    ensures agrees { (ds : Decls) (p : Program) → StandDecls source.now.tree.now ids.now ds → AreHeadings (T.declared rules.old) source.now.functions.now p.functions → innermost (T.declared rules.old).env.scopes ≡ p.names → Tells (IsReading source.now.cut.now) (all_noted (T.declared rules.old).env p ds nothing_read) result }
+    ensures kept { OnOk result (Stays (T.declared rules.old) (T.declared rules.new)) }
+{
+    let mut reading = Reading::new(alloc);
+    for id in ids {
+        reading.note(alloc, rules, source, *id)?;
+    }
+    Ok(reading)
+}

@@ -1,0 +1,27 @@
+use Rattle.std.proofs.Common.{Err, sym, subst}
+use Rattle.c_syntax.specs.Stands.{StandAnnots, StandParts}
+use Rattle.c_syntax.specs.Syntax.{Declare}
+use Rattle.c_types_rules.specs.Checked.{◌>>◌}
+use Rattle.annot_reader_rules.specs.Misplaced.{bare_annots, bare_parts, bare_rest}
+use Rattle.annot_reader_rules.specs.Functions.{result_parts}
+use Rattle.annot_reader_bare.specs.Answers.{Unsaid}
+use Rattle.annot_reader_bare.proofs.Composing.{goes_on, raised, stops_there}
+use Rattle.annot_reader_functions.proofs.first.bare_outside.Goals as goal
+
+pub returns-in_err-bare_parts : goal.returns-in_err-bare_parts
+returns-in_err-bare_parts c (Declare from an b ps n r) h =
+    let N = c.args.tree.now in
+    let e = c.in_err-bare_parts.field-0.0 in
+    let shown = c.decl_node-decl.ensures.shows (Declare from an b ps n r) h in
+    let parts = bare_parts (result_parts ps) in
+    raised Unsaid (bare_annots an >> (parts >> bare_rest r)) c.from_residual-in_err-bare_parts.result e c.from_residual-in_err-bare_parts.ensures.1
+    (goes_on Unsaid Unsaid (bare_annots an) (parts >> bare_rest r) tt (Err e) (c.in_ok-bare_annots.ensures an (subst (λ vs. StandAnnots N vs an) (sym c.as_slice-2.ensures.items) shown.1))
+    (stops_there Unsaid Unsaid parts (bare_rest r) e (c.in_err-bare_parts.ensures (result_parts ps) (c.split_parts.ensures.outer N ps (subst (λ vs. StandParts N vs ps) (sym c.as_slice.ensures.items) shown.3)))))
+
+pub returns : goal.returns
+returns c (Declare from an b ps n r) h =
+    let N = c.args.tree.now in
+    let shown = c.decl_node-decl.ensures.shows (Declare from an b ps n r) h in
+    let parts = bare_parts (result_parts ps) in
+    goes_on Unsaid Unsaid (bare_annots an) (parts >> bare_rest r) tt c.bare_rest.result (c.in_ok-bare_annots.ensures an (subst (λ vs. StandAnnots N vs an) (sym c.as_slice-2.ensures.items) shown.1))
+    (goes_on Unsaid Unsaid parts (bare_rest r) tt c.bare_rest.result (c.in_ok-bare_parts.ensures (result_parts ps) (c.split_parts.ensures.outer N ps (subst (λ vs. StandParts N vs ps) (sym c.as_slice.ensures.items) shown.3))) (c.bare_rest.ensures r shown.5))

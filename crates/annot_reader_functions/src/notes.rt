@@ -1,0 +1,14 @@
+//! What is said of a function.
+
+use annot_reader_words::Annots;
+use c_syntax::Seq;
+
+/// What the annotations of a function and of its parameters say, where a cut is looked for.
+#[derive(Drop)]
+pub struct FunctionNotes {
+    /// It is in the interface of the cut.
+    pub in_cut: bool,
+    pub annots: Annots,
+    /// The mutexes that its callers hold, in order, each a value of int.
+    pub holds: Seq<i64>,
+}

@@ -1,4 +1,0 @@
-mod FunctionTypes
-mod Headings
-mod Typed
-mod Staying

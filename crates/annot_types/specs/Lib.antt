@@ -1,3 +1,0 @@
-pub mod Errors
-pub mod Seen
-pub mod Sources

@@ -1,8 +1,0 @@
-use Rattle.std.proofs.Common.{List, reverse, ap}
-use Rattle.c_depth.specs.declared.chain.Chain.{Chain}
-use Rattle.c_depth.specs.Seen.{seen}
-use Rattle.c_depth.proofs.chains.Chains.new.Goals as goal
-
-pub returns : goal.returns
-unfolding seen
-returns c = ap (λ (v : List Chain). reverse v) c.new.ensures.items

@@ -1,8 +1,0 @@
-use Rattle.c_environment.proofs.Kept.{sound_kept, table_grown}
-use Rattle.c_environment.proofs.environment.Environment.builtin_called.Goals as goal
-
-pub invariant_of-self : goal.invariant_of-self
-invariant_of-self c = sound_kept c.self.inside.table.types c.builtin_called.new.table.types c.self.inside.structs c.self.inside.scopes c.builtin_called.ensures.kept.types c.self.invariant
-
-pub returns-clause-kept : goal.returns-clause-kept
-returns-clause-kept c = table_grown c.self.inside.table c.builtin_called.new.table c.self.inside.tags c.self.inside.structs c.self.inside.scopes c.self.inside.found_large c.args.self.now c.self.view_is c.self.invariant c.builtin_called.ensures.kept

@@ -1,8 +1,0 @@
-use Rattle.c_expressions.proofs.Kept.{type_stays, value_is}
-use Rattle.c_expressions.proofs.Operands.{cast_made}
-use Rattle.c_expressions.proofs.made.cast.Goals as goal
-
-pub returns-clause-agrees : goal.returns-clause-agrees
-returns-clause-agrees c =
-    let k = c.in_ok-value.ensures.kept in
-    cast_made _ _ _ _ _ _ _ (type_stays _ _ _ k.numbers c.requires.ty) (value_is _ _ _ c.in_ok-value.ensures.value) c.cast.ensures.agrees

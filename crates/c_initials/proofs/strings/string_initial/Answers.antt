@@ -1,5 +1,0 @@
-use Rattle.c_initials.proofs.Starts.{expr_inside}
-use Rattle.c_initials.proofs.strings.string_initial.Goals as goal
-
-pub expr-expr-requires : goal.expr-expr-requires
-expr-expr-requires c = record { inside = expr_inside c.args.tree.now c.args.id c.requires.id }

@@ -1,4 +1,0 @@
-pub mod Found
-pub mod Sized
-pub mod Placing
-pub mod Numbers

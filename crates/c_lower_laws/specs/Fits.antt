@@ -1,0 +1,39 @@
+-- What holds of programs that keep the rules of types and their limits.
+use Rattle.std.specs.Prelude.{◌≡◌, ℕ, ◌+◌, ◌^◌, ◌<◌, ◌≤◌, List, length, Some}
+use Rattle.marks.specs.Places.{builtin_count}
+use Rattle.c_code.specs.declared.code.FuncInfo.{FuncInfo}
+use Rattle.c_code.specs.Frames.{params_end}
+use Rattle.c_code.specs.Machine.{Flat, func_of}
+use Rattle.c_code.specs.Valid.{most_params}
+use Rattle.c_types_model.specs.Types.{CType}
+use Rattle.c_builtins.specs.declared.builtin.Builtin.{Builtin}
+use Rattle.c_builtins.specs.Table.{number_of}
+use Rattle.c_types_rules.specs.TypedTree.{Body}
+use Rattle.c_types_rules.specs.Limits.{frame_size}
+use Rattle.c_semantics.specs.Context.{Source, body_of, param_shapes, type_of}
+use Rattle.c_lower_rules.specs.Code.{making}
+use Rattle.c_lower_rules.specs.Heights.{StatementCalls}
+use Rattle.c_types_program.specs.Declarations.{Declared}
+use Rattle.c_lower_layout.specs.Sources.{sig_in, source_in}
+
+-- flat code knows each function of a source and each builtin, and of a function its parameters and the number of its type,
+-- which no other type has
+pub record Knows (s : Source) (code : Flat) (sig : CType → ℕ) : Type 0 where
+  pub each : (f : ℕ) (info : FuncInfo) → func_of code f ≡ Some info → (info.params ≡ param_shapes s f) × (info.sig ≡ sig (type_of s f))
+  pub tells : (f : ℕ) (info : FuncInfo) (t : CType) → func_of code f ≡ Some info → info.sig ≡ sig t → type_of s f ≡ t
+  pub builtins : (b : Builtin) → (info : FuncInfo) × (func_of code (number_of b) ≡ Some info)
+  pub sources : (k : ℕ) → k < length s.program.functions → (info : FuncInfo) × (func_of code (builtin_count + k) ≡ Some info)
+
+-- in a body each call has one value per parameter, and its frame begins with its parameters
+pub record IsBodyFit (s : Source) (sig : CType → ℕ) (f : ℕ) (b : Body) : Type 0 where
+  pub calls : (code : Flat) → Knows s code sig → StatementCalls b.statements (making s code sig b)
+  pub holds : params_end 0 (param_shapes s f) ≤ frame_size s.program b.locals
+
+pub record IsFitSource (s : Source) (sig : CType → ℕ) : Type 0 where
+  pub bodies : (f : ℕ) (b : Body) → body_of s f ≡ Some b → IsBodyFit s sig f b
+  pub few_params : (f : ℕ) → length (param_shapes s f) ≤ most_params
+  pub few_functions : builtin_count + length s.program.functions ≤ 2 ^ 16
+
+-- what the rules of types and their limits give
+abbrev pub IsFit : Declared → Type 0
+IsFit p = IsFitSource (source_in p) (sig_in p)

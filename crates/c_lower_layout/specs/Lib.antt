@@ -1,0 +1,4 @@
+pub mod Sources
+pub mod Indexed
+pub mod Sigs
+pub mod Offsets

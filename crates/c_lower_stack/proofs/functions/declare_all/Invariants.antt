@@ -1,0 +1,10 @@
+use Rattle.std.proofs.Common.{drop}
+use Rattle.c_syntax.specs.Stands.{StandDecls, StandsDecl}
+use Rattle.c_syntax.specs.Syntax.{Decls}
+use Rattle.c_lower_stack.specs.Names.{with_decl}
+use Rattle.c_lower_stack.proofs.Lists.{decls_of}
+use Rattle.c_lower_stack.proofs.Rests.{Left, no_count}
+use Rattle.c_lower_stack.proofs.functions.declare_all.Given as goal
+
+abbrev pub invariant-loop-id : goal.invariant-loop-id
+invariant-loop-id l = (ds : Decls) → StandDecls l.tree l.ids ds → Left (StandsDecl l.tree) no_count with_decl (drop l.id-index l.ids) (decls_of ds) l.fn.scopes l.scopes 0

@@ -1,0 +1,18 @@
+use Rattle.std.proofs.Common.{◌≡◌, ◌+◌, ◌-◌, ◌∷◌, length, take, get_or, arith, ap, sym, ◌∙◌}
+use Rattle.std.specs.Prelude.{reverse}
+use Rattle.c_machine_stack.proofs.Tops.{two_are_first}
+use Rattle.c_machine_stack.proofs.stack.Stack.top_two.Goals as goal
+
+pub returns-clause-some : goal.returns-clause-some
+returns-clause-some g c =
+    let xs = c.args.self.now.items.items in
+    let n = c.len-len.result - 2 in
+    let a = c.index.result.now in
+    let b = c.index-2.result.now in
+    let long : length xs ≡ n + 2 = omega (arith, c.args.self.now.items.ok.0) in
+    let up : c.len-len.result - 1 ≡ n + 1 = omega arith in (
+      reverse (take n xs),
+      two_are_first xs n a b long
+          ∙ ap (λ y. y ∷ (get_or xs n b ∷ reverse (take n xs))) (sym (c.index.ensures ∙ ap (λ m. get_or xs m a) up))
+          ∙ ap (λ y. a ∷ (y ∷ reverse (take n xs))) (sym c.index-2.ensures),
+    )

@@ -1,5 +1,0 @@
-use Rattle.c_meaning.proofs.TypedFunctions.{results_are_converted}
-use Rattle.c_meaning.proofs.laws.results_are_converted.Goals as goal
-
-pub returns : goal.returns
-returns c = results_are_converted

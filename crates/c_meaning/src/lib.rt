@@ -1,9 +1,0 @@
-//! What a typed source means: the lists of marks that a call of a function can make.
-#![tactic(auto)]
-
-mod laws;
-
-pub use laws::{
-    end_is_last, fronts_are_right, next_is_one, replay_part_is_right_above, results_are_converted,
-    want_above_is_one,
-};

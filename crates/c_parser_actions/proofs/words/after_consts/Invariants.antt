@@ -1,0 +1,9 @@
+use Rattle.std.proofs.Common.{◌≡◌, length}
+use Rattle.c_parser_actions.specs.Words.{skip_consts}
+use Rattle.c_parser_actions.proofs.words.after_consts.Given as goal
+
+abbrev pub invariant-loop-rest : goal.invariant-loop-rest
+invariant-loop-rest l = skip_consts l.rest ≡ skip_consts l.tokens
+
+abbrev pub decreases-loop-rest : goal.decreases-loop-rest
+decreases-loop-rest l = length l.rest

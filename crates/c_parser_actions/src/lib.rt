@@ -1,0 +1,23 @@
+//! The postfix form of a C source: the actions that build its tree, in order.
+#![tactic(auto)]
+
+mod action;
+mod ahead;
+mod annotation;
+mod declarator;
+mod expression;
+mod frame;
+mod initial;
+mod law;
+mod mark;
+mod parser;
+mod postfix;
+mod refusal;
+mod statement;
+mod step;
+mod top;
+mod words;
+
+pub use action::Action;
+pub use law::one_tree;
+pub use postfix::{PostfixError, actions};

@@ -1,0 +1,18 @@
+-- What a step of a builder promises.
+use Rattle.std.specs.Prelude.{◌≡◌, List, Option, Some, None, Result, Ok, Err, MatchResult}
+use Rattle.c_parser_tree.specs.declared.piece.Piece.{Piece}
+use Rattle.c_parser_tree.specs.declared.builder.Builder.{Builder}
+use Rattle.c_parser_tree.specs.declared.builder.BuildError.{BuildError}
+use Rattle.c_parser_tree.specs.declared.builder.BuildError.TheVariants as errors
+use Rattle.c_parser_tree.specs.Built.{Built}
+use Rattle.c_parser_tree.specs.Seen.{nodes_seen, stack_seen}
+
+-- the builder holds this, or there is none and the actions are unfit
+abbrev pub IsMade : Result (Unit {0}) BuildError → Builder → Option Built → Type 0
+IsMade (Ok _) b m = m ≡ Some (record { nodes = nodes_seen b; stack = stack_seen b })
+IsMade (Err errors.Unfit) b m = m ≡ None
+IsMade (Err errors.Memory) b m = Unit {0}
+
+-- this is taken and the rest is left, or there is none and the actions are unfit
+abbrev pub IsTaken : {A : Type 0} → Result A BuildError → Builder → Option (A × List Piece) → Type 0
+IsTaken r b m = MatchResult r (λ a. m ≡ Some (a, stack_seen b)) (λ e. (e ≡ errors.Unfit) × (m ≡ None))

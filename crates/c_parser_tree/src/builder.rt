@@ -1,0 +1,201 @@
+// The nodes so far, and the pieces that wait.
+
+ghost use Rattle.std.specs.Prelude.{◌≡◌, ◌∷◌, ◌++◌, [], length, IfOk, IfErr, OnOk, MatchOption, reverse};
+ghost use Rattle.c_parser_tree.specs.IsMade.{IsMade};
+ghost use Rattle.c_parser_tree.specs.Built.{puts, put_expr, put_stmt, put_decl};
+ghost use Rattle.c_parser_tree.specs.Seen.{nodes_seen, stack_seen};
+ghost use Rattle.c_parser_tree.specs.Nodes.{with_decl, with_stmt, with_expr, no_nodes};
+
+use crate::copy::{copy_annots, copy_base};
+use crate::piece::{Declarator, Piece, Shared};
+use c_syntax::{Decl, DeclId, Expr, ExprId, ExprKind, Rest, Seq, Stmt, StmtId, StmtKind};
+use std::alloc::{AllocError, Global};
+
+/// Why actions have no tree.
+#[derive(Drop)]
+pub enum BuildError {
+    /// An action doesn't find what it takes, or the last leaves something else than a source.
+    Unfit,
+    /// Also where a source would have 2^32 nodes of a kind or more, which no number names.
+    Memory,
+}
+
+impl From<AllocError> for BuildError {
+    ghost use Rattle.c_parser_tree.specs.declared.builder.BuildError.TheVariants.{Memory};
+
+    ghost from_gives = { λ _ e. e ≡ Memory };
+
+    fn from(error: AllocError) -> Self {
+        let _ = error;
+        BuildError::Memory
+    }
+}
+
+/// The nodes so far, and the pieces that wait, the newest last.
+#[derive(Drop)]
+pub struct Builder {
+    pub alloc: Global,
+    pub decls: Vec<Decl>,
+    pub stmts: Vec<Stmt>,
+    pub exprs: Vec<Expr>,
+    pub stack: Vec<Piece>,
+}
+
+/// Puts an item at the end.
+fn append<T: Drop>(items: &mut Vec<T>, item: T) -> Result<(), BuildError>
+    ensures items { OnOk result (items.new.items ≡ items.old.items ++ item ∷ []) }
+    ensures memory { IfErr result (λ e. e ≡ BuildError.Memory) }
+{
+    items.push(item).map_err(AllocError::from)?;
+    Ok(())
+}
+
+/// The list with one more at its end.
+pub fn with_last<T: Drop>(items: Seq<T>, last: T) -> Result<Seq<T>, BuildError>
+    ensures items { IfOk result (λ s. s ≡ items ++ last ∷ []) }
+    ensures memory { IfErr result (λ e. e ≡ BuildError.Memory) }
+{
+    let mut items = items.into_vec();
+    append(&mut items, last)?;
+    Ok(Seq::from(items))
+}
+
+/// No items.
+pub fn empty<T>(alloc: Global) -> Seq<T>
+    ensures { result ≡ [] }
+{
+    Seq::from(Vec::new(alloc))
+}
+
+/// The list from back to prefix.
+fn reversed<T>(items: Seq<T>) -> Seq<T>
+    ensures { result ≡ reverse items }
+{
+    let mut items = items.into_vec();
+    items.reverse();
+    Seq::from(items)
+}
+
+/// The number of the node after so many.
+fn next_number(count: usize) -> Result<u32, BuildError>
+    ensures number { IfOk result (λ n. n ≡ count) }
+    ensures memory { IfErr result (λ e. e ≡ BuildError.Memory) }
+{
+    match u32::try_from(count) {
+        Ok(number) => Ok(number),
+        Err(_) => Err(BuildError::Memory),
+    }
+}
+
+impl Builder {
+    /// Nothing has been built.
+    #[tactic(auto, unfolding(crate::specs::Seen::nodes_seen, crate::specs::Seen::stack_seen))]
+    pub fn new(alloc: Global) -> Builder
+        ensures nodes { nodes_seen result ≡ no_nodes }
+        ensures stack { stack_seen result ≡ [] }
+    {
+        Builder {
+            alloc,
+            decls: Vec::new(alloc),
+            stmts: Vec::new(alloc),
+            exprs: Vec::new(alloc),
+            stack: Vec::new(alloc),
+        }
+    }
+
+    /// Puts a piece on top.
+    pub fn put(&mut self, piece: Piece) -> Result<(), BuildError>
+        ensures made { IsMade result self.new (puts (nodes_seen self.old) piece (stack_seen self.old)) }
+        ensures stack { OnOk result (stack_seen self.new ≡ piece ∷ stack_seen self.old) }
+        ensures nodes { nodes_seen self.new ≡ nodes_seen self.old }
+        ensures memory { IfErr result (λ e. e ≡ BuildError.Memory) }
+    {
+        append(&mut self.stack, piece)
+    }
+
+    /// Takes the piece on top.
+    pub fn pop(&mut self) -> Option<Piece>
+        ensures stack { MatchOption result (stack_seen self.old ≡ []) (λ p. stack_seen self.old ≡ p ∷ stack_seen self.new) }
+        ensures nodes { nodes_seen self.new ≡ nodes_seen self.old }
+    {
+        self.stack.pop()
+    }
+
+    /// A new expression.
+    #[tactic(auto, unfolding(crate::specs::Seen::nodes_seen, crate::specs::Seen::stack_seen))]
+    fn add_expr(&mut self, expr: Expr) -> Result<ExprId, BuildError>
+        ensures number { IfOk result (λ i. i ≡ record { 0 = length (nodes_seen self.old).exprs }) }
+        ensures nodes { OnOk result (nodes_seen self.new ≡ with_expr (nodes_seen self.old) expr) }
+        ensures stack { OnOk result (stack_seen self.new ≡ stack_seen self.old) }
+        ensures memory { IfErr result (λ e. e ≡ BuildError.Memory) }
+    {
+        let number = next_number(self.exprs.len())?;
+        append(&mut self.exprs, expr)?;
+        Ok(ExprId(number))
+    }
+
+    /// A new statement.
+    #[tactic(auto, unfolding(crate::specs::Seen::nodes_seen, crate::specs::Seen::stack_seen))]
+    fn add_stmt(&mut self, stmt: Stmt) -> Result<StmtId, BuildError>
+        ensures number { IfOk result (λ i. i ≡ record { 0 = length (nodes_seen self.old).stmts }) }
+        ensures nodes { OnOk result (nodes_seen self.new ≡ with_stmt (nodes_seen self.old) stmt) }
+        ensures stack { OnOk result (stack_seen self.new ≡ stack_seen self.old) }
+        ensures memory { IfErr result (λ e. e ≡ BuildError.Memory) }
+    {
+        let number = next_number(self.stmts.len())?;
+        append(&mut self.stmts, stmt)?;
+        Ok(StmtId(number))
+    }
+
+    /// A new declaration.
+    #[tactic(auto, unfolding(crate::specs::Seen::nodes_seen, crate::specs::Seen::stack_seen))]
+    pub fn add_decl(&mut self, decl: Decl) -> Result<DeclId, BuildError>
+        ensures number { IfOk result (λ i. i ≡ record { 0 = length (nodes_seen self.old).decls }) }
+        ensures nodes { OnOk result (nodes_seen self.new ≡ with_decl (nodes_seen self.old) decl) }
+        ensures stack { OnOk result (stack_seen self.new ≡ stack_seen self.old) }
+        ensures memory { IfErr result (λ e. e ≡ BuildError.Memory) }
+    {
+        let number = next_number(self.decls.len())?;
+        append(&mut self.decls, decl)?;
+        Ok(DeclId(number))
+    }
+
+    /// Puts a new expression on top.
+    pub fn put_expr(&mut self, from: u32, kind: ExprKind) -> Result<(), BuildError>
+        ensures { IsMade result self.new (put_expr (nodes_seen self.old) from kind (stack_seen self.old)) }
+    {
+        let id = self.add_expr(Expr { from, kind })?;
+        self.put(Piece::Expr(id))
+    }
+
+    /// Puts a new statement on top.
+    pub fn put_stmt(&mut self, from: u32, kind: StmtKind) -> Result<(), BuildError>
+        ensures { IsMade result self.new (put_stmt (nodes_seen self.old) from kind (stack_seen self.old)) }
+    {
+        let id = self.add_stmt(Stmt { from, kind })?;
+        self.put(Piece::Stmt(id))
+    }
+
+    /// Puts back what a declaration's names share, and on top of it a new declaration with a copy of that.
+    pub fn put_decl(
+        &mut self,
+        declarator: Declarator,
+        shared: Shared,
+        rest: Rest,
+    ) -> Result<(), BuildError>
+        ensures { IsMade result self.new (put_decl (nodes_seen self.old) declarator shared rest (stack_seen self.old)) }
+    {
+        let annots = copy_annots(self.alloc, shared.annots.as_slice())?;
+        let base = copy_base(self.alloc, &shared.base)?;
+        self.put(Piece::Shared(shared))?;
+        let id = self.add_decl(Decl {
+            from: declarator.from,
+            annots,
+            base,
+            parts: reversed(declarator.parts),
+            name: declarator.name,
+            rest,
+        })?;
+        self.put(Piece::Decl(id))
+    }
+}

@@ -1,0 +1,142 @@
+// Actions that make declarations.
+
+ghost use Rattle.std.specs.Prelude.{◌≡◌, length, IfOk, IfErr, OnOk};
+ghost use Rattle.c_parser_tree.specs.IsMade.{IsMade};
+ghost use Rattle.c_parser_tree.specs.Built.{add_part, declare, with_struct};
+ghost use Rattle.c_parser_tree.specs.Made.{made_declr, made_decl, made_list};
+ghost use Rattle.c_parser_tree.specs.Seen.{nodes_seen, stack_seen};
+
+use crate::builder::{BuildError, Builder, empty, with_last};
+use crate::piece::{Declarator, Piece, Shared, Tag};
+use c_parser_actions::Action;
+use c_syntax::{Base, Decl, DeclId, Part, PartKind, Rest, Seq};
+
+impl Builder {
+    /// Gives the declarator on top one more part.
+    fn add_part(&mut self, from: u32, kind: PartKind) -> Result<(), BuildError>
+        ensures { IsMade result self.new (add_part (nodes_seen self.old) from kind (stack_seen self.old)) }
+    {
+        let declarator = self.pop_declarator()?;
+        let parts = with_last(declarator.parts, Part { from, kind })?;
+        self.put(Piece::Declarator(Declarator {
+            parts,
+            name: declarator.name,
+            from: declarator.from,
+        }))
+    }
+
+    /// Declares the declarator on top, with what the piece below it shares.
+    fn declare(&mut self, rest: Rest) -> Result<(), BuildError>
+        ensures { IsMade result self.new (declare (nodes_seen self.old) rest (stack_seen self.old)) }
+    {
+        let declarator = self.pop_declarator()?;
+        let shared = self.pop_shared()?;
+        self.put_decl(declarator, shared, rest)
+    }
+
+    /// A new definition of a struct.
+    fn add_struct(&mut self, tag: Tag, members: Seq<DeclId>) -> Result<DeclId, BuildError>
+        ensures number { IfOk result (λ i. i ≡ record { 0 = length (nodes_seen self.old).decls }) }
+        ensures nodes { OnOk result (nodes_seen self.new ≡ with_struct (nodes_seen self.old) tag members) }
+        ensures stack { OnOk result (stack_seen self.new ≡ stack_seen self.old) }
+        ensures memory { IfErr result (λ e. e ≡ BuildError.Memory) }
+    {
+        let annots = empty(self.alloc);
+        let parts = empty(self.alloc);
+        self.add_decl(Decl {
+            from: tag.from,
+            annots,
+            base: Base::Struct(tag.name),
+            parts,
+            name: None,
+            rest: Rest::Members(members),
+        })
+    }
+
+    /// Makes a declarator, or what the next kinds of action make.
+    #[tactic(auto, unfolding(crate::specs::Made::made_declr))]
+    pub fn make_declarator(&mut self, action: Action) -> Result<(), BuildError>
+        ensures { IsMade result self.new (made_declr action (nodes_seen self.old) (stack_seen self.old)) }
+    {
+        match action {
+            Action::Named(from, name) => self.put(Piece::Declarator(Declarator {
+                parts: empty(self.alloc),
+                name: Some(name),
+                from,
+            })),
+            Action::Nameless(from) => self.put(Piece::Declarator(Declarator {
+                parts: empty(self.alloc),
+                name: None,
+                from,
+            })),
+            Action::Pointer(from) => self.add_part(from, PartKind::Pointer),
+            Action::Array(from) => {
+                let length = self.pop_expr()?;
+                self.add_part(from, PartKind::Array(length))
+            }
+            Action::Params(from) => {
+                let parameters = self.pop_decls()?;
+                self.add_part(from, PartKind::Params(parameters))
+            }
+            other => self.make_decl(other),
+        }
+    }
+
+    /// Makes a declaration, or what its names share, or what the next kinds of action make.
+    #[tactic(auto, unfolding(crate::specs::Made::made_decl))]
+    pub fn make_decl(&mut self, action: Action) -> Result<(), BuildError>
+        ensures { IsMade result self.new (made_decl action (nodes_seen self.old) (stack_seen self.old)) }
+    {
+        match action {
+            Action::Specs(base) => {
+                let annots = self.pop_annots()?;
+                self.put(Piece::Shared(Shared { annots, base }))
+            }
+            Action::Declare => self.declare(Rest::None),
+            Action::DeclareValue => {
+                let value = self.pop_value()?;
+                self.declare(Rest::Value(value))
+            }
+            Action::DeclareBody => {
+                let body = self.pop_stmt()?;
+                self.declare(Rest::Body(body))
+            }
+            Action::EndSpecs => {
+                let _ = self.pop_shared()?;
+                Ok(())
+            }
+            Action::DropSpecs => {
+                let decl = self.pop_decl()?;
+                let _ = self.pop_shared()?;
+                self.put(Piece::Decl(decl))
+            }
+            other => self.make_list(other),
+        }
+    }
+
+    /// Makes a list of declarations, or the definition of a struct, or what the next kinds of action make.
+    #[tactic(auto, unfolding(crate::specs::Made::made_list))]
+    pub fn make_list(&mut self, action: Action) -> Result<(), BuildError>
+        ensures { IsMade result self.new (made_list action (nodes_seen self.old) (stack_seen self.old)) }
+    {
+        match action {
+            Action::NoDecls => self.put(Piece::Decls(empty(self.alloc))),
+            Action::AddName => {
+                let last = self.pop_decl()?;
+                let shared = self.pop_shared()?;
+                let decls = self.pop_decls()?;
+                self.put(Piece::Decls(with_last(decls, last)?))?;
+                self.put(Piece::Shared(shared))
+            }
+            Action::Tag(from, name) => self.put(Piece::Tag(Tag { from, name })),
+            Action::Struct => {
+                let members = self.pop_decls()?;
+                let tag = self.pop_tag()?;
+                let decls = self.pop_decls()?;
+                let last = self.add_struct(tag, members)?;
+                self.put(Piece::Decls(with_last(decls, last)?))
+            }
+            other => self.make_annot(other),
+        }
+    }
+}

@@ -1,0 +1,15 @@
+//! The tree of a C source, from the actions that build it.
+#![tactic(auto)]
+
+mod annotation;
+mod builder;
+mod building;
+mod copy;
+mod declaration;
+mod expression;
+mod piece;
+mod statement;
+mod takes;
+
+pub use builder::BuildError;
+pub use building::build;

@@ -1,5 +1,0 @@
-use Rattle.c_postfix.proofs.Exact.{one}
-use Rattle.c_postfix.proofs.law.one_tree.Goals as goal
-
-pub returns : goal.returns
-returns c ts x y h k = one ts x y h k

@@ -1,9 +1,0 @@
-use Rattle.std.proofs.Common.{◌≡◌, length}
-use Rattle.c_postfix.specs.Words.{skip_consts}
-use Rattle.c_postfix.proofs.words.after_consts.Given as goal
-
-abbrev pub invariant-loop-rest : goal.invariant-loop-rest
-invariant-loop-rest l = skip_consts l.rest ≡ skip_consts l.tokens
-
-abbrev pub decreases-loop-rest : goal.decreases-loop-rest
-decreases-loop-rest l = length l.rest

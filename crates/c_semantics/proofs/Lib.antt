@@ -1,0 +1,16 @@
+mod Relations
+mod ValuePrefixes
+mod StatementPrefixes
+mod CallPrefixes
+mod Prefixes
+mod Nexts
+mod Overs
+mod Converted
+mod Returned
+pub mod ReplayMarks
+mod BelowMarks
+pub mod CutCalls
+pub mod Parts
+pub mod GivenBack
+mod TypedReturns
+mod TypedFunctions

@@ -1,6 +1,0 @@
-use Rattle.c_typed_table.specs.Tables.{value_at}
-use Rattle.c_typed_table.proofs.Weights.{weight}
-use Rattle.c_typed_table.proofs.table.TypedTable.+constant_value.Given as goal
-
-abbrev pub decreases-constant_value : goal.decreases-constant_value
-decreases-constant_value l = weight (value_at l.self.now l.id)

@@ -1,6 +1,0 @@
-use Rattle.c_typed_table.specs.Tables.{value_at}
-use Rattle.c_typed_table.proofs.Weights.{weight}
-use Rattle.c_typed_table.proofs.table.TypedTable.+is_of_constants.Given as goal
-
-abbrev pub decreases-is_of_constants : goal.decreases-is_of_constants
-decreases-is_of_constants l = weight (value_at l.self.now l.id)

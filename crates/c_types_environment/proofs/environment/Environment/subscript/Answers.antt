@@ -1,0 +1,17 @@
+use Rattle.c_types_rules.specs.Expressions.{subscript}
+use Rattle.c_types_nodes.specs.Tables.{value_at}
+use Rattle.c_types_operators.specs.Answers.{StandsAt}
+use Rattle.c_types_environment.proofs.Agreed.{agreed_by_sizes}
+use Rattle.c_types_environment.proofs.Capped.{subscript_capped}
+use Rattle.c_types_environment.proofs.Kept.{sound_kept, table_grown}
+use Rattle.c_types_environment.proofs.environment.Environment.subscript.Goals as goal
+
+pub invariant_of-self : goal.invariant_of-self
+invariant_of-self c = sound_kept c.self.inside.table.types c.subscript.new.table.types c.self.inside.structs c.self.inside.scopes c.subscript.ensures.kept.types c.self.invariant
+
+pub returns-clause-agrees : goal.returns-clause-agrees
+returns-clause-agrees c =
+    agreed_by_sizes (StandsAt c.subscript.new.table) c.subscript.result c.self.inside.table c.self.inside.tags c.self.inside.structs c.self.inside.scopes c.self.inside.found_large c.args.self.now (λ es u. subscript es c.args.from (value_at u c.args.left) (value_at u c.args.right)) (λ es u. subscript_capped es c.args.from (value_at u c.args.left) (value_at u c.args.right)) c.extents.result.now c.extents.ensures c.self.view_is c.self.invariant c.subscript.ensures.agrees
+
+pub returns-clause-kept : goal.returns-clause-kept
+returns-clause-kept c = table_grown c.self.inside.table c.subscript.new.table c.self.inside.tags c.self.inside.structs c.self.inside.scopes c.self.inside.found_large c.args.self.now c.self.view_is c.self.invariant c.subscript.ensures.kept

@@ -1,0 +1,21 @@
+//! Functions.
+
+use crate::statement::Statement;
+use c_lexer::Text;
+use c_types_table::{TypeId, TypeIds};
+
+/// What a function does: the types of its parameters and then of all its locals, in the order of the source, and its
+/// statements.
+#[derive(Drop)]
+pub struct Body {
+    pub locals: TypeIds,
+    pub statements: Statement,
+}
+
+/// A function, and what it does where the source says it (C11 6.9.1).
+#[derive(Drop)]
+pub struct Function {
+    pub name: Text,
+    pub ty: TypeId,
+    pub body: Option<Body>,
+}

@@ -1,5 +1,0 @@
-use Rattle.c_typing.proofs.SameTypes.{types_compared}
-use Rattle.c_typing.proofs.laws.types_are_compared.Goals as goal
-
-pub returns : goal.returns
-returns c = types_compared

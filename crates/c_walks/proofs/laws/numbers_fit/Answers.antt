@@ -1,6 +1,0 @@
-use Rattle.c_walks.proofs.Tokens.{tokens_fit}
-use Rattle.c_walks.proofs.Spelled.{tops_fit}
-use Rattle.c_walks.proofs.laws.numbers_fit.Goals as goal
-
-pub returns : goal.returns
-returns c source ts ds read spelled = (tops_fit spelled (tokens_fit _ _ _ _ _ read)).0

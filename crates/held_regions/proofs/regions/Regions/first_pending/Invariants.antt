@@ -1,8 +1,0 @@
-use Rattle.std.proofs.Common.{take}
-use Rattle.places.specs.Ranges.{IsFirstIn}
-use Rattle.held_regions.specs.Held.{IsPending}
-use Rattle.held_regions.proofs.regions.Regions.first_pending.Given as goal
-
--- the first among the regions so far
-abbrev pub invariant-loop-region : goal.invariant-loop-region
-invariant-loop-region l = IsFirstIn l.range (IsPending (take l.region-index l.region-items)) l.first

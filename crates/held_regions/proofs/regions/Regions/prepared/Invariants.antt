@@ -1,7 +1,0 @@
-use Rattle.std.proofs.Common.{◌≡◌, drop}
-use Rattle.held_regions.specs.Held.{prepared_region}
-use Rattle.held_regions.proofs.regions.Regions.prepared.Given as goal
-
--- none of the regions so far is prepared under the key
-abbrev pub invariant-loop-region : goal.invariant-loop-region
-invariant-loop-region l = prepared_region l.region-items l.key ≡ prepared_region (drop l.region-index l.region-items) l.key

@@ -1,6 +1,0 @@
-use Rattle.std.proofs.Common.{arith}
-use Rattle.live_bytes.proofs.Marks.{length_is}
-use Rattle.live_bytes.proofs.marked_bytes.MarkedBytes.len.Goals as goal
-
-pub returns : goal.returns
-returns c = omega (arith, c.len.ensures, length_is _ _ c.self.invariant _ c.self.view_is)

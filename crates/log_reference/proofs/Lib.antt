@@ -1,0 +1,6 @@
+pub mod Splits
+pub mod Files
+pub mod Equal
+pub mod Preceding
+pub mod Right
+pub mod Prefixes

@@ -1,7 +1,0 @@
-use Rattle.std.proofs.Common.{take}
-use Rattle.log_closure.specs.Events.{events_of}
-use Rattle.plain_order.proofs.Preceding.{IsGreatestOf}
-use Rattle.plain_order.proofs.clocks.greatest_before.Given as goal
-
-abbrev pub invariant-loop-at : goal.invariant-loop-at
-invariant-loop-at l = IsGreatestOf (record { name = l.name; entry = l.entry }) (events_of (take l.at l.records)) l.greatest

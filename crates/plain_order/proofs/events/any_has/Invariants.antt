@@ -1,7 +1,0 @@
-use Rattle.std.proofs.Common.{take}
-use Rattle.log_closure.specs.Events.{In, marks, events_of}
-use Rattle.plain_order.proofs.Splits.{Each}
-use Rattle.plain_order.proofs.events.any_has.Given as goal
-
-abbrev pub invariant-loop-entry : goal.invariant-loop-entry
-invariant-loop-entry l = Each (λ before e. In l.mark (marks e) → ⊥) (events_of (take l.entry-index l.records))

@@ -1,7 +1,0 @@
-use Rattle.std.proofs.Common.{take}
-use Rattle.log_closure.specs.Events.{HasMark, events_of}
-use Rattle.plain_order.proofs.Splits.{Holds}
-use Rattle.plain_order.proofs.events.shares.Given as goal
-
-abbrev pub invariant-loop-mark : goal.invariant-loop-mark
-invariant-loop-mark l = Holds (λ m. HasMark (events_of l.records) m → ⊥) (take l.mark-index l.marks)

@@ -1,6 +1,0 @@
-use Rattle.std.proofs.Common.{◌≡◌, take}
-use Rattle.plain_order.proofs.Splits.{Holds}
-use Rattle.plain_order.proofs.marks.has.Given as goal
-
-abbrev pub invariant-loop-other : goal.invariant-loop-other
-invariant-loop-other l = Holds (λ m. l.mark ≡ m → ⊥) (take l.other-index l.marks)

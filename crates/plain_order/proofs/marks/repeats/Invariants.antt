@@ -1,7 +1,0 @@
-use Rattle.std.proofs.Common.{take}
-use Rattle.log_closure.specs.Events.{In}
-use Rattle.plain_order.proofs.Splits.{Each}
-use Rattle.plain_order.proofs.marks.repeats.Given as goal
-
-abbrev pub invariant-loop-at : goal.invariant-loop-at
-invariant-loop-at l = Each (λ before m. In m before → ⊥) (take l.at l.marks)

@@ -1,0 +1,116 @@
+-- What is known of the accesses of a byte that is in no object, or that a call holds.
+use Rattle.std.specs.Prelude.{◌≡◌, ℕ, ◌+◌, ◌<◌, ◌≤◌, Bool, true, false, ◌||◌, eqb, List, [], ◌∷◌, Option, Some, None}
+use Rattle.logical_clock.specs.declared.key.Class.TheVariants.{Pool, Async}
+use Rattle.marks.specs.declared.side.Side.TheVariants.{Replay}
+use Rattle.marks.specs.Places.{thread_count, stack, stack_size, replay_stacks, replay_pool, replay_end, pool_size}
+use Rattle.marks.specs.Ranges.{Range, range, in_range, any_range}
+use Rattle.marks.specs.Marks.{EventKind, Ret, Alloc, Act, Enter, Leave, Made, Mark}
+use Rattle.marks.specs.Bytes.{Byte, Dead, IsHeld, touches, place}
+use Rattle.marks.specs.Wants.{Leaves}
+use Rattle.replay_runs.specs.Runs.{Link, OfThread, OfKey, In, Start, Allowed, Run, RaceFree, fault_count, marks_of, events_with, byte}
+use Rattle.replay_runs.specs.Known.{known, NoRace}
+use Rattle.replay_runs.specs.Interface.{Program}
+use Rattle.replay_runs.specs.Threads.{HasRoom, OpenCall, frame_place, open_calls, frames}
+use Rattle.replay_runs.specs.Pool.{in_use}
+use Rattle.replay_runs.specs.Keys.{key}
+use Rattle.replay_runs.specs.Rules.{replay_rules}
+use Rattle.replay_runs.specs.Laws.{fresh}
+use Rattle.replay_runs.specs.Passing.{Unraced}
+
+-- who holds a byte: an open call of a thread, or the region that is prepared under a key
+pub data Holder : Type 0 where
+  Calling : (thread : ℕ) → Holder
+  Preparing : (key : ℕ) → Holder
+
+abbrev pub link_of : Holder → Link
+link_of (Calling t) = OfThread t
+link_of (Preparing k) = OfKey (key Async k)
+
+abbrev pub any_held : List OpenCall → ℕ → Bool
+any_held [] x = false
+any_held (c ∷ cs) x = any_range c.outs x || any_held cs x
+
+abbrev pub is_in : Option Range → ℕ → Bool
+is_in None x = false
+is_in (Some r) x = in_range r x
+
+abbrev pub holds : Start → List Mark → ℕ → Holder → Bool
+holds s past x (Calling t) = any_held (open_calls (marks_of s t past)) x
+holds s past x (Preparing k) = is_in (in_use k (events_with s (OfKey (key Async k)) past)) x
+
+abbrev pub is_own : Link → ℕ → Bool
+is_own (OfThread t) u = eqb t u
+is_own (OfKey k) u = false
+
+-- the last event with the link, and so what comes after it, knows of each access of the byte, but for a thread's own
+abbrev pub AreKnown : List Mark → Link → ℕ → Type 0
+AreKnown past l x = (a : Mark) → In a past → is_own l a.thread ≡ false → touches a.act x ≡ true → place a < known past l a.thread
+
+-- of a byte that is dead in a stack its thread knows, of one that is dead in the pool the pool's key, of one that is
+-- held its holder
+pub record BytesAreKnown (s : Start) (past : List Mark) (x : ℕ) : Type 0 where
+  pub stacks : (t : ℕ) → t < thread_count → stack Replay t ≤ x → x < stack Replay t + stack_size → (byte s x past).cell ≡ Dead → AreKnown past (OfThread t) x
+  pub pool : replay_pool ≤ x → x < replay_pool + pool_size → (byte s x past).cell ≡ Dead → AreKnown past (OfKey (key Pool 0)) x
+  pub held : (h : Holder) → holds s past x h ≡ true → AreKnown past (link_of h) x
+
+-- a thread leaves its innermost frame
+abbrev pub LeavesFirst : Act → List Range → Type 0
+LeavesFirst (Leave at size) [] = ⊥
+LeavesFirst (Leave at size) (f ∷ fs) = (at ≡ f.at) × (size ≡ f.size)
+LeavesFirst _ fs = Unit {0}
+
+abbrev pub FramesEndInOrder : Start → List Mark → Type 0
+FramesEndInOrder s [] = Unit {0}
+FramesEndInOrder s (m ∷ past) = LeavesFirst m.act (frames (marks_of s m.thread past)) × FramesEndInOrder s past
+
+-- code that leaves a frame leaves the innermost one of its thread's marks
+abbrev pub EndsOwnFrames : Program → Type 0
+EndsOwnFrames program = (t : ℕ) (mine : List Mark) (at size : ℕ) → program.want t mine ≡ Leaves at size → LeavesFirst (Leave at size) (frames mine)
+
+-- and then each run does so
+abbrev pub CodeEndsFramesInOrder : Program → Type 0
+CodeEndsFramesInOrder program = EndsOwnFrames program → (s : Start) (run : List Mark) → Run (replay_rules program) s run → FramesEndInOrder s run
+
+-- nothing lies in the stacks and in the pool, and no block begins anywhere
+pub record HasNoObjects (memory : ℕ → Byte) : Type 0 where
+  pub cells : (x : ℕ) → replay_stacks ≤ x → x < replay_end → (memory x).cell ≡ Dead
+  pub blocks : (x : ℕ) → (memory x).block ≡ 0
+
+-- a run without a race and without a fault so far
+pub record Calm (program : Program) (memory : ℕ → Byte) (run : List Mark) : Type 0 where
+  pub steps : Run (replay_rules program) (fresh memory) run
+  pub race_free : RaceFree run
+  pub in_order : FramesEndInOrder (fresh memory) run
+  pub no_fault : fault_count run ≡ 0
+
+abbrev pub UnseenBytesAreKnown : Program → Type 0
+UnseenBytesAreKnown program =
+    (memory : ℕ → Byte) → HasNoObjects memory → (run : List Mark) → Calm program memory run → (x : ℕ) → BytesAreKnown (fresh memory) run x
+
+abbrev pub IsNewOrBack : EventKind → Type 0
+IsNewOrBack (Alloc at size) = Unit {0}
+IsNewOrBack (Ret func args result same outs commit) = Unit {0}
+IsNewOrBack _ = ⊥
+
+-- it enters a frame, has a new block, or gives back what a call holds
+abbrev pub TakesUnseen : Act → Type 0
+TakesUnseen (Enter func args at bytes) = Unit {0}
+TakesUnseen (Made e) = IsNewOrBack e.kind
+TakesUnseen _ = ⊥
+
+-- so a frame, a new block and a return race with nothing, by the rules alone
+abbrev pub UnseenBytesRaceWithNothing : Program → Type 0
+UnseenBytesRaceWithNothing program =
+    (memory : ℕ → Byte) → HasNoObjects memory → (past : List Mark) → Calm program memory past → (m : Mark) → Allowed (replay_rules program) (fresh memory) past m → TakesUnseen m.act → NoRace past m
+
+-- nor does a frame for which there is room
+abbrev pub FramesRaceWithNothing : Program → Type 0
+FramesRaceWithNothing program =
+    (memory : ℕ → Byte) → HasNoObjects memory → (past : List Mark) → Calm program memory past → (t size : ℕ) → t < thread_count → HasRoom t (marks_of (fresh memory) t past) size
+    → Unraced past t true (range (frame_place t (marks_of (fresh memory) t past)) size)
+
+-- the bytes of an open call, and of a region under a key in use, are held, and no two have one
+abbrev pub HeldBytesHaveOneHolder : Program → Type 0
+HeldBytesHaveOneHolder program =
+    (memory : ℕ → Byte) → HasNoObjects memory → (run : List Mark) → Calm program memory run → (x : ℕ) (h : Holder) → holds (fresh memory) run x h ≡ true
+    → IsHeld (byte (fresh memory) x run).cell × ((j : Holder) → holds (fresh memory) run x j ≡ true → h ≡ j)

@@ -1,0 +1,9 @@
+pub mod Bytes
+pub mod Parts
+pub mod Decide
+pub mod Refuse
+pub mod Examples
+pub mod Named
+pub mod Refused
+pub mod Absent
+pub mod Surprised

@@ -1,0 +1,4 @@
+pub mod Refusals
+pub mod Accesses
+pub mod Holders
+pub mod Held

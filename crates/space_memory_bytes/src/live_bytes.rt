@@ -1,0 +1,193 @@
+// The bytes of a few areas.
+ghost use Rattle.std.specs.Prelude.{◌≡◌, ℕ, ◌+◌, ◌^◌, ◌<◌, ◌≤◌, ◌↔◌, false, All, IsTrue, IfOk, IfSome, IfNone, None, Some, length};
+ghost use Rattle.memory_map.specs.Ranges.{IsFirstIn};
+ghost use Rattle.space_memory_bytes.specs.Areas.{byte_at, extents, holds, RiseFrom, LiesIn, IsHolder, IsDead, AllLive};
+ghost use Rattle.space_memory_bytes.specs.Numbers.{HasNumber, HasBytes, FillsWith, SameOutside};
+
+use crate::area::Area;
+use memory_map::Range;
+use std::alloc::{AllocError, Global};
+use std::marker::Model;
+
+/// The bytes of a few areas of addresses, each dead or live with a value. Contracts see the areas, and each byte by
+/// `byte_at`.
+#[derive(Drop)]
+pub struct LiveBytes {
+    areas: Vec<Area>,
+}
+
+impl Model for LiveBytes {
+    ghost use Rattle.std.specs.Prelude.{List};
+    ghost use Rattle.space_memory_bytes.specs.Areas.{AreaState, RiseFrom, extents};
+
+    ghost Value = { List AreaState };
+
+    ghost view = { λ b. b.areas.items };
+
+    ghost invariant = { λ b. RiseFrom 0 (extents b.areas.items) };
+}
+
+impl LiveBytes {
+    /// The bytes of the ranges, all dead. The ranges rise, with an address between two of them.
+    pub fn new(alloc: Global, ranges: &[Range]) -> Result<LiveBytes, AllocError>
+        requires { RiseFrom 0 ranges.now }
+        ensures areas { IfOk result (λ bytes. extents bytes ≡ ranges.now) }
+        ensures dead { IfOk result (λ bytes. (x : ℕ) → IsDead bytes x) }
+    {
+        let mut areas = Vec::new(alloc);
+        for range in ranges {
+            areas.push(Area::new(alloc, *range)?)?;
+        }
+        Ok(LiveBytes { areas })
+    }
+
+    /// The byte at the address, `None` where it is dead.
+    pub fn get(&self, addr: u64) -> Option<u8>
+        ensures { result ≡ byte_at self.now addr }
+    {
+        let at = self.find(addr)?;
+        let area = &self.areas[at];
+        area.get(addr)
+    }
+
+    /// The least byte of the range that is dead, if there is one.
+    pub fn first_dead(&self, range: Range) -> Option<u64>
+        ensures first { IsFirstIn range (IsDead self.now) result }
+        ensures ends { IfNone result (range.addr + range.len < 2 ^ 64) }
+        ensures one_area { IfNone result (1 ≤ range.len → LiesIn range (extents self.now)) }
+    {
+        if range.len == 0 {
+            return None;
+        }
+        let Some(at) = self.find(range.addr) else {
+            return Some(range.addr);
+        };
+        let area = &self.areas[at];
+        area.first_dead(range)
+    }
+
+    /// Whether each of the eight bytes from the address on is live.
+    #[inline]
+    pub fn is_live_word(&self, addr: u64) -> bool
+        ensures live { IsTrue result ↔ AllLive self.now addr 8 }
+        ensures one_area { IsTrue result → LiesIn (record { addr = addr; len = 8 }) (extents self.now) }
+    {
+        match self.find(addr) {
+            Some(at) => {
+                let area = &self.areas[at];
+                area.is_live_word(addr)
+            }
+            None => false,
+        }
+    }
+
+    /// The number whose bytes lie from a live address on, the lowest first.
+    #[inline]
+    pub fn read(&self, addr: u64, width: u8) -> u64
+        requires some { 1 ≤ width }
+        requires at_most_8 { width ≤ 8 }
+        requires live { AllLive self.now addr width }
+        ensures fits { result < 256 ^ width }
+        ensures number { HasNumber self.now addr width result }
+    {
+        match self.find(addr) {
+            Some(at) => {
+                let area = &self.areas[at];
+                area.read(addr, width)
+            }
+            None => 0,
+        }
+    }
+
+    /// Makes each byte of a range of one area the given one.
+    pub fn fill(&mut self, range: Range, byte: Option<u8>)
+        requires { LiesIn range (extents self.old) }
+        ensures fills { FillsWith range byte self.old self.new }
+        ensures ends { range.addr + range.len < 2 ^ 64 }
+    {
+        if range.len == 0 {
+            return;
+        }
+        if let Some(at) = self.find(range.addr) {
+            let area = &mut self.areas[at];
+            area.fill(range, byte);
+        }
+    }
+
+    /// Writes the low `width` bytes of the value into one area, the lowest first.
+    #[inline]
+    pub fn write(&mut self, addr: u64, width: u8, value: u64)
+        requires { LiesIn (record { addr = addr; len = width }) (extents self.old) }
+        ensures written { HasNumber self.new addr width value }
+        ensures others { SameOutside (record { addr = addr; len = width }) self.old self.new }
+    {
+        if width == 0 {
+            return;
+        }
+        if let Some(at) = self.find(addr) {
+            let area = &mut self.areas[at];
+            area.write(addr, width, value);
+        }
+    }
+
+    /// Makes the bytes from the address on, which lie in one area, those of the list.
+    pub fn put(&mut self, addr: u64, bytes: &[u8])
+        requires { LiesIn (record { addr = addr; len = length bytes.now }) (extents self.old) }
+        ensures put { HasBytes self.new addr bytes.now }
+        ensures others { SameOutside (record { addr = addr; len = length bytes.now }) self.old self.new }
+    {
+        let mut at = addr;
+        for byte in bytes {
+            self.fill(Range { addr: at, len: 1 }, Some(*byte));
+            at += 1;
+        }
+    }
+
+    /// The bytes of a range that is live.
+    pub fn copy(&self, alloc: Global, range: Range) -> Result<Vec<u8>, AllocError>
+        requires live { AllLive self.now range.addr range.len }
+        requires ends { range.addr + range.len < 2 ^ 64 }
+        ensures len { IfOk result (λ bytes. length bytes.items ≡ range.len) }
+        ensures bytes { IfOk result (λ bytes. HasBytes self.now range.addr bytes.items) }
+    {
+        let mut bytes = Vec::with_capacity(alloc, range.len as usize)?;
+        for at in range.addr..range.addr + range.len {
+            bytes.push(self.get(at).unwrap_or(0))?;
+        }
+        Ok(bytes)
+    }
+
+    /// Whether the bytes from the address on are live and those of the list.
+    pub fn matches(&self, addr: u64, bytes: &[u8]) -> bool
+        requires { addr + length bytes.now < 2 ^ 64 }
+        ensures { IsTrue result ↔ HasBytes self.now addr bytes.now }
+    {
+        for (i, byte) in bytes.iter().enumerate() {
+            if self.get(addr + i as u64) != Some(*byte) {
+                return false;
+            }
+        }
+        true
+    }
+
+    // The place of the area that has the address: the likely one, or else the first that has it.
+    #[inline]
+    fn find(&self, addr: u64) -> Option<usize>
+        ensures found { IfSome result (IsHolder self.now addr) }
+        ensures none { IfNone result (All (λ a. holds a addr ≡ false) self.now) }
+        ensures rising { RiseFrom 0 (extents self.now) }
+    {
+        let likely = likely_place(addr);
+        if likely < self.areas.len() && self.areas[likely].has(addr) {
+            return Some(likely);
+        }
+        self.areas.iter().position(|area| area.has(addr))
+    }
+}
+
+// Where the area of an address is likely to be: those of a run begin 2^28 addresses apart, and one is left out after four.
+#[inline]
+fn likely_place(addr: u64) -> usize {
+    let step = addr / 0x1000_0000;
+    (step - step / 4) as usize
+}

@@ -1,0 +1,109 @@
+-- Rets: the marks that `release` is, and what the checks of a run find where it refuses one.
+use Rattle.std.specs.Prelude.{◌≡◌, ◌≢◌, ◌⊎◌, ◌↔◌, ℕ, ◌-◌, ◌<◌, ◌≤◌, ◌==◌, Bool, true, if◌then◌else◌, List, [], ◌∷◌, ◌++◌, length, Option, Some, None, option_map, slice_index, slice_set, All}
+use Rattle.logical_clock.specs.declared.key.Class.TheVariants.{Async}
+use Rattle.marks.specs.Places.{thread_count}
+use Rattle.marks.specs.Ranges.{Piece, piece_ranges}
+use Rattle.marks.specs.Ranges as marks
+use Rattle.marks.specs.Marks.{Commit, Released, released, Ret, Event, Made, Mark}
+use Rattle.space_memory_bytes.specs.Areas.{AreaState, byte_at}
+use Rattle.space_memory_bytes.specs.Numbers.{HasBytes}
+use Rattle.space_memory_access.specs.Held.{HeldState, innermost, prepared_region, without_closed}
+use Rattle.space_memory_access.specs.declared.refusal.Refusal.{Refusal}
+use Rattle.replay_runs.specs.Runs.{Start, OfKey, has, marks_of, events_with}
+use Rattle.replay_runs.specs.Keys.{key}
+use Rattle.replay_runs.specs.Interface.{Interface, Committing}
+use Rattle.replay_runs.specs.Threads.{open_calls}
+use Rattle.replay_runs.specs.Pool.{in_use}
+use Rattle.replay_runs.specs.Rules.{Closes}
+use Rattle.replay_runs.specs.Checks.{Finding, Passes, Finds, return_checks}
+use Rattle.space_memory.specs.Spaces.{SpaceState}
+use Rattle.space_memory.specs.Releases.{committed_size, committed_key, AllReturned, HasKey, IsReleaseRefused}
+use Rattle.space_memory_laws.specs.Shown.{memory_range, value_when_held}
+use Rattle.space_memory_laws.specs.StandsFor.{StandsFor}
+use Rattle.space_memory_laws.specs.Marks.{IsMark}
+use Rattle.space_memory_laws.specs.Refusals.{finding_of}
+
+-- of the region of a NULL pointer nothing is used
+abbrev pub used_at : marks.Range → ℕ → ℕ
+used_at r used = if r.at == 0 then 0 else used
+
+-- each piece has the bytes of memory, as many as are used
+abbrev pub ShowUsed : List AreaState → List Piece → List ℕ → Type 0
+ShowUsed bytes [] [] = Unit {0}
+ShowUsed bytes (p ∷ ps) (n ∷ ns) = (length p.bytes ≡ used_at p.range n) × HasBytes bytes p.range.at p.bytes × ShowUsed bytes ps ns
+ShowUsed bytes _ _ = ⊥
+
+-- what `release` is told to commit is what the Ret commits: nothing, or the region of a key. The Ret has that key, and no
+-- other that is in use
+abbrev pub CommitsAs : Start → List Mark → Mark → HeldState → Option (ℕ × ℕ) → Commit → Type 0
+CommitsAs s past m held None commit = released commit ≡ []
+CommitsAs s past m held (Some c) (Released p) =
+    (option_map (λ r. r.range) (prepared_region held.regions c.0) ≡ Some (memory_range p.range))
+    × (has m (OfKey (key Async c.0)) ≡ true)
+    × ((k : ℕ) → has m (OfKey (key Async k)) ≡ true → (k ≡ c.0) ⊎ (in_use k (events_with s (OfKey (key Async k)) past) ≡ None))
+CommitsAs s past m held (Some c) _ = ⊥
+
+-- a piece has no more bytes than its range
+abbrev pub FitsIn : Piece → Type 0
+FitsIn p = length p.bytes ≤ p.range.size
+
+-- the Ret commits the region of a key in use
+abbrev pub CommitsInUse : Start → List Mark → Option (ℕ × ℕ) → Commit → Type 0
+CommitsInUse s past (Some c) (Released p) = in_use c.0 (events_with s (OfKey (key Async c.0)) past) ≡ Some p.range
+CommitsInUse s past _ _ = Unit {0}
+
+-- a Ret that the rules of runs allow
+pub record IsRet (s : Start) (past : List Mark) (m : Mark) (pieces : List Piece) (committing : Option (ℕ × ℕ)) (commit : Commit) (new : SpaceState) : Type 0 where
+  pub mark : IsMark s past m new
+  pub fits : All FitsIn (pieces ++ released commit)
+  pub in_use : CommitsInUse s past committing commit
+
+-- a release is a Ret with the bytes of the regions, over the ranges of the call that it closes
+abbrev pub ReturnsAreMarks : Type 0
+ReturnsAreMarks =
+    (s : Start) (past : List Mark) (old new : SpaceState) (m : Mark) (e : Event) (func : ℕ) (args : List ℕ) (result : ℕ) (same : Bool) (pieces : List Piece) (commit : Commit) (used : List ℕ) (committing : Option (ℕ × ℕ)) →
+    StandsFor s past old →
+    m.thread < thread_count →
+    new.held.regions ≡ without_closed (innermost old.held m.thread) (committed_key committing) old.held.regions →
+    new.held.depths ≡ slice_set old.held.depths m.thread (slice_index old.held.depths m.thread - 1) →
+    new ≡ record old { held = new.held } →
+    HasKey old.held.regions committing →
+    AllReturned old.bytes old.held.regions (innermost old.held m.thread) used committing →
+    m.act ≡ Made e →
+    e.kind ≡ Ret func args result same pieces commit →
+    Closes (open_calls (marks_of s m.thread past)) func args (piece_ranges pieces) →
+    CommitsAs s past m old.held committing commit →
+    ShowUsed old.bytes (pieces ++ released commit) (used ++ committed_size committing) →
+    IsRet s past m pieces committing commit new
+
+-- the byte isn't what it was when it was held
+abbrev pub WasChanged : SpaceState → ℕ → Type 0
+WasChanged memory x = byte_at memory.bytes x ≢ value_when_held memory.held.regions x
+
+-- the used sizes of a run are those of memory, and 0 at NULL
+abbrev pub AreUsedSizes : List marks.Range → List ℕ → List ℕ → Type 0
+AreUsedSizes [] [] [] = Unit {0}
+AreUsedSizes (r ∷ rs) (used ∷ more) (n ∷ ns) = (n ≡ used_at r used) × AreUsedSizes rs more ns
+AreUsedSizes _ _ _ = ⊥
+
+-- what the annotations commit is what `release` is told to: where the used size is negative, nothing
+abbrev pub IsCommitted : Option Committing → Option (ℕ × ℕ) → Type 0
+IsCommitted None committing = committing ≡ None
+IsCommitted (Some c) committing = committing ≡ option_map (λ used. (c.key, used)) c.used
+
+-- the checks of a Ret find what memory refuses, and nothing else
+pub record ReturnsFind (i : Interface) (s : Start) (past : List Mark) (memory : SpaceState) (t func : ℕ) (args : List ℕ) (result : ℕ) (used : List ℕ) (committing : Option (ℕ × ℕ)) : Type 0 where
+  pub refused : (r : Refusal) → IsReleaseRefused memory.bytes memory.held.regions (innermost memory.held t) used committing r → Finds (return_checks i s past (WasChanged memory) func args result) (finding_of r)
+  pub found : (f : Finding) → Finds (return_checks i s past (WasChanged memory) func args result) f → (r : Refusal) × IsReleaseRefused memory.bytes memory.held.regions (innermost memory.held t) used committing r × (f ≡ finding_of r)
+  pub passes : Passes (return_checks i s past (WasChanged memory) func args result) ↔ (HasKey memory.held.regions committing × AllReturned memory.bytes memory.held.regions (innermost memory.held t) used committing)
+
+-- a Ret of the innermost open call isn't made for a cause exactly where its release is refused for it
+abbrev pub RefusedReturnsAreFindings : Type 0
+RefusedReturnsAreFindings =
+    (i : Interface) (s : Start) (past : List Mark) (memory : SpaceState) (t func : ℕ) (args : List ℕ) (result : ℕ) (used : List ℕ) (committing : Option (ℕ × ℕ)) →
+    StandsFor s past memory →
+    t < thread_count →
+    Closes (open_calls (marks_of s t past)) func args (i.outs func args) →
+    AreUsedSizes (i.outs func args) used (i.used func args result) →
+    IsCommitted (i.commits func args result) committing →
+    ReturnsFind i s past memory t func args result used committing
