@@ -123,11 +123,11 @@ module _ (s : Source) (code : Flat) (low : IsLowered s code) where
   abbrev Depths : Call → (args stack rest : List ℕ) → List Waiting → Type 0
   Depths c args stack rest ws = (below : List ℕ) × (take_args c.args [] stack ≡ Some (args, below)) × (uncover c.indirect below ≡ rest)
 
-  awaits : (r : Reading) (c : Call) (args stack rest : List ℕ) (ws : List Waiting) → Depths c args stack rest ws → action lay (Under c stack ws) ≡ Awaits (record { call = c; args = args; values = stack; rest = rest; depth = ws })
-  awaits r c args stack rest ws h = ap (λ o. with_args o (awaiting c stack ws)) h.1 ∙ ap (λ z. Awaits (record { call = c; args = args; values = stack; rest = z; depth = ws })) h.2
+  awaits : (r : Reading) (c : Call) (args stack rest : List ℕ) (ws : List Waiting) → Depths c args stack rest ws → action lay (Under c stack ws) ≡ Awaits (record { call = c; args = args; values = stack; rest = rest; waits = ws })
+  awaits r c args stack rest ws h = ap (λ o. with_args o (awaiting c stack ws)) h.1 ∙ ap (λ z. Awaits (record { call = c; args = args; values = stack; rest = z; waits = ws })) h.2
 
   any_step_agrees : (r : Reading) (n : ℕ) (b : Bodies) (c : Call) (args stack rest : List ℕ) (ws : List Waiting) (go : ℕ → Marks) (again : Marks) → After r n b → ((v : ℕ) → Agree r lay n (go v) (Going c.then (v ∷ rest) ws)) → Agree r lay n again (Under c stack ws)
-      → (a : Answer) → Agree r lay n (any_step s b c.func go again a) (code_lists.after_below lay (record { call = c; args = args; values = stack; rest = rest; depth = ws }) a)
+      → (a : Answer) → Agree r lay n (any_step s b c.func go again a) (code_lists.after_below lay (record { call = c; args = args; values = stack; rest = rest; waits = ws }) a)
   any_step_agrees r n b c args stack rest ws go again h k m (CalledBack g bs) =
       back_agrees r n b g bs (λ v. again) stack (ForBelow c g) ws h (λ v. by_ask r lay n Replay (UpReturns g v) (λ x. again) (λ x. Under c stack ws) (Closing v (ForBelow c g) stack ws) refl (λ a j lt. fewer r lay j n again (Under c stack ws) (omega arith) m))
   any_step_agrees r n b c args stack rest ws go again h k m (Value v) = result_agrees r n c.func go c.then rest ws k (Value v)
@@ -139,7 +139,7 @@ module _ (s : Source) (code : Flat) (low : IsLowered s code) where
       → Agree Above lay n (any_below m s b c.func args go) (Under c stack ws)
   any_agrees zero n b c args stack rest ws go lt h w k = absurd (omega arith)
   any_agrees (suc m) n b c args stack rest ws go lt h w k =
-      let p : Pending = record { call = c; args = args; values = stack; rest = rest; depth = ws } in
+      let p : Pending = record { call = c; args = args; values = stack; rest = rest; waits = ws } in
       by_ask Above lay n Replay (Below c.func args) (any_step s b c.func go (any_below m s b c.func args go)) (code_lists.after_below lay p) (Under c stack ws) (ap (next_of Above lay) (awaits Above c args stack rest ws w))
       (λ a j less_n.
       let hs = fewer_after Above j n b (omega arith) h in
@@ -153,13 +153,13 @@ module _ (s : Source) (code : Flat) (low : IsLowered s code) where
   own_agrees : (n : ℕ) (b : Bodies) (c : Call) (args stack rest : List ℕ) (ws : List Waiting) (go : ℕ → Marks) (o : Option Body) → body_of s c.func ≡ o → After Split n b → Depths c args stack rest ws → ((v : ℕ) → Agree Split lay n (go v) (Going c.then (v ∷ rest) ws))
       → Agree Split lay n (own_below s b (is_some o) c.func args go) (Under c stack ws)
   own_agrees n b c args stack rest ws go (Some d) e h w k =
-      let p : Pending = record { call = c; args = args; values = stack; rest = rest; depth = ws } in
+      let p : Pending = record { call = c; args = args; values = stack; rest = rest; waits = ws } in
       let at = entered c.func d e in
       entering_agrees Split n b System System false c.func args d (λ v. ask Replay (Returns c.func args v) (λ x. go v)) (Under c stack ws) stack (ForRet c ∷ ws) e h
       (ap (next_of Split lay) (awaits Split c args stack rest ws w) ∙ ap (λ z. code_lists.below Split lay p z) at.1)
       (λ v. by_ask Split lay n Replay (Returns c.func args v) (λ x. go v) (λ x. Going c.then (v ∷ rest) ws) (Closing v (ForRet c) stack ws) (returns c args stack rest ws v w) (λ a j lt. fewer Split lay j n (go v) (Going c.then (v ∷ rest) ws) (omega arith) (k v)))
   own_agrees n b c args stack rest ws go None e h w k =
-      let p : Pending = record { call = c; args = args; values = stack; rest = rest; depth = ws } in
+      let p : Pending = record { call = c; args = args; values = stack; rest = rest; waits = ws } in
       let none = low.others c.func e in
       by_ask Split lay n Replay (Gives c.func args) (with_value (result_shape s c.func) go) (valued (result_of lay c.func) c.then rest ws) (Under c stack ws)
       (ap (next_of Split lay) (awaits Split c args stack rest ws w) ∙ ap (λ z. code_lists.below Split lay p z) none)
@@ -178,7 +178,7 @@ module _ (s : Source) (code : Flat) (low : IsLowered s code) where
   -- ---- calls
 
   plain_answered : (r : Reading) (n : ℕ) (b : Bodies) (f : ℕ) (args : List ℕ) (d : Body) (go : ℕ → Marks) (then : Activation) (rest : List ℕ) (ws : List Waiting) → body_of s f ≡ Some d → After r n b → BodyAgrees r n b → ((v : ℕ) → Agree r lay n (go v) (Going then (v ∷ rest) ws))
-      → (a : Answer) → Agree r lay n (back_or_plain s b f args go a) (code_lists.after_call_back lay (record { call = record { func = f; args = length args; indirect = true; then = then }; args = args; values = rest; rest = rest; depth = ws }) a)
+      → (a : Answer) → Agree r lay n (back_or_plain s b f args go a) (code_lists.after_call_back lay (record { call = record { func = f; args = length args; indirect = true; then = then }; args = args; values = rest; rest = rest; waits = ws }) a)
   plain_answered r n b f args d go then rest ws e h m k (CalledBack g bs) =
       back_agrees r n b f args go rest (ForUpRet then f) ws h (λ v. by_ask r lay n Replay (UpReturns f v) (λ x. go v) (λ x. Going then (v ∷ rest) ws) (Closing v (ForUpRet then f) rest ws) refl (λ a j lt. fewer r lay j n (go v) (Going then (v ∷ rest) ws) (omega arith) (k v)))
   plain_answered r n b f args d go then rest ws e h m k (Frame at) = frame_answered r n b System f d go rest (ForValue then ∷ ws) e m k (Frame at)
@@ -188,23 +188,23 @@ module _ (s : Source) (code : Flat) (low : IsLowered s code) where
 
   -- what a call of the code leads to, by the caller's side and what is known of the function
   abbrev Leading : Reading → Config → Side → Bool → Option ℕ → (i : Bool) → (f : ℕ) → (args stack rest : List ℕ) → Activation → List Waiting → Type 0
-  Leading r c side face e i f args stack rest then ws = step r lay c ≡ code_lists.called lay (record { call = record { func = f; args = length args; indirect = i; then = then }; args = args; values = stack; rest = rest; depth = ws }) side face e
+  Leading r c side face e i f args stack rest then ws = step r lay c ≡ code_lists.called lay (record { call = record { func = f; args = length args; indirect = i; then = then }; args = args; values = stack; rest = rest; waits = ws }) side face e
 
   below_plain : (r : Reading) (n : ℕ) (b : Bodies) (i : Bool) (f : ℕ) (args : List ℕ) (d : Body) (go : ℕ → Marks) (c : Config) (stack rest : List ℕ) (then : Activation) (ws : List Waiting) → then.side ≡ System → body_of s f ≡ Some d → After r n b
-      → step r lay c ≡ code_lists.entered_below lay (record { call = record { func = f; args = length args; indirect = i; then = then }; args = args; values = stack; rest = rest; depth = ws }) i
+      → step r lay c ≡ code_lists.entered_below lay (record { call = record { func = f; args = length args; indirect = i; then = then }; args = args; values = stack; rest = rest; waits = ws }) i
       → ((v : ℕ) → Agree r lay n (go v) (Going then (v ∷ rest) ws)) → Agree r lay n (entering_below s b i f args go) c
   below_plain r n b false f args d go c stack rest then ws is e h w k =
       entering_agrees r n b System System false f args d go c rest (ForValue then ∷ ws) e h
       (w ∙ ap (λ z. Wants z (Enters false f args (machine.frame_of lay f args)) (framed lay z f rest (ForValue then ∷ ws))) is) k
   below_plain r n b true f args d go c stack rest then ws is e h w k =
       by_ask r lay n System (CallsBack f args (frame_of s f args)) (back_or_plain s b f args go)
-      (code_lists.after_call_back lay (record { call = record { func = f; args = length args; indirect = true; then = then }; args = args; values = stack; rest = rest; depth = ws })) c
-      (w ∙ ap (λ z. Wants System (CallsBack f args z) (code_lists.after_call_back lay (record { call = record { func = f; args = length args; indirect = true; then = then }; args = args; values = stack; rest = rest; depth = ws }))) (sym (frames_same f d args e)))
+      (code_lists.after_call_back lay (record { call = record { func = f; args = length args; indirect = true; then = then }; args = args; values = stack; rest = rest; waits = ws })) c
+      (w ∙ ap (λ z. Wants System (CallsBack f args z) (code_lists.after_call_back lay (record { call = record { func = f; args = length args; indirect = true; then = then }; args = args; values = stack; rest = rest; waits = ws }))) (sym (frames_same f d args e)))
       (λ a j lt. same_answer j a (plain_answered r j b f args d go then rest ws e (fewer_after r j n b (omega arith) h) (h j lt) (less r j n go (λ v. Going then (v ∷ rest) ws) (omega arith) k) a))
     where
       same_answer : (j : ℕ) (a : Answer)
-          → Agree r lay j (back_or_plain s b f args go a) (code_lists.after_call_back lay (record { call = record { func = f; args = length args; indirect = true; then = then }; args = args; values = rest; rest = rest; depth = ws }) a)
-          → Agree r lay j (back_or_plain s b f args go a) (code_lists.after_call_back lay (record { call = record { func = f; args = length args; indirect = true; then = then }; args = args; values = stack; rest = rest; depth = ws }) a)
+          → Agree r lay j (back_or_plain s b f args go a) (code_lists.after_call_back lay (record { call = record { func = f; args = length args; indirect = true; then = then }; args = args; values = rest; rest = rest; waits = ws }) a)
+          → Agree r lay j (back_or_plain s b f args go a) (code_lists.after_call_back lay (record { call = record { func = f; args = length args; indirect = true; then = then }; args = args; values = stack; rest = rest; waits = ws }) a)
       same_answer j (CalledBack g bs) m = m
       same_answer j (Frame at) m = m
       same_answer j (Value v) m = m
