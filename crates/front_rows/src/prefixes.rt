@@ -1,6 +1,6 @@
-use program_runs::{Left, POOL, check_cut, check_of, prefix};
 use r2_cli::Status;
 use std::alloc::{AllocError, Global};
+use test_runs::{Left, POOL, check_cut, check_of, prefix};
 
 /// The status of a refusal has its line, and nothing is printed; else the word is.
 fn is_an_answer(left: &Left) -> bool {

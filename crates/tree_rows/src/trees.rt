@@ -2,8 +2,8 @@
 
 use c_lexer::lex;
 use c_parser::{ParseError, parse};
-use program_runs::signs_before_zero;
 use std::alloc::{AllocError, Global};
+use test_runs::signs_before_zero;
 use tree_text::show;
 
 /// The longest source in bytes.

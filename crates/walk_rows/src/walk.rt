@@ -5,10 +5,10 @@ ghost use Rattle.std.specs.Prelude.{◌≤◌, ◌<◌, length};
 
 use log_codec::parse;
 use log_reference::{first_wrong_byte, first_wrong_event};
-use program_runs::{SUM, order_of, two_threads};
 use r2_cli::Status;
 use std::alloc::{AllocError, Global};
 use std::process::Abort;
+use test_runs::{SUM, order_of, two_threads};
 
 /// What `order` leaves by the plain definitions: its status, its line, and the end of what it prints.
 #[derive(Drop)]

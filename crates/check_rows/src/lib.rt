@@ -1,5 +1,0 @@
-//! Worked examples of the command `check`.
-#![tactic(auto)]
-
-#[cfg(test)]
-mod check;

@@ -1,5 +1,0 @@
-//! Worked examples of the command `order`.
-#![tactic(auto)]
-
-#[cfg(test)]
-mod order;
