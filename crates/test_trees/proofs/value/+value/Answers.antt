@@ -10,9 +10,9 @@ show_value-show_expr-requires t c = plain_fits c.args.tree.now c.args.value.now 
 
 pub show_value-show_values-requires : goal.show_value-show_values-requires
 show_value-show_values-requires t c = (
-    search rules,
-    subst (AreValues c.args.tree.now) (sym c.as_slice.ensures.value) (braces_fit c.args.tree.now c.args.value.now c.in-Braces.from c.in-Braces.values c.requires c.in-Braces.is),
-  )
+  search rules,
+  subst (AreValues c.args.tree.now) (sym c.as_slice.ensures.value) (braces_fit c.args.tree.now c.args.value.now c.in-Braces.from c.in-Braces.values c.requires c.in-Braces.is),
+)
 
 pub show_values-show_value-requires : goal.show_values-show_value-requires
 show_values-show_value-requires t c =
