@@ -1,0 +1,13 @@
+//! Calls of libraries that no command makes yet, and values from outside that their clauses are held to.
+#![tactic(auto)]
+
+#[cfg(test)]
+mod layouts;
+#[cfg(test)]
+mod logs;
+#[cfg(test)]
+mod names;
+#[cfg(test)]
+mod numbers;
+#[cfg(test)]
+mod outside;

@@ -1,0 +1,117 @@
+// The calls that a script may make.
+
+use crate::words::{Word, numbers_of};
+use crate::{Answer, Memory};
+use Word::{Number, Side, Write};
+use memory_map::{Bytes8, Place, Range};
+use std::alloc::{AllocError, Global};
+
+/// Makes the call on the memory that a word names, with what stands after it.
+pub fn make(
+    alloc: Global,
+    memory: &mut Memory,
+    name: &str,
+    words: &[Word],
+) -> Result<Answer, AllocError> {
+    match (name, words) {
+        ("load", [Side(side), Number(thread), Number(addr), Number(width)]) => {
+            Ok(memory.load(*side, *thread, *addr, *width))
+        }
+        (
+            "store",
+            [
+                Side(side),
+                Number(thread),
+                Number(addr),
+                Number(width),
+                Number(value),
+            ],
+        ) => { Ok(memory.store(*side, *thread, *addr, *width, *value)) }
+        ("cells", [Number(addr)]) => Ok(memory.cells(*addr)),
+        ("alloc", [Side(side), Number(len)]) => Ok(memory.alloc_in(*side, *len)),
+        ("free", [Side(side), Number(addr)]) => Ok(memory.free_in(*side, *addr)),
+        ("block", [Side(side), Number(addr)]) => Ok(memory.block(*side, *addr)),
+        ("enter", [Side(side), Number(thread), Number(size)]) => {
+            Ok(memory.enter(*side, *thread, *size))
+        }
+        ("top", [Side(side), Number(thread)]) => Ok(memory.top(*side, *thread)),
+        ("leave", [Side(side), Number(thread)]) => Ok(memory.leave(*side, *thread)),
+        (
+            "arg",
+            [
+                Side(side),
+                Number(thread),
+                Number(offset),
+                Number(width),
+                Number(value),
+            ],
+        ) => { Ok(memory.set_arg(*side, *thread, *offset, *width, *value)) }
+        _ => make_for_call(alloc, memory, name, words),
+    }
+}
+
+/// Makes a call that speaks of open calls and what they hold, or of objects.
+fn make_for_call(
+    alloc: Global,
+    memory: &mut Memory,
+    name: &str,
+    words: &[Word],
+) -> Result<Answer, AllocError> {
+    match (name, words) {
+        ("open", [Number(thread)]) => Ok(memory.open(*thread)),
+        ("undo", [Number(thread)]) => Ok(memory.undo(*thread)),
+        ("hold", [Number(thread), Number(addr), Number(len), Write(write)]) => {
+            let range = Range {
+                addr: *addr,
+                len: *len,
+            };
+            Ok(memory.hold(alloc, *thread, range, *write))
+        }
+        ("prepare", [Number(thread), Number(key), Number(addr), Number(len)]) => {
+            let range = Range {
+                addr: *addr,
+                len: *len,
+            };
+            Ok(memory.prepare(alloc, *thread, *key, range))
+        }
+        ("prepared", [Number(key)]) => Ok(memory.prepared(*key)),
+        ("release", [Number(thread), used @ ..]) => release(alloc, memory, *thread, used, None),
+        ("commit", [Number(thread), Number(key), Number(size), used @ ..]) => {
+            release(alloc, memory, *thread, used, Some((*key, *size)))
+        }
+        ("global", [Number(addr), bytes @ ..]) => place(alloc, memory, true, *addr, bytes),
+        ("string", [Number(addr), bytes @ ..]) => place(alloc, memory, false, *addr, bytes),
+        _ => Ok(Answer::NoCall),
+    }
+}
+
+fn release(
+    alloc: Global,
+    memory: &mut Memory,
+    thread: u64,
+    used: &[Word],
+    commit: Option<(u64, u64)>,
+) -> Result<Answer, AllocError> {
+    match numbers_of(alloc, used)? {
+        Some(used) => Ok(memory.release(thread, used.as_slice(), commit)),
+        None => Ok(Answer::NoCall),
+    }
+}
+
+fn place(
+    alloc: Global,
+    memory: &mut Memory,
+    is_global: bool,
+    addr: u64,
+    bytes: &[Word],
+) -> Result<Answer, AllocError> {
+    let mut init = Vec::new(alloc);
+    for word in bytes {
+        match word {
+            Number(byte) if *byte < 256 => init.push(*byte as u8)?,
+            _ => return Ok(Answer::NoCall),
+        }
+    }
+    let init = Bytes8::from(init);
+    memory.place(alloc, is_global, Place { addr, init })
+}
