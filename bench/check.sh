@@ -3,9 +3,9 @@
 # annotations, and its peak memory over the size of the source. Never a gate. The aims are 1.0 and 150.
 set -eu
 cd "$(dirname "${BASH_SOURCE[0]}")"
-../r2 --version
+program=$(../prebuilt/program)
 scratch=$(mktemp -d)
 trap 'rm -rf "$scratch"' EXIT
 
 python3 -B spell_source.py 393216 "$scratch/ordinary.c" "$scratch/plain.c"
-python3 -B measure_check.py ../crates/r2_main/out/r2_main "$scratch/ordinary.c" "$scratch/plain.c" "$scratch"
+python3 -B measure_check.py "$program" "$scratch/ordinary.c" "$scratch/plain.c" "$scratch"

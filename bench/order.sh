@@ -3,10 +3,9 @@
 # of the log. Never a gate. The aims are 1.0 and 12, and 24 times the size for hostile logs.
 set -eu
 cd "$(dirname "${BASH_SOURCE[0]}")"
-../r2 --version
 scratch=$(mktemp -d)
 trap 'rm -rf "$scratch"' EXIT
-program=../crates/r2_main/out/r2_main
+program=$(../prebuilt/program)
 
 measure() {
     python3 -B spell_logs.py "$1" "$2" "$scratch/$3"
