@@ -1,7 +1,9 @@
 pub mod Values
 pub mod Frames
+pub mod Builtins
 pub mod Machine
 pub mod MarkLists
 pub mod Valid
 pub mod Laws
+pub mod Typed
 pub mod Fits

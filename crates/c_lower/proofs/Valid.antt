@@ -1,5 +1,5 @@
 -- The code of a program whose evaluation stack is small is valid.
-use Rattle.std.proofs.Common.{◌≡◌, ℕ, zero, suc, ◌+◌, ◌^◌, ◌<◌, ◌≤◌, Bool, true, false, ◌||◌, cond, lit≤, List, [], ◌∷◌, ◌++◌, length, map, Option, Some, None, refl, sym, ap, ◌∙◌, subst, arith}
+use Rattle.std.proofs.Common.{◌≡◌, ℕ, zero, suc, ◌+◌, ◌^◌, ◌<◌, ◌≤◌, Bool, true, false, ◌||◌, cond, List, [], ◌∷◌, ◌++◌, length, map, Option, Some, None, refl, sym, ap, ◌∙◌, subst, arith}
 use Rattle.std.specs.Prelude.{nat_lt, slice_get}
 use Rattle.std.specs.Option.{option_map}
 use Rattle.std.proofs.lemmas.List.{length-map}
@@ -9,12 +9,13 @@ use Rattle.memory_map.specs.declared.placed.Placed.{Placed}
 use Rattle.c_code.specs.declared.code.FuncInfo.{FuncInfo}
 use Rattle.c_code.specs.declared.instr.Instr.{Instr}
 use Rattle.c_code.specs.Machine.{Flat, flat, func_of}
-use Rattle.c_code.specs.Valid.{IsSteady, IsValid}
+use Rattle.c_code.specs.Builtins.{IsBuiltin, prototype}
+use Rattle.c_code.specs.Valid.{start_sig, IsStart, IsSteady, IsValid}
 use Rattle.c_types_model.specs.Types.{CType}
 use Rattle.c_builtins.specs.declared.builtin.Builtin.{Builtin}
 use Rattle.c_builtins.specs.declared.builtin.Builtin.TheVariants.{Malloc, Free, Spawn, Join, Lock, Unlock, Print}
 use Rattle.c_builtins.specs.declared.lookup.TheConstants.{BUILTINS}
-use Rattle.c_builtins.specs.Table.{number_of}
+use Rattle.c_builtins.specs.Table.{number_of, params_of as params_of_prototype, prototype_of, result_of as result_of_prototype, thread_function}
 use Rattle.c_types_rules.specs.Sources as sources
 use Rattle.c_types_rules.specs.TypedTree as typed
 use Rattle.c_semantics.specs.Context.{Source, body_of, shape_of, shapes_of, type_of}
@@ -143,6 +144,18 @@ module _ (p : Declared) where
         ha.1 ∙ (ap (λ t. shape_of (sources.result_of t)) same ∙ sym hb.1),
       )
 
+  -- the first of the fixed types is what a thread may run
+  starts : (f : ℕ) (a : FuncInfo) → func_of code f ≡ Some a → a.sig ≡ start_sig → IsStart a
+  unfolding sig_in
+  starts f a e zero_sig =
+      let h = typed_at p [] nowhere f a e in
+      let us = fixed_types ++ types_of_functions s.program.functions in
+      let same : thread_function ≡ type_of s f = one_place us thread_function (type_of s f) h.3 (sym (sym h.2 ∙ zero_sig)) in
+      (h.0 ∙ ap (λ t. shapes_of (sources.params_of t)) (sym same), h.1 ∙ ap (λ t. shape_of (sources.result_of t)) (sym same))
+
+  is_builtin : (b : Builtin) → IsBuiltin (builtin_info p b) (prototype (shapes_of (params_of_prototype (prototype_of b))) (shape_of (result_of_prototype (prototype_of b))))
+  is_builtin b = record { params = refl; result = refl; no_body = refl }
+
   pub valid : IsFit p → ((us : List ℕ) × (first_wide p.table us 0 p.functions ≡ None)) → length (codes_of p p.functions) < 2 ^ 32 → ((height : ℕ → ℕ) → IsMadeOf s code sig height → IsSteady code height) → IsValid code
   unfolding source_in
   valid fit few short law = record {
@@ -150,7 +163,8 @@ module _ (p : Declared) where
     steady = law height (made few.0 fit few.1);
     few_params = λ f info e. let h = typed_at p [] nowhere f info e in subst (λ ps. length ps ≤ 8) (sym h.0) (fit.few_params f);
     one_type = one_type;
-    builtins = lit≤ tt;
+    starts = starts;
+    builtins = (is_builtin Malloc, (is_builtin Free, (is_builtin Spawn, (is_builtin Join, (is_builtin Lock, (is_builtin Unlock, (is_builtin Print, tt)))))));
     numbered = omega (arith, fit.few_functions, infos_counted p p.functions 0, length-map p.functions (function_in p.table));
     placed = short;
   }

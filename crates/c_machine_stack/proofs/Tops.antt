@@ -1,7 +1,7 @@
 -- The last items of a list are the first ones of it reversed.
 use Rattle.std.proofs.Common.{◌≡◌, ℕ, zero, suc, ◌+◌, ◌-◌, ◌<◌, ◌≤◌, ⊎_elim, List, [], ◌∷◌, ◌++◌, length, get_or, take, drop, set, sym, ap, ◌∙◌, refl, arith}
 use Rattle.std.specs.Prelude.{reverse}
-use Rattle.std.proofs.lemmas.List.{take_more, take_all, length-take-le, get_or-take, take-append-drop, reverse-append, reverse-reverse, length-reverse, length-drop, length-set, get_or-set_same, take-set}
+use Rattle.std.proofs.lemmas.List.{append-nil, take_more, take_all, length-take-le, get_or-take, take-append-drop, reverse-append, reverse-reverse, length-reverse, length-drop, length-set, get_or-set_same, take-set}
 use Rattle.std.proofs.lemmas.Bool.{cases_lt}
 use Rattle.std.proofs.Math.Seq.{take-append_seam, drop-append_seam}
 use Rattle.std.proofs.Math.ListN.{drop_of_length-le}
@@ -74,3 +74,22 @@ last_changed xs n x e =
     ∙ ap (λ l. x ∷ reverse l) (take-set xs n x)
     ∙ ap (λ m. x ∷ reverse (take m xs)) last
     ∙ ap (λ l. x ∷ l) (prefix_is xs 1)
+
+-- the last n again after the list are the first n again before it
+pub repeated : {A : Type 0} (xs : List A) (n : ℕ) → reverse (xs ++ drop (length xs - n) xs) ≡ take n (reverse xs) ++ reverse xs
+repeated xs n = reverse-append xs (drop (length xs - n) xs) ∙ ap (λ l. l ++ reverse xs) (ap reverse (tail_is xs n) ∙ reverse-reverse (take n (reverse xs)))
+
+-- the list without the item before the last n
+pub one_gone : {A : Type 0} (xs : List A) (n k : ℕ) → k + n + 1 ≡ length xs → reverse (take k xs ++ drop (k + 1) xs) ≡ take n (reverse xs) ++ drop (n + 1) (reverse xs)
+one_gone xs n k e =
+    let last : k + 1 ≡ length xs - n = omega arith in
+    let before : k ≡ length xs - (n + 1) = omega arith in
+    reverse-append (take k xs) (drop (k + 1) xs)
+    ∙ ap (λ l. l ++ reverse (take k xs)) (ap (λ m. reverse (drop m xs)) last ∙ ap reverse (tail_is xs n) ∙ reverse-reverse (take n (reverse xs)))
+    ∙ ap (λ l. take n (reverse xs) ++ l) (ap (λ m. reverse (take m xs)) before ∙ prefix_is xs (n + 1))
+
+-- where there are no more than n, none is gone
+pub none_gone : {A : Type 0} (xs : List A) (n : ℕ) → length xs ≤ n → reverse xs ≡ take n (reverse xs) ++ drop (n + 1) (reverse xs)
+none_gone xs n le =
+    let few : length (reverse xs) ≤ n = omega (arith, length-reverse xs) in
+    sym (ap (λ l. l ++ drop (n + 1) (reverse xs)) (take_all n (reverse xs) few) ∙ ap (λ l. reverse xs ++ l) (drop_of_length-le (reverse xs) (omega (arith, few))) ∙ append-nil (reverse xs))

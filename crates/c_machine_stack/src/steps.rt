@@ -1,6 +1,6 @@
 // What a stack does. Contracts see what it holds as a list with the topmost value first.
 
-ghost use Rattle.std.specs.Prelude.{◌≡◌, ◌==◌, ◌<◌, ◌≤◌, List, [], ◌∷◌, length, take, drop, reverse, IfOk, IfSome, IfNone};
+ghost use Rattle.std.specs.Prelude.{◌≡◌, ◌==◌, ◌+◌, ◌<◌, ◌≤◌, List, [], ◌∷◌, ◌++◌, length, take, drop, reverse, IfOk, IfSome, IfNone};
 ghost use Rattle.c_machine_stack.specs.Stacks.{held, room_of};
 
 use crate::Stack;
@@ -109,6 +109,30 @@ impl<T: Copy + Drop> Stack<T> {
         ensures room { room_of self.new ≡ room_of self.old }
     {
         self.items.truncate(self.items.len().saturating_sub(count));
+    }
+
+    /// Puts the topmost `count` values on top again, in their order; all where there are fewer.
+    pub fn repeat_top(&mut self, count: usize)
+        requires { length (held self.old) + count ≤ room_of self.old }
+        ensures repeated { held self.new ≡ take count (held self.old) ++ held self.old }
+        ensures room { room_of self.new ≡ room_of self.old }
+    {
+        let from = self.items.len().saturating_sub(count);
+        match self.items.extend_from_within(from..) {
+            Ok(()) => {}
+            Err(_) => unreachable!("the stack has room for the values"),
+        }
+    }
+
+    /// Takes away the value below the topmost `count`, where there is one.
+    pub fn drop_below(&mut self, count: usize)
+        ensures dropped { held self.new ≡ take count (held self.old) ++ drop (count + 1) (held self.old) }
+        ensures room { room_of self.new ≡ room_of self.old }
+    {
+        let len = self.items.len();
+        if count < len {
+            let _gone = self.items.remove(len - count - 1);
+        }
     }
 
     /// Takes all values away.

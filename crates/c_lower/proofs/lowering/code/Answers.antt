@@ -1,4 +1,4 @@
-use Rattle.std.proofs.Common.{◌≡◌, ℕ, ◌^◌, ◌<◌, ◌≤◌, List, length, ap, arith}
+use Rattle.std.proofs.Common.{◌≡◌, ◌^◌, ◌<◌, ◌≤◌, length, ap, arith}
 use Rattle.c_lower.specs.Lowered.{codes_of, infos_from}
 use Rattle.c_lower.proofs.Gathered.{codes_whole, infos_whole}
 use Rattle.c_lower.proofs.Valid.{valid_made}
