@@ -4,18 +4,17 @@ pub mod Onward
 pub mod Halts
 pub mod Insides
 pub mod Begins
+pub mod Runs
 pub mod Pushes
 pub mod Space
 pub mod Hearing
-mod Empty
 pub mod Facts
-pub mod Making
+pub mod Answering
+pub mod Following
 pub mod Marked
 pub mod Calling
 pub mod Callers
-mod Program
 pub mod Counts
-pub mod Firsts
 pub mod Returning
 pub mod Words
 pub mod Signs

@@ -8,5 +8,6 @@ pub mod Rooms
 pub mod Readers
 pub mod Answers
 pub mod Makes
+pub mod Follows
 pub mod Callers
 pub mod Operators

@@ -3,12 +3,11 @@
 ghost use Rattle.std.specs.Prelude.{◌≡◌, ◌+◌, ◌<◌, ◌≤◌, ◌&&◌, not, false, ◌∷◌, ◌++◌, [], length, drop, reverse};
 ghost use Rattle.marks.specs.declared.side.Side.TheVariants.{Replay};
 ghost use Rattle.c_code.specs.declared.activation.Waiting.TheVariants.{ForBelow, ForUpRet, ForOutside};
-ghost use Rattle.c_code.specs.Valid.{most_values};
 ghost use Rattle.c_code.specs.Fits.{values_of, waits_of};
-ghost use Rattle.c_code.specs.Machine.{Entering, uncover as uncovered};
+ghost use Rattle.c_code.specs.Valid.{most_values};
+ghost use Rattle.c_code.specs.Machine.{Entering, Starting, Under, uncover as uncovered};
 ghost use Rattle.c_machine_stack.specs.Stacks.{held, room_of};
-ghost use Rattle.c_machine.specs.declared.state.State.TheVariants.{Calling as AtCalling};
-ghost use Rattle.c_machine.specs.Positions.{laid, config};
+ghost use Rattle.c_machine.specs.Positions.{laid, config, crossed, made_of};
 ghost use Rattle.c_machine.specs.Moves.{MayBegin, begun, crosses as crosses_in, kept, waiting as waiting_of};
 
 use crate::position::Position;
@@ -18,7 +17,7 @@ use c_code::{Call, Code, Placed, Side, Waiting};
 use c_machine_stack::Stack;
 
 impl Position {
-    // A function begins, at a call or outside of all.
+    // A function begins: at a call, outside of all, or as the thread's first one.
     pub(crate) fn begin(
         &mut self,
         code: &Code,
@@ -37,18 +36,26 @@ impl Position {
         ensures waits { room_of self.new.waits ≡ room_of self.old.waits }
     {
         match self.state {
-            State::Calling(call) => self.begin_at(call, code, placed, func, args, side, up),
+            State::Calling(call, _) => self.begin_at(call, code, placed, func, args, side, up),
+            State::Starting(Some(_)) => {
+                if up {
+                    self.begin_up_outside(func, args);
+                } else {
+                    self.begin_outside(true, func, args, side);
+                }
+            }
             State::Done(_) => {
                 if up {
                     self.begin_up_outside(func, args);
                 } else {
-                    self.begin_outside(func, args, side);
+                    self.begin_outside(false, func, args, side);
                 }
             }
-            State::Going(_) => self.state = State::Lost,
-            State::Entering(_) => self.state = State::Lost,
-            State::Closing(_, _) => self.state = State::Lost,
-            State::Lost => {}
+            State::Going(_)
+            | State::Entering(_)
+            | State::Closing(_, _)
+            | State::Starting(None)
+            | State::Lost => self.state = State::Lost,
         }
     }
 
@@ -63,7 +70,7 @@ impl Position {
         side: Side,
         up: bool,
     )
-        requires state { self.old.state ≡ AtCalling call }
+        requires at { config self.old ≡ Under call (held self.old.values) (held self.old.waits) }
         requires may { MayBegin (laid code.now placed.now) (config self.old) func args.now side up }
         requires few { length args.now ≤ most_values }
         requires values { length (held self.old.values) + length args.now < room_of self.old.values }
@@ -158,17 +165,40 @@ impl Position {
         self.enter(Side::Replay, false, func, args);
     }
 
-    // A function begins outside of all calls.
-    fn begin_outside(&mut self, func: u16, args: &[u64], side: Side)
-        requires few { length args.now ≤ most_values }
-        requires values { length args.now < room_of self.old.values }
-        ensures begun { config self.new ≡ Entering side false func args.now [] [] }
+    // The thread starts with the function.
+    pub(crate) fn start(&mut self, func: Option<u16>, args: &[u64])
+        requires { length args.now < room_of self.old.values }
+        ensures started { config self.new ≡ Starting func args.now }
+        ensures made { made_of self.new.state ≡ false }
         ensures values { room_of self.new.values ≡ room_of self.old.values }
         ensures waits { room_of self.new.waits ≡ room_of self.old.waits }
     {
         self.values.clear();
         self.waits.clear();
-        self.enter(side, false, func, args);
+        push_all(&mut self.values, args);
+        self.state = State::Starting(func);
+    }
+
+    // The event of the call was made.
+    pub(crate) fn cross(&mut self)
+        ensures crossed { self.new ≡ record self.old { state = crossed self.old.state } }
+    {
+        if let State::Calling(call, _) = self.state {
+            self.state = State::Calling(call, true);
+        }
+    }
+
+    // A function begins outside of all calls.
+    fn begin_outside(&mut self, indirect: bool, func: u16, args: &[u64], side: Side)
+        requires few { length args.now ≤ most_values }
+        requires values { length args.now < room_of self.old.values }
+        ensures begun { config self.new ≡ Entering side indirect func args.now [] [] }
+        ensures values { room_of self.new.values ≡ room_of self.old.values }
+        ensures waits { room_of self.new.waits ≡ room_of self.old.waits }
+    {
+        self.values.clear();
+        self.waits.clear();
+        self.enter(side, indirect, func, args);
     }
 
     // The function is to be entered, with these arguments on top of the values.

@@ -1,29 +1,47 @@
 //! What a thread is asked and told.
 
-ghost use Rattle.std.specs.Prelude.{◌≡◌, ℕ, ◌<◌, Some, IfOk};
-ghost use Rattle.c_code.specs.Machine.{Laid, Done, action};
+ghost use Rattle.std.specs.Prelude.{◌≡◌, ◌^◌, ℕ, ◌<◌, ◌≤◌, false, true, Option, [], ◌∷◌, length, Some, IfOk};
+ghost use Rattle.marks.specs.declared.side.Side.TheVariants.{Replay};
+ghost use Rattle.memory_map.specs.declared.placed.Placed.{Placed as Places};
+ghost use Rattle.c_code.specs.Machine.{Laid, Done, Starting, action, callee as callee_of};
+ghost use Rattle.c_code.specs.Typed.{StartsWell};
+ghost use Rattle.c_code.specs.Valid.{most_values, start_sig};
 ghost use Rattle.c_machine.specs.Positions.{laid};
 ghost use Rattle.c_machine.specs.declared.wants.Answer.{Answer as Answers};
 ghost use Rattle.c_machine.specs.Wants.{shown, told};
 ghost use Rattle.c_machine.specs.Answers.{IsNeeded};
 ghost use Rattle.c_machine.specs.declared.wants.Want.TheVariants.{Call as WantedCall, Ret as WantedRet};
-ghost use Rattle.c_machine.specs.Callers.{IsAtCall, IsAtReturn};
-ghost use Rattle.c_machine.specs.Moves.{MayBegin, MayFeed, IsInside, open_on, fed, begun, rested};
+ghost use Rattle.c_machine.specs.Readers.{args_of, func_at};
+ghost use Rattle.c_machine.specs.Callers.{IsAtCall, IsAtReturn, MayGoUp, MayRun, crosses_at, side_at};
+ghost use Rattle.c_machine.specs.Moves.{MayBegin, MayFeed, IsInside, open_on, after_answer, after_begin, after_call};
 
 use crate::position::Position;
 use crate::state::State;
 use crate::thread::Thread;
-use crate::tops::check;
+use crate::tops::{callee, check};
 use crate::wants::{Answer, Want};
 use c_code::{Code, Placed, Side};
 use c_machine_stack::Stack;
 use std::alloc::{AllocError, Global};
 
+// The number of the type `int (void *)`.
+const START_SIG: u32 = 0;
+
+/// The function that a thread with this address begins with: that of the source at the address, where it takes a pointer and gives
+/// an int.
+pub fn start_of(code: &Code, address: u64) -> Option<u16>
+    ensures is { (placed : Places) → result ≡ callee_of (laid code.now placed) start_sig address }
+    ensures well { (placed : Places) (arg : ℕ) → arg < 2 ^ 64 → StartsWell (laid code.now placed) result (arg ∷ []) }
+{
+    check(code);
+    callee(code, START_SIG, address)
+}
+
 impl Thread {
     /// The thread with this number, in no function. It takes the memory for as many activations as `depth` on each side;
     /// no other call takes any.
     pub fn new(alloc: Global, number: u8, depth: u16) -> Result<Thread, AllocError>
-        ensures new { IfOk result (λ thread. thread ≡ record { number = number; depth = depth; config = Done 0 }) }
+        ensures new { IfOk result (λ thread. thread ≡ record { number = number; depth = depth; made = false; config = Done 0 }) }
         ensures inside { IfOk result (λ thread. (l : Laid) → IsInside l thread.config) }
     {
         let waits = 2 * depth as usize;
@@ -37,6 +55,18 @@ impl Thread {
             depth,
             position,
         })
+    }
+
+    /// The thread starts with a call of this function through its address, below the cut; `None` where the address is that of none,
+    /// which is its fault.
+    pub fn start(&mut self, code: &Code, func: Option<u16>, args: &[u64])
+        requires few { length args.now ≤ most_values }
+        requires well { (placed : Places) → StartsWell (laid code.now placed) func args.now }
+        ensures started { self.new ≡ record self.old { made = false; config = Starting func args.now } }
+        ensures inside { (placed : Places) → IsInside (laid code.now placed) self.new.config }
+    {
+        check(code);
+        self.position.start(func, args);
     }
 
     /// The thread's next mark or call.
@@ -58,7 +88,7 @@ impl Thread {
     pub fn feed(&mut self, code: &Code, placed: &Placed, answer: Answer)
         requires inside { IsInside (laid code.now placed.now) self.old.config }
         requires may { MayFeed (laid code.now placed.now) self.old.config (told answer) }
-        ensures fed { self.new ≡ record self.old { config = rested (laid code.now placed.now) (fed (laid code.now placed.now) self.old.config (told answer)) } }
+        ensures fed { self.new ≡ after_answer (laid code.now placed.now) self.old (told answer) }
         ensures inside { IsInside (laid code.now placed.now) self.new.config }
     {
         check(code);
@@ -67,8 +97,17 @@ impl Thread {
         self.position.stop_at_call(code);
     }
 
-    /// The function begins on the side: at the call that is next, or outside of all calls. With `up` it is called back. The
-    /// next want is its Enter.
+    /// The event of the call that is next was made: the thread is below the cut.
+    pub fn cross(&mut self, code: &Code, placed: &Placed)
+        requires crosses { crosses_at (laid code.now placed.now) self.old.config ≡ true }
+        ensures crossed { self.new ≡ after_call self.old }
+    {
+        let _crosses = self.crosses(code, placed);
+        self.position.cross();
+    }
+
+    /// The function begins on the side: at the call that is next, as the thread's first one, or outside of all calls. With `up` it
+    /// is called back. The next want is its Enter.
     pub fn begin(
         &mut self,
         code: &Code,
@@ -81,10 +120,35 @@ impl Thread {
         requires inside { IsInside (laid code.now placed.now) self.old.config }
         requires may { MayBegin (laid code.now placed.now) self.old.config func args.now side up }
         requires depth { open_on side self.old.config < self.old.depth }
-        ensures begun { self.new ≡ record self.old { config = begun (laid code.now placed.now) self.old.config func args.now side up } }
+        ensures begun { self.new ≡ after_begin (laid code.now placed.now) self.old func args.now side up }
         ensures inside { IsInside (laid code.now placed.now) self.new.config }
     {
         check(code);
         self.position.begin(code, placed, func, args, side, up);
+    }
+
+    /// The function of the call that is next begins on its side, with the arguments that the thread has. The next want is its Enter.
+    pub fn run(&mut self, code: &Code, placed: &Placed)
+        requires inside { IsInside (laid code.now placed.now) self.old.config }
+        requires may { MayRun (laid code.now placed.now) self.old.config }
+        requires depth { open_on (side_at (laid code.now placed.now) self.old.config) self.old.config < self.old.depth }
+        ensures run { self.new ≡ after_begin (laid code.now placed.now) self.old (func_at self.old.config) (args_of self.old.config) (side_at (laid code.now placed.now) self.old.config) false }
+        ensures inside { IsInside (laid code.now placed.now) self.new.config }
+    {
+        check(code);
+        self.position.run(code, placed);
+    }
+
+    /// System code calls the function of its call that is next back, with the arguments that the thread has. The next want is its
+    /// Enter.
+    pub fn go_up(&mut self, code: &Code, placed: &Placed)
+        requires inside { IsInside (laid code.now placed.now) self.old.config }
+        requires may { MayGoUp (laid code.now placed.now) self.old.config }
+        requires depth { open_on Replay self.old.config < self.old.depth }
+        ensures up { self.new ≡ after_begin (laid code.now placed.now) self.old (func_at self.old.config) (args_of self.old.config) Replay true }
+        ensures inside { IsInside (laid code.now placed.now) self.new.config }
+    {
+        check(code);
+        self.position.go_up(code, placed);
     }
 }

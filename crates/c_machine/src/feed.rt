@@ -1,9 +1,10 @@
 // What an answer does to a thread.
 
-ghost use Rattle.std.specs.Prelude.{◌≡◌, ◌<◌, [], ◌∷◌, length, drop};
+ghost use Rattle.std.specs.Prelude.{◌≡◌, ◌<◌, [], ◌∷◌, length, drop, reverse};
 ghost use Rattle.memory_map.specs.declared.placed.Placed.{Placed as Places};
-ghost use Rattle.c_code.specs.Machine.{Going, close, framed, give as given, Laid, take_args, with_args, awaiting, returning, uncover as uncovered};
+ghost use Rattle.c_code.specs.Machine.{Going, Starting, close, framed, give as given, Laid, take_args, with_args, awaiting, returning, uncover as uncovered};
 ghost use Rattle.c_code.specs.Fits.{values_of};
+ghost use Rattle.c_code.specs.MarkLists.{result_of, ended as result_is};
 ghost use Rattle.c_code.specs.Valid.{IsValid};
 ghost use Rattle.c_machine_stack.specs.Stacks.{held, room_of};
 ghost use Rattle.c_machine.specs.Positions.{laid, config, IsElsewhere};
@@ -53,9 +54,10 @@ impl Position {
         ensures waits { room_of self.new.waits ≡ room_of self.old.waits }
     {
         match self.state {
-            State::Calling(call) => self.take_result(call, code, answer),
+            State::Calling(call, _) => self.take_result(call, code, answer),
             State::Entering(entry) => self.take_frame(entry, code, answer),
             State::Closing(value, waiting) => self.take_closing(value, waiting),
+            State::Starting(func) => self.take_first(func, code, answer),
             State::Going(_) | State::Done(_) | State::Lost => self.state = State::Lost,
         }
     }
@@ -93,6 +95,35 @@ impl Position {
             return;
         }
         self.replace(call, value);
+    }
+
+    // The result of a thread's first function, where it has one.
+    fn take_first(&mut self, func: Option<u16>, code: &Code, answer: Answer)
+        ensures fed { (placed : Places) → config self.new ≡ fed (laid code.now placed) (Starting func (reverse (held self.old.values))) (told answer) }
+        ensures values { room_of self.new.values ≡ room_of self.old.values }
+        ensures waits { room_of self.new.waits ≡ room_of self.old.waits }
+    {
+        match func {
+            Some(func) => self.take_first_result(func, code, answer),
+            None => self.state = State::Lost,
+        }
+    }
+
+    // A function that isn't run here gives the thread's result.
+    fn take_first_result(&mut self, func: u16, code: &Code, answer: Answer)
+        ensures fed { (placed : Places) → config self.new ≡ result_is (result_of (laid code.now placed) func) (told answer) }
+        ensures values { room_of self.new.values ≡ room_of self.old.values }
+        ensures waits { room_of self.new.waits ≡ room_of self.old.waits }
+    {
+        let Answer::Value(value) = answer else {
+            self.state = State::Lost;
+            return;
+        };
+        self.state = if result_shape(code, func).has_value(value) {
+            State::Done(value)
+        } else {
+            State::Lost
+        };
     }
 
     // A result takes the place of the arguments of its call, and of its address.
@@ -156,7 +187,7 @@ impl Position {
                 self.values.push(value);
                 self.state = State::Going(a);
             }
-            Waiting::ForBelow(call, _) => self.state = State::Calling(call),
+            Waiting::ForBelow(call, _) => self.state = State::Calling(call, true),
             Waiting::ForOutside(_) => self.state = State::Done(value),
         }
     }

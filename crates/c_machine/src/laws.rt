@@ -3,27 +3,18 @@
 ghost use Rattle.std.specs.Prelude.{ℕ, List};
 ghost use Rattle.c_code.specs.Machine.{Laid, Config};
 ghost use Rattle.c_code.specs.MarkLists.{Reading};
-ghost use Rattle.c_machine.specs.Makes.{EachListCanBeMade, EachCallIsMarks, EachThreadCanBeMade, EachStartIsMarks};
+ghost use Rattle.c_machine.specs.Follows.{EachMarkIsFollowed};
+ghost use Rattle.c_machine.specs.Makes.{EachCallIsMarks};
 
-/// A law: each list of marks of the code can be made by the calls of a thread, where after no mark more activations are open on
-/// a side than its depth.
-#[tactic(auto, using(crate::proofs::Making::each_list_can_be_made))]
-pub fn each_list_can_be_made()
-    ensures { (r : Reading) (l : Laid) (depth : ℕ) (c : Config) → EachListCanBeMade r l depth c }
+/// A law: a thread that is where its code is after some marks may be told of each mark that can follow, and is where its code is
+/// after that. What it is told is a function of what is wanted, of where it is and of the answer that the mark gives: of the event of a
+/// call by `cross`, of the frame of the function of a call by `run` and `feed`, of an Up by `go_up` at a call by system code and else
+/// by `begin`, of a fault nothing, and of all else by `feed`.
+pub fn each_mark_is_followed()
+    ensures { (r : Reading) (l : Laid) (c : Config) → EachMarkIsFollowed r l c }
 {}
 
 /// A law: each call of a thread makes marks of its code, as far as the reading of what is below the cut has it.
 pub fn each_call_is_marks()
     ensures { (r : Reading) (l : Laid) (depth : ℕ) (c : Config) → EachCallIsMarks r l depth c }
-{}
-
-/// A law: the marks of a thread of the code can be made by one that is in no function, from the first one on, where that is no
-/// fault.
-pub fn each_thread_can_be_made()
-    ensures { (l : Laid) (depth f : ℕ) (args : List ℕ) → EachThreadCanBeMade l depth f args }
-{}
-
-/// A law: a thread that begins its function below the cut, or is called back there, makes its first mark.
-pub fn each_start_is_marks()
-    ensures { (l : Laid) (depth f : ℕ) (args : List ℕ) → EachStartIsMarks l depth f args }
 {}

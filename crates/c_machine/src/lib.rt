@@ -13,6 +13,7 @@ mod opens;
 mod operators;
 mod position;
 mod readers;
+mod run;
 mod settle;
 mod state;
 mod stops;
@@ -20,9 +21,8 @@ mod thread;
 mod tops;
 mod wants;
 
-pub use laws::{
-    each_call_is_marks, each_list_can_be_made, each_start_is_marks, each_thread_can_be_made,
-};
+pub use calls::start_of;
+pub use laws::{each_call_is_marks, each_mark_is_followed};
 pub use readers::is_call_of;
 pub use thread::Thread;
 pub use wants::{Answer, Want};

@@ -39,7 +39,7 @@ impl Position {
                     None
                 }
             }
-            State::Calling(call) => {
+            State::Calling(call, _) => {
                 if has_args(&self.values, call.args) {
                     Some(Want::Call { func: call.func })
                 } else {
@@ -51,6 +51,8 @@ impl Position {
                 size: frame_size(code, entry.func),
             }),
             State::Closing(value, waiting) => self.look_closing(*value, *waiting),
+            State::Starting(Some(func)) => Some(Want::Call { func: *func }),
+            State::Starting(None) => Some(Want::Fault(FaultKind::BadCall.number())),
             State::Done(result) => Some(Want::Ended { result: *result }),
             State::Lost => None,
         }

@@ -29,11 +29,10 @@ impl Position {
         let waits = self.waiting(side);
         match self.state {
             State::Going(a) => one(side, a.side) + waits,
-            State::Calling(call) => one(side, call.then.side) + waits,
+            State::Calling(call, _) => one(side, call.then.side) + waits,
             State::Entering(entry) => one(side, entry.side) + waits,
             State::Closing(_, waiting) => caller(side, waiting) + waits,
-            State::Done(_) => 0,
-            State::Lost => 0,
+            State::Starting(_) | State::Done(_) | State::Lost => 0,
         }
     }
 }

@@ -5,9 +5,9 @@ ghost use Rattle.memory_map.specs.declared.placed.Placed.{Placed as Places};
 ghost use Rattle.c_code.specs.Frames.{are_values as values_are};
 ghost use Rattle.c_machine.specs.Callers.{crosses_at};
 ghost use Rattle.c_machine.specs.Moves.{IsCallOf};
-ghost use Rattle.c_machine.specs.Positions.{laid, config};
+ghost use Rattle.c_machine.specs.Positions.{laid, config, made_of};
 ghost use Rattle.c_machine_stack.specs.Stacks.{held};
-ghost use Rattle.c_machine.specs.Readers.{args_of, returned_args, side_of, is_indirect};
+ghost use Rattle.c_machine.specs.Readers.{args_of, closing_mode, mode_of, returned_args, side_of, is_indirect};
 
 use crate::begin::crosses;
 use crate::position::Position;
@@ -20,12 +20,11 @@ impl Position {
         ensures { result.now ≡ args_of (config self.now) }
     {
         match self.state {
-            State::Calling(call) => self.values.top_slice(call.args as usize),
+            State::Calling(call, _) => self.values.top_slice(call.args as usize),
             State::Entering(entry) => self.values.top_slice(entry.args as usize),
-            State::Going(_) => &[],
             State::Closing(_, waiting) => self.returned(waiting),
-            State::Done(_) => &[],
-            State::Lost => &[],
+            State::Starting(_) => self.values.top_slice(self.values.len()),
+            State::Going(_) | State::Done(_) | State::Lost => &[],
         }
     }
 
@@ -47,11 +46,10 @@ impl Position {
     {
         match self.state {
             State::Going(a) => a.side,
-            State::Calling(call) => call.then.side,
+            State::Calling(call, _) => call.then.side,
             State::Entering(entry) => entry.side,
             State::Closing(_, _) => Side::Replay,
-            State::Done(_) => Side::System,
-            State::Lost => Side::System,
+            State::Starting(_) | State::Done(_) | State::Lost => Side::System,
         }
     }
 
@@ -59,12 +57,10 @@ impl Position {
         ensures { result ≡ is_indirect (config self.now) }
     {
         match self.state {
-            State::Calling(call) => call.indirect,
+            State::Calling(call, _) => call.indirect,
             State::Entering(entry) => entry.indirect,
-            State::Going(_) => false,
-            State::Closing(_, _) => false,
-            State::Done(_) => false,
-            State::Lost => false,
+            State::Starting(_) => true,
+            State::Going(_) | State::Closing(_, _) | State::Done(_) | State::Lost => false,
         }
     }
 }
@@ -74,12 +70,25 @@ impl Position {
         ensures { result ≡ crosses_at (laid code.now placed.now) (config self.now) }
     {
         match self.state {
-            State::Calling(call) => crosses(call, code, placed),
-            State::Entering(_) => false,
-            State::Going(_) => false,
-            State::Closing(_, _) => false,
-            State::Done(_) => false,
-            State::Lost => false,
+            State::Calling(call, _) => crosses(call, code, placed),
+            State::Entering(_)
+            | State::Going(_)
+            | State::Closing(_, _)
+            | State::Starting(_)
+            | State::Done(_)
+            | State::Lost => false,
+        }
+    }
+
+    fn mode(&self) -> Side
+        ensures { result ≡ mode_of (made_of self.now.state) (config self.now) }
+    {
+        match self.state {
+            State::Going(a) => a.side,
+            State::Calling(call, made) => { if made { Side::System } else { call.then.side } }
+            State::Entering(entry) => entry.side,
+            State::Closing(_, waiting) => closing(waiting),
+            State::Starting(_) | State::Done(_) | State::Lost => Side::System,
         }
     }
 }
@@ -99,7 +108,7 @@ impl Thread {
         self.depth
     }
 
-    /// The arguments of the call that is next, of the function that is to be entered, or of the call whose return is next, in
+    /// The arguments of the call that is next, of a thread's first function, of the function that is to be entered, or of the call whose return is next, in
     /// order; else none.
     pub fn args(&self) -> &[u64]
         ensures { result.now ≡ args_of self.now.config }
@@ -114,7 +123,16 @@ impl Thread {
         self.position.side()
     }
 
-    /// Whether the function of the call that is next, or the one that is to be entered, comes from an address.
+    /// The mode that the thread is in. After the event of a call, and up to its return, it is in system mode, unless a function was
+    /// called back.
+    pub fn mode(&self) -> Side
+        ensures { result ≡ mode_of self.now.made self.now.config }
+    {
+        self.position.mode()
+    }
+
+    /// Whether the function of the call that is next, or the one that is to be entered, comes from an address, as a thread's first
+    /// one does.
     pub fn indirect(&self) -> bool
         ensures { result ≡ is_indirect self.now.config }
     {
@@ -137,6 +155,16 @@ pub fn is_call_of(code: &Code, func: u16, args: &[u64]) -> bool
     match code.func(func) {
         Some(info) => info.entry.is_some() && are_values(info.params.as_slice(), args),
         None => false,
+    }
+}
+
+// The mode of a thread before the event that ends a crossing.
+fn closing(waiting: Waiting) -> Side
+    ensures { result ≡ closing_mode waiting }
+{
+    match waiting {
+        Waiting::ForValue(_) | Waiting::ForRet(_) => Side::System,
+        Waiting::ForUpRet(_, _) | Waiting::ForBelow(_, _) | Waiting::ForOutside(_) => Side::Replay,
     }
 }
 

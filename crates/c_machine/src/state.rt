@@ -17,12 +17,15 @@ pub(crate) struct Entry {
 pub(crate) enum State {
     /// At an instruction.
     Going(Activation),
-    /// At a call, whose arguments lie on top of the values, and below them its address where it is called through one.
-    Calling(Call),
+    /// At a call, whose arguments lie on top of the values, and below them its address where it is called through one; whether
+    /// the event of the call was made.
+    Calling(Call, bool),
     /// Before a function.
     Entering(Entry),
     /// Before the event that ends a crossing of the cut, with the result.
     Closing(u64, Waiting),
+    /// Before its first function, whose arguments are the values; `None` where its address is that of none.
+    Starting(Option<u16>),
     /// In no function, with the result of the last one.
     Done(u64),
     /// Nowhere, where an answer of another kind than the wanted one leads.

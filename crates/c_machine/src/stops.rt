@@ -8,8 +8,8 @@ ghost use Rattle.c_code.specs.declared.instr.Instr.TheVariants.{Call as ByNumber
 ghost use Rattle.c_code.specs.Machine.{Laid, Config, Under, act};
 ghost use Rattle.c_code.specs.Valid.{IsValid};
 ghost use Rattle.c_machine_stack.specs.Stacks.{held};
-ghost use Rattle.c_machine.specs.Positions.{laid, config};
-ghost use Rattle.c_machine.specs.Moves.{EntersBody, open_on, ready, at_call};
+ghost use Rattle.c_machine.specs.Positions.{laid, config, made_of};
+ghost use Rattle.c_machine.specs.Moves.{EntersBody, is_below, open_on, ready, at_call};
 
 use crate::called::{Called, called_by};
 use crate::effect::next;
@@ -19,15 +19,20 @@ use crate::tops::{below_args, callee, has_args, is_pool};
 use c_code::{Activation, Call, Code, Instr};
 
 impl Position {
-    // The thread stops at a call that isn't an event of the pool.
+    // The thread stops at a call that isn't an event of the pool. Where it is below one already, the event of that was made.
     pub(crate) fn stop_at_call(&mut self, code: &Code)
         requires valid { IsValid code.now }
         ensures ready { (placed : Places) → config self.new ≡ ready (laid code.now placed) (config self.old) }
+        ensures made { made_of self.new.state ≡ is_below (config self.old) }
         ensures values { self.new.values ≡ self.old.values }
         ensures waits { self.new.waits ≡ self.old.waits }
         ensures active { (s : Side) → open_on s (config self.new) ≡ open_on s (config self.old) }
         ensures enters { (placed : Places) → EntersBody (laid code.now placed) (config self.old) → EntersBody (laid code.now placed) (config self.new) }
     {
+        if let State::Calling(call, _) = self.state {
+            self.state = State::Calling(call, true);
+            return;
+        }
         let Some(a) = self.activation() else {
             return;
         };
@@ -36,7 +41,7 @@ impl Position {
             return;
         }
         match self.call_at(&instrs[a.at as usize], a, code) {
-            Some(call) => self.state = State::Calling(call),
+            Some(call) => self.state = State::Calling(call, false),
             None => {}
         }
     }
