@@ -3,8 +3,9 @@ use Rattle.std.proofs.Common.{zero, suc, ◌≡◌, ℕ, ◌+◌, ◌<◌, ◌�
 use Rattle.std.specs.Prelude.{max}
 use Rattle.std.proofs.lemmas.Bool.{cases_lt}
 use Rattle.log_closure.specs.declared.tie.Tie.{Tie}
-use Rattle.log_closure.specs.Chains.{Chain, IsClock, begins, goes_on}
-use Rattle.log_closure.specs.Events.{In, LogEvent}
+use Rattle.causal_order.specs.Order.{Chain, begins, goes_on}
+use Rattle.log_closure.specs.Chains.{IsClock}
+use Rattle.log_closure.specs.Events.{In, LogEvent, numbered}
 use Rattle.log_closure.specs.FirstWrong.{both, clock_at, greatest}
 use Rattle.log_closure.specs.Growing.{HoldsBefore}
 use Rattle.log_closure.specs.Ties.{listed, needs, ties, ties_of}
@@ -36,11 +37,12 @@ the_greatest all set fit h e i =
     let (c, g) = greatest_some (clock_at all) (needs (ties e)) have in
     (c, g, fit.clocks e (h e i).0 c g)
 
-no_longer : (all set : List LogEvent) → Fits all → HoldsBefore all set → (n : ℕ) (e : LogEvent) → Chain set n e → n ≤ e.entry.clock
+no_longer : (all set : List LogEvent) → Fits all → HoldsBefore all set → (n : ℕ) (e : LogEvent) → Chain numbered set n e → n ≤ e.entry.clock
 no_longer all set fit h n e (begins i) = let (c, g, is) = the_greatest all set fit h e i in omega (arith, is)
-no_longer all set fit h n f (goes_on {n = m} {e = e} chain i d) =
+no_longer all set fit h n f (goes_on {n = m} {e = e} chain d) =
+    let i = d.f_in in
     let le = no_longer all set fit h m e chain in
-    let w = precedes_follows e f d in
+    let w = precedes_follows set e f d in
     let o = owner set w.tie (all_in (listed (ties_of set)) (needs (ties f)) (h f i).1 w.tie w.needed) in
     let lt = rises all set fit h f i w.tie w.needed o in
     let a = fit.first e (among chain) w.tie w.had in
@@ -48,11 +50,11 @@ no_longer all set fit h n f (goes_on {n = m} {e = e} chain i d) =
     let z : e.entry.clock ≡ o.event.entry.clock = some_is e.entry.clock o.event.entry.clock (sym a ∙ b) in
     omega (arith, le, lt, z)
   where
-    among : {k : ℕ} {g : LogEvent} → Chain set k g → In g all
+    among : {k : ℕ} {g : LogEvent} → Chain numbered set k g → In g all
     among (begins {e = g} j) = (h g j).0
-    among (goes_on {f = g} c j v) = (h g j).0
+    among (goes_on {f = g} c v) = (h g v.f_in).0
 
-as_long : (all set : List LogEvent) → Fits all → HoldsBefore all set → (n : ℕ) (e : LogEvent) → In e set → e.entry.clock ≡ n → Chain set n e
+as_long : (all set : List LogEvent) → Fits all → HoldsBefore all set → (n : ℕ) (e : LogEvent) → In e set → e.entry.clock ≡ n → Chain numbered set n e
 as_long all set fit h zero e i eq = let (c, g, is) = the_greatest all set fit h e i in absurd (omega (arith, is, eq))
 as_long all set fit h (suc zero) e i eq = begins i
 as_long all set fit h (suc (suc m)) e i eq =
@@ -62,8 +64,7 @@ as_long all set fit h (suc (suc m)) e i eq =
     let o = owner set t (all_in (listed (ties_of set)) (needs (ties e)) (h e i).1 t j) in
     let b = fit.first o.event (h o.event o.among).0 t o.has in
     let z : o.event.entry.clock ≡ suc m = some_is o.event.entry.clock c (sym b ∙ f) ∙ k in
-    let p : suc m + 1 ≡ suc (suc m) = omega arith in
-    subst (λ (x : ℕ). Chain set x e) p (goes_on (as_long all set fit h (suc m) o.event o.among z) i (follows_precedes o.event e (record { tie = t; needed = j; had = o.has })))
+    goes_on (as_long all set fit h (suc m) o.event o.among z) (follows_precedes set o.event e o.among i (record { tie = t; needed = j; had = o.has }))
 
 pub is_clock : (all set : List LogEvent) → Fits all → HoldsBefore all set → (e : LogEvent) → In e set → IsClock set e
-is_clock all set fit h e i = (as_long all set fit h e.entry.clock e i refl, λ n c. no_longer all set fit h n e c)
+is_clock all set fit h e i = record { chain = as_long all set fit h e.entry.clock e i refl; most = λ n c. no_longer all set fit h n e c }

@@ -5,9 +5,12 @@ use Rattle.std.specs.List.{count_by, list_any}
 use Rattle.std.proofs.lemmas.List.Sums.{sum_by-append, sum_by-cons}
 use Rattle.std.proofs.lemmas.Bool.{eqb-true}
 use Rattle.std.proofs.lemmas.Bool.Decides.{nat_tests}
+use Rattle.logical_clock.specs.Class.{number_of}
+use Rattle.logical_clock.specs.declared.key.Key.{Key}
 use Rattle.logical_clock.specs.declared.key.KeyMark.{KeyMark}
+use Rattle.causal_order.specs.Order.{same_key, is_listed}
 use Rattle.log_closure.specs.declared.tie.Tie.{Tie}
-use Rattle.log_closure.specs.Chains.{CountUp, has_key, key_count, thread_count}
+use Rattle.log_closure.specs.Chains.{CountUp, key_count, thread_count}
 use Rattle.log_closure.specs.Events.{In, LogEvent, marks}
 use Rattle.log_closure.specs.FirstWrong.{first_wrong, repeats}
 use Rattle.log_closure.specs.Ties.{key_tie, keys, listed, thread_tie, ties, ties_of}
@@ -98,15 +101,22 @@ any-map : {A B : Type 0} (p : B → Bool) (f : A → B) (xs : List A) → list_a
 any-map p f [] = refl
 any-map p f (x ∷ xs) = ap (λ (b : Bool). p (f x) || b) (any-map p f xs)
 
+key_flips : (j k : Key) → same_key j k ≡ same_key k j
+key_flips j k = λ i. eqb_flips (number_of j.class) (number_of k.class) i && eqb_flips j.value k.value i
+
+any_listed : (ms : List KeyMark) (k : Key) → list_any (λ (m : KeyMark). same_key k m.key) ms ≡ is_listed ms k
+any_listed [] k = refl
+any_listed (m ∷ ms) k = λ i. key_flips k m.key i || any_listed ms k i
+
 keys_count : (es : List LogEvent) (m : KeyMark) → ((e : LogEvent) → In e es → count_by (same_link (key_tie m)) (keys e) ≡ cond (list_any (same_link (key_tie m)) (keys e)) 1 0) → link_count (ties_of es) (key_tie m) ≡ key_count m.key es
 keys_count [] m h = refl
 keys_count (e ∷ es) m h =
     count-append (same_link (key_tie m)) (ties e) (ties_of es)
     ∙ (λ i. count_cons (same_link (key_tie m)) (thread_tie e) (keys e) i + keys_count es m (λ f j. h f (inr j)) i)
     ∙ ap (λ (b : Bool). cond b 1 0 + count_by (same_link (key_tie m)) (keys e) + key_count m.key es) (other_thread (key_tie m) (thread_tie e) refl (above m.key.class))
-    ∙ ap (λ (k : ℕ). 0 + k + key_count m.key es) (h e (inl refl) ∙ ap (λ (b : Bool). cond b 1 0) (any-map (same_link (key_tie m)) key_tie (marks e)))
-    ∙ ap (λ (k : ℕ). k + key_count m.key es) (zero_plus (cond (has_key m.key e) 1 0))
-    ∙ sym (count_cons (has_key m.key) e es)
+    ∙ ap (λ (k : ℕ). 0 + k + key_count m.key es) (h e (inl refl) ∙ ap (λ (b : Bool). cond b 1 0) (any-map (same_link (key_tie m)) key_tie (marks e) ∙ any_listed (marks e) m.key))
+    ∙ ap (λ (k : ℕ). k + key_count m.key es) (zero_plus (cond (is_listed (marks e) m.key) 1 0))
+    ∙ sym (count_cons (λ (f : LogEvent). is_listed (marks f) m.key) e es)
 
 -- along a list
 

@@ -16,7 +16,7 @@ use Rattle.log_closure.specs.Ties.{earlier, key_tie, keys, keys_of, listed, need
 use Rattle.log_closure.specs.Wrong.{IsGreatestBefore, IsMissing, IsPredecessor, IsRight, IsTwice, IsWrong, StandsTwice, as_clock, as_missing, as_twice, greatest_is, none_before}
 use Rattle.log_closure.proofs.Chains.{reached}
 use Rattle.log_closure.proofs.Kept.{thread_kept}
-use Rattle.log_closure.proofs.Meaning.{has_holds, key_listed, key_tie-injective, listed_key, listed_thread, mark_owned, needed_of, owned_mark, thread_listed, tie_of_thread}
+use Rattle.log_closure.proofs.Meaning.{has_holds, holds_key, key_listed, key_tie-injective, listed_key, listed_thread, mark_owned, needed_of, owned_mark, thread_listed, tie_of_thread}
 use Rattle.log_closure.proofs.Needs.{needs_in}
 use Rattle.log_closure.proofs.Numbered.{Numbered}
 use Rattle.log_closure.proofs.Numbers.{numbered}
@@ -252,14 +252,14 @@ clock_meant rs whole before e i not_again None h = go whole refl
 
     go : (w : Bool) → whole ≡ w → right_or_wrong whole (events_of rs) before e (cond w (Some (Missing e.name)) None)
     go true is = as_missing not_again (is, lost)
-    go false is = (not_again, λ (w, m). absurd cc, λ (holds, g). let (m, j, off) = lost in off (holds.of_keys m j))
+    go false is = (not_again, λ (w, m). absurd cc, λ (holds, g). let (m, j, off) = lost in off (holds_key (events_of rs) e holds m j))
 clock_meant rs whole before e i not_again (Some c) h = go (eqb e.entry.clock (c + 1)) refl
   where
     there : HoldsPredecessors (events_of rs) e
     there = some_there (events_of rs) e c h
 
     not_missing : IsMissing whole (events_of rs) e → ⊥
-    not_missing (w, (m, j, off)) = off (there.of_keys m j)
+    not_missing (w, (m, j, off)) = off (holds_key (events_of rs) e there m j)
 
     go : (b : Bool) → eqb e.entry.clock (c + 1) ≡ b → right_or_wrong whole (events_of rs) before e (cond b None (Some (Clock e.name)))
     go true is = (not_again, not_missing, λ (holds, (g, gr, ne)). ne (eqb-true _ _ is ∙ ap (λ (k : ℕ). k + 1) (sym (greatest_one (events_of rs) (numbered [] rs) e c g h gr))))

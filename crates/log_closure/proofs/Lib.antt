@@ -7,7 +7,7 @@ mod Strict
 mod Numbers
 mod Kept
 mod Needs
-mod Meaning
+pub mod Meaning
 mod Chains
 mod Counts
 mod Exact

@@ -1,5 +1,5 @@
 -- What ties say of names and of keys with tickets.
-use Rattle.std.proofs.Common.{◌≡◌, ℕ, ◌+◌, ◌-◌, ◌<◌, true, cond, List, inl, inr, ⊎_elim, refl, sym, ap, ◌∙◌, subst, arith}
+use Rattle.std.proofs.Common.{◌≡◌, ℕ, suc, ◌+◌, ◌-◌, ◌<◌, true, cond, List, inl, inr, ⊎_elim, refl, sym, ap, ◌∙◌, subst, arith}
 use Rattle.std.specs.Prelude.{eqb, ◌⊎◌}
 use Rattle.logical_clock.specs.Class.{number_of}
 use Rattle.logical_clock.specs.declared.key.Class.{Class}
@@ -7,10 +7,11 @@ use Rattle.logical_clock.specs.declared.key.Class.TheVariants.{Mutex, User, Call
 use Rattle.logical_clock.specs.declared.key.KeyMark.{KeyMark}
 use Rattle.logical_clock.specs.declared.event.EventName.{EventName}
 use Rattle.log_closure.specs.declared.tie.Tie.{Tie}
+use Rattle.causal_order.specs.Order.{Link, OfThread, OfKey, DirectlyPrecedes}
 use Rattle.log_closure.specs.Closed.{IsClosed, IsClosedPart}
-use Rattle.log_closure.specs.Events.{HasMark, In, LogEvent, marks}
+use Rattle.log_closure.specs.Events.{HasMark, In, LogEvent, marks, numbered}
 use Rattle.log_closure.specs.Growing.{HoldsBefore, IsGrownPart, has_before}
-use Rattle.log_closure.specs.Predecessors.{DirectlyPrecedes, HoldsPredecessors, next}
+use Rattle.log_closure.specs.Predecessors.{HoldsPredecessors, next}
 use Rattle.log_closure.specs.Ties.{earlier, key_tie, keys, listed, needs, thread_tie, ties, ties_of}
 use Rattle.log_closure.proofs.Needs.{needed, needs_in}
 use Rattle.log_closure.proofs.Numbers.{above}
@@ -78,7 +79,32 @@ mark_owned es m (e, i, j) = owned es (key_tie m) e i (key_listed e m j)
 pub owned_mark : (es : List LogEvent) (m : KeyMark) → listed (ties_of es) (key_tie m) ≡ true → HasMark es m
 owned_mark es m h = let w = owner es (key_tie m) h in (w.event, w.among, listed_key w.event m w.has)
 
--- the set holds the direct predecessors of the event
+-- a ticket after, in two ways
+
+plus : (n : ℕ) → n + 1 ≡ suc n
+plus n = omega arith
+
+pub next_is : (f : LogEvent) (m : KeyMark) → In (next m) (marks f) → numbered f (OfKey m.key) (suc m.ticket)
+next_is f m i = subst (λ k. In (record { key = m.key; ticket = k }) (marks f)) (plus m.ticket) i
+
+is_next : (f : LogEvent) (m : KeyMark) → numbered f (OfKey m.key) (suc m.ticket) → In (next m) (marks f)
+is_next f m i = subst (λ k. In (record { key = m.key; ticket = k }) (marks f)) (sym (plus m.ticket)) i
+
+-- the set holds the direct predecessors of the event: that of its thread, and those by keys
+
+pub holds_thread : (set : List LogEvent) (f : LogEvent) → HoldsPredecessors set f → (n : ℕ) → f.name.index ≡ n + 1 → (e : LogEvent) × In e set × (e.name ≡ record { thread = f.name.thread; index = n })
+holds_thread set f h n is =
+    let (e, i, at) = h (OfThread f.name.thread) n (refl, is ∙ plus n) in
+    (e, i, λ k. record { thread = at.0 k; index = at.1 k })
+
+pub holds_key : (set : List LogEvent) (f : LogEvent) → HoldsPredecessors set f → (m : KeyMark) → In (next m) (marks f) → HasMark set m
+holds_key set f h m i = h (OfKey m.key) m.ticket (next_is f m i)
+
+pub holds_both : (set : List LogEvent) (f : LogEvent) → ((n : ℕ) → f.name.index ≡ n + 1 → (e : LogEvent) × In e set × (e.name ≡ record { thread = f.name.thread; index = n })) → ((m : KeyMark) → In (next m) (marks f) → HasMark set m) → HoldsPredecessors set f
+holds_both set f threads keys (OfThread t) n at =
+    let (e, i, name) = threads n (at.1 ∙ sym (plus n)) in
+    (e, i, (ap (λ (x : EventName). x.thread) name ∙ at.0, ap (λ (x : EventName). x.index) name))
+holds_both set f threads keys (OfKey k) n at = keys (record { key = k; ticket = n }) (is_next f (record { key = k; ticket = n }) at)
 
 pub holds_has : (set : List LogEvent) (f : LogEvent) → HoldsPredecessors set f → has_before set f ≡ true
 holds_has set f h = all_from (listed (ties_of set)) (needs (ties f)) (λ t i.
@@ -88,7 +114,7 @@ holds_has set f h = all_from (listed (ties_of set)) (needs (ties f)) (λ t i.
     thread : (s : Tie) → s ≡ thread_tie f → 0 < s.number → listed (ties_of set) (earlier s) ≡ true
     thread s th pos =
         let n : s.number ≡ f.name.index = ap (λ (x : Tie). x.number) th in
-        let (e, i, nm) = h.of_thread (f.name.index - 1) (omega (arith, n, pos)) in
+        let (e, i, nm) = holds_thread set f h (f.name.index - 1) (omega (arith, n, pos)) in
         let is : thread_tie e ≡ earlier (thread_tie f) = ap (λ (x : EventName). tie_of_thread x.thread x.index) nm in
         subst (λ (x : Tie). listed (ties_of set) x ≡ true) (is ∙ sym (ap earlier th)) (owned set (thread_tie e) e i (thread_listed e))
 
@@ -99,22 +125,25 @@ holds_has set f h = all_from (listed (ties_of set)) (needs (ties f)) (λ t i.
         let back : n.ticket ≡ n.ticket - 1 + 1 = omega (arith, num, pos) in
         let m : KeyMark = record { key = n.key; ticket = n.ticket - 1 } in
         let up : n ≡ next m = λ i. record { key = n.key; ticket = back i } in
-        subst (λ (x : Tie). listed (ties_of set) x ≡ true) (sym (ap earlier is)) (mark_owned set m (h.of_keys m (subst (λ (x : KeyMark). In x (marks f)) up j)))
+        subst (λ (x : Tie). listed (ties_of set) x ≡ true) (sym (ap earlier is)) (mark_owned set m (holds_key set f h m (subst (λ (x : KeyMark). In x (marks f)) up j)))
 
 pub has_holds : (set : List LogEvent) (f : LogEvent) → has_before set f ≡ true → HoldsPredecessors set f
-has_holds set f h = record {
-  of_thread = λ n is.
-      let need = needs_in (ties f) (thread_tie f) (inl refl) (omega (arith, is)) in
-      let w = owner set (earlier (thread_tie f)) (all_in (listed (ties_of set)) (needs (ties f)) h (earlier (thread_tie f)) need) in
-      let (t, k) = listed_thread w.event f.name.thread (f.name.index - 1) w.has in
-      let k' : w.event.name.index ≡ n = omega (arith, is, k) in
-      (w.event, w.among, λ i. record { thread = t i; index = k' i });
-  of_keys = λ m i.
-      let need = needs_in (ties f) (key_tie (next m)) (inr (in-map key_tie (marks f) (next m) i)) (omega arith) in
-      let back : m.ticket + 1 - 1 ≡ m.ticket = omega arith in
-      let is : earlier (key_tie (next m)) ≡ key_tie m = λ j. record { class = number_of m.key.class; value = m.key.value; number = back j } in
-      owned_mark set m (subst (λ (x : Tie). listed (ties_of set) x ≡ true) is (all_in (listed (ties_of set)) (needs (ties f)) h (earlier (key_tie (next m))) need));
-}
+has_holds set f h = holds_both set f thread_held key_held
+  where
+    thread_held : (n : ℕ) → f.name.index ≡ n + 1 → (e : LogEvent) × In e set × (e.name ≡ record { thread = f.name.thread; index = n })
+    thread_held n is =
+        let need = needs_in (ties f) (thread_tie f) (inl refl) (omega (arith, is)) in
+        let w = owner set (earlier (thread_tie f)) (all_in (listed (ties_of set)) (needs (ties f)) h (earlier (thread_tie f)) need) in
+        let (t, k) = listed_thread w.event f.name.thread (f.name.index - 1) w.has in
+        let k' : w.event.name.index ≡ n = omega (arith, is, k) in
+        (w.event, w.among, λ i. record { thread = t i; index = k' i })
+
+    key_held : (m : KeyMark) → In (next m) (marks f) → HasMark set m
+    key_held m i =
+        let need = needs_in (ties f) (key_tie (next m)) (inr (in-map key_tie (marks f) (next m) i)) (omega arith) in
+        let back : m.ticket + 1 - 1 ≡ m.ticket = omega arith in
+        let is : earlier (key_tie (next m)) ≡ key_tie m = λ j. record { class = number_of m.key.class; value = m.key.value; number = back j } in
+        owned_mark set m (subst (λ (x : Tie). listed (ties_of set) x ≡ true) is (all_in (listed (ties_of set)) (needs (ties f)) h (earlier (key_tie (next m))) need))
 
 pub closed_held : (kept set : List LogEvent) → IsClosed kept set → HoldsBefore kept set
 closed_held kept set h e i = ((h e i).0, holds_has set e (h e i).1)
@@ -135,15 +164,27 @@ pub record Follows (e f : LogEvent) : Type 0 where
   pub needed : In tie (needs (ties f))
   pub had : listed (ties e) tie ≡ true
 
-pub precedes_follows : (e f : LogEvent) → DirectlyPrecedes e f → Follows e f
-precedes_follows e f (inl (t, n)) =
+-- the event before in the thread, or one that has a key with the ticket before
+data Before (e f : LogEvent) : Type 0 where
+  by_thread : e.name.thread ≡ f.name.thread → f.name.index ≡ e.name.index + 1 → Before e f
+  by_key : (m : KeyMark) → In m (marks e) → In (next m) (marks f) → Before e f
+
+before_follows : (e f : LogEvent) → Before e f → Follows e f
+before_follows e f (by_thread t n) =
     let k : e.name.index ≡ f.name.index - 1 = omega (arith, n) in
     let is : thread_tie e ≡ earlier (thread_tie f) = λ i. tie_of_thread (t i) (k i) in
     record { tie = earlier (thread_tie f); needed = needs_in (ties f) (thread_tie f) (inl refl) (omega (arith, n)); had = subst (λ (x : Tie). listed (ties e) x ≡ true) is (thread_listed e) }
-precedes_follows e f (inr (m, i, j)) =
+before_follows e f (by_key m i j) =
     let back : m.ticket ≡ m.ticket + 1 - 1 = omega arith in
     let is : key_tie m ≡ earlier (key_tie (next m)) = λ k. record { class = number_of m.key.class; value = m.key.value; number = back k } in
     record { tie = earlier (key_tie (next m)); needed = needs_in (ties f) (key_tie (next m)) (inr (in-map key_tie (marks f) (next m) j)) (omega arith); had = subst (λ (x : Tie). listed (ties e) x ≡ true) is (key_listed e m i) }
+
+before_by : (e f : LogEvent) (l : Link) (n : ℕ) → numbered e l n → numbered f l (suc n) → Before e f
+before_by e f (OfThread t) n a b = by_thread (a.0 ∙ sym b.0) (omega (arith, a.1, b.1))
+before_by e f (OfKey k) n a b = by_key (record { key = k; ticket = n }) a (is_next f (record { key = k; ticket = n }) b)
+
+pub precedes_follows : (set : List LogEvent) (e f : LogEvent) → DirectlyPrecedes numbered set e f → Follows e f
+precedes_follows set e f d = before_follows e f (before_by e f d.link d.number d.first d.second)
 
 -- where a needed tie comes from
 pub needed_of : (f : LogEvent) (t : Tie) → In t (needs (ties f)) → ((n : ℕ) × (f.name.index ≡ n + 1) × (t ≡ tie_of_thread f.name.thread n)) ⊎ ((m : KeyMark) × In (next m) (marks f) × (t ≡ key_tie m))
@@ -159,9 +200,11 @@ needed_of f t i =
     inr (m, subst (λ (x : KeyMark). In x (marks f)) up l, is ∙ ap earlier eq))
     j
 
-pub follows_precedes : (e f : LogEvent) → Follows e f → DirectlyPrecedes e f
-follows_precedes e f w =
+pub follows_precedes : (set : List LogEvent) (e f : LogEvent) → In e set → In f set → Follows e f → DirectlyPrecedes numbered set e f
+follows_precedes set e f i j w =
     ⊎_elim
-    (λ (n, is, t). let (a, b) = listed_thread e f.name.thread n (subst (λ (x : Tie). listed (ties e) x ≡ true) t w.had) in inl (a, is ∙ ap (λ (k : ℕ). k + 1) (sym b)))
-    (λ (m, j, t). inr (m, listed_key e m (subst (λ (x : Tie). listed (ties e) x ≡ true) t w.had), j))
+    (λ (n, is, t).
+    let (a, b) = listed_thread e f.name.thread n (subst (λ (x : Tie). listed (ties e) x ≡ true) t w.had) in
+    record { link = OfThread f.name.thread; number = n; e_in = i; f_in = j; first = (a, b); second = (refl, is ∙ plus n) })
+    (λ (m, l, t). record { link = OfKey m.key; number = m.ticket; e_in = i; f_in = j; first = listed_key e m (subst (λ (x : Tie). listed (ties e) x ≡ true) t w.had); second = next_is f m l })
     (needed_of f w.tie w.needed)

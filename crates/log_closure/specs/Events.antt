@@ -1,6 +1,8 @@
 -- The events of a log: its records, with the names that file order gives them.
-use Rattle.std.specs.Prelude.{◌≡◌, ℕ, Bool, eqb, List, [], ◌∷◌, ◌++◌, ◌⊎◌}
+use Rattle.std.specs.Prelude.{◌≡◌, ℕ, Bool, eqb, List, [], ◌∷◌, ◌++◌}
 use Rattle.std.specs.List.{count_by}
+use Rattle.causal_order.specs.Order.{Link, OfThread, OfKey}
+pub use Rattle.causal_order.specs.Order.{In}
 use Rattle.logical_clock.specs.declared.key.KeyMark.{KeyMark}
 use Rattle.logical_clock.specs.declared.event.EventName.{EventName}
 use Rattle.logical_clock.specs.declared.event.Record.{Record}
@@ -31,10 +33,10 @@ events_after before (r ∷ rs) = event_of before r ∷ events_after (before ++ r
 abbrev pub events_of : List Record → List LogEvent
 events_of rs = events_after [] rs
 
--- the list has the item
-abbrev pub In : {A : Type 0} → A → List A → Type 0
-In x [] = ⊥
-In x (y ∷ ys) = (x ≡ y) ⊎ In x ys
+-- the events numbered by each link: those of a thread by index, those with a key by ticket
+abbrev pub numbered : LogEvent → Link → ℕ → Type 0
+numbered e (OfThread t) n = (e.name.thread ≡ t) × (e.name.index ≡ n)
+numbered e (OfKey k) n = In (record { key = k; ticket = n }) (marks e)
 
 -- one of the events has the key with the ticket
 abbrev pub HasMark : List LogEvent → KeyMark → Type 0

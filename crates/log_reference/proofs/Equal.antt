@@ -25,6 +25,10 @@ pub if_not : (b : Bool) {P Q : Type 0} → (P → Q) → OnTrue b P → OnFalse 
 if_not true f h = f h
 if_not false f h = tt
 
+pub unless : (b : Bool) {P Q : Type 0} → (P → Q) → OnFalse b P → OnTrue (not b) Q
+unless true f h = tt
+unless false f h = f h
+
 pub anyway : (b : Bool) {Q : Type 0} → Q → OnFalse b Q
 anyway true h = tt
 anyway false h = h
