@@ -14,11 +14,11 @@ pub data Access : Type 0 where
   Freeing : (at : ℕ) → Access
 
 -- what a return does with the region that its function commits: there is none, or its used size is negative and
--- the region stays prepared, or it is released
+-- the region stays prepared, or the region under this key is released
 pub data Commit : Type 0 where
   NoRegion : Commit
   Withheld : Commit
-  Released : (region : Piece) → Commit
+  Released : (key : ℕ) (region : Piece) → Commit
 
 -- what happens where a thread crosses the cut, uses the pool, or stops. A Call carries what it reads and what it
 -- holds; a Ret the arguments of its Call, and in the form `same` it is the thread's last Ret of that function again;
@@ -67,13 +67,14 @@ is_event _ = false
 
 -- the pieces that a commit writes, and those that a log has of it
 abbrev pub released : Commit → List Piece
-released (Released p) = p ∷ []
-released _ = []
+released NoRegion = []
+released Withheld = []
+released (Released k p) = p ∷ []
 
 abbrev pub logged : Commit → List (List ℕ)
 logged NoRegion = []
 logged Withheld = [] ∷ []
-logged (Released p) = p.bytes ∷ []
+logged (Released k p) = p.bytes ∷ []
 
 -- an event stands above the cut, wherever the code stands that makes it
 abbrev pub side_of : Side → Act → Side

@@ -1,5 +1,5 @@
 -- The laws in the words of their clauses.
-use Rattle.std.proofs.Common.{◌≡◌, ◌↔◌, ℕ, List, [], ◌∷◌, map, sym, ap, ◌∙◌}
+use Rattle.std.proofs.Common.{◌≡◌, ◌↔◌, ℕ, List, [], ◌∷◌, ◌++◌, map, sym, ap, ◌∙◌}
 use Rattle.logical_clock.specs.declared.key.Class.TheVariants.{Out}
 use Rattle.logical_clock.specs.declared.event.Record.{Record}
 use Rattle.marks.specs.Marks.{Mark}
@@ -12,13 +12,13 @@ use Rattle.replay_runs.specs.Keys.{key}
 use Rattle.replay_runs.specs.Rules.{replay_rules}
 use Rattle.replay_runs.specs.Records.{record_of, printed_by}
 use Rattle.replay_runs.specs.Laws.{IsReplayRun, Rearranged, OfProgram, WhollyOfProgram, NoneLeft}
-use Rattle.replay_runs.proofs.Swap.{Swapped}
+use Rattle.replay_runs.proofs.Swap.{Swapped, same_new}
 use Rattle.replay_runs.proofs.Facts.{race_prefix}
 use Rattle.replay_runs.proofs.Race.{race_free_more, race_free_test}
 use Rattle.replay_runs.proofs.Same.{same_runs}
 use Rattle.replay_runs.proofs.Determined.{replay_determined}
 
-pub rearranged : (program : Program) (s : Start) (p q : List Mark) → Swapped (replay_rules program) s p q → Rearranged program s p q
+pub rearranged : (program : Program) (s : Start) (p q : List Mark) → Swapped (replay_rules program s) s p q → Rearranged program s p q
 rearranged program s p q w =
     record {
       disciplined = w.disciplined;
@@ -26,12 +26,12 @@ rearranged program s p q w =
       links = w.same.links;
       bytes = w.same.cells;
       histories = λ t. ap (map record_of) (w.same.links (OfThread t));
-      outputs = ap printed_by (w.same.links (OfKey (key Out 0)));
+      outputs = ap (λ es. s.output ++ printed_by es) (same_new s (OfKey (key Out 0)) p q (w.same.links (OfKey (key Out 0))));
     }
 
 pub one_run : (program : Program) (s : Start) (p q : List Mark) → IsReplayRun program s p → Trimmed s p → IsReplayRun program s q → Trimmed s q → ((t : ℕ) → history record_of s t p ≡ history record_of s t q) → Rearranged program s p q
 one_run program s p q hp tp hq tq same =
-    rearranged program s p q (same_runs (replay_rules program) s Record record_of (replay_determined program) p q hp tp hq tq same)
+    rearranged program s p q (same_runs (replay_rules program s) s Record record_of (replay_determined program s) p q hp tp hq tq same)
 
 pub who_is_left : (program : Program) (s : Start) (h : ℕ → List Record) → WhollyOfProgram program s h → (of : OfProgram program s h) → NoneLeft program s of.run
 who_is_left program s h w of t above =

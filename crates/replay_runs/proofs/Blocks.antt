@@ -5,20 +5,14 @@ use Rattle.logical_clock.specs.declared.key.Class.TheVariants.{Pool}
 use Rattle.marks.specs.Places.{replay_pool}
 use Rattle.marks.specs.Ranges.{Range, range, within}
 use Rattle.marks.specs.Marks.{EventKind, Call, Ret, Up, UpRet, Alloc, Free, Stop, Event, Act, Turn, Load, Store, Enter, Leave, Step, Fault, Made, Mark}
-use Rattle.marks.specs.Bytes.{Byte, granted, event_block, block_after, EventAsks, Asks}
-use Rattle.replay_runs.specs.Runs.{Link, OfKey, Start, keys_of, is_listed, Run, Allowed, marks_of, events_with, byte}
+use Rattle.marks.specs.Bytes.{granted, event_block, block_after, EventAsks, Asks}
+use Rattle.replay_runs.specs.Runs.{Link, OfKey, Start, keys_of, is_listed, Run, Allowed, marks_of, new_events, byte}
 use Rattle.replay_runs.specs.Interface.{Program}
-use Rattle.replay_runs.specs.Pool.{without, blocks_after, act_blocks, blocks, MeetsNone, IsPlace}
+use Rattle.replay_runs.specs.Pool.{without, blocks_after, act_blocks, blocks_from, blocks, MeetsNone, IsPlace}
 use Rattle.replay_runs.specs.Keys.{key, sorted_keys, keys_for}
 use Rattle.replay_runs.specs.Rules.{SharedAct, SharedEvent, HasKeys, Carries, EventCarries, replay_rules}
-use Rattle.replay_runs.specs.Laws.{fresh}
 use Rattle.replay_runs.proofs.Keys.{listed_last}
-use Rattle.replay_runs.specs.Blocks.{size_at}
-
--- blocks that are somewhere, of some size, and don't meet
-abbrev pub Sound : List Range → Type 0
-Sound [] = Unit {0}
-Sound (b ∷ bs) = (1 ≤ b.at) × (1 ≤ b.size) × MeetsNone bs b.at b.size × Sound bs
+use Rattle.replay_runs.specs.Blocks.{LieApart, ListsBlocks, size_at}
 
 pub cond_true : {A : Type 0} (b : Bool) (u v : A) → b ≡ true → cond b u v ≡ u
 cond_true true u v e = refl
@@ -32,7 +26,7 @@ pub bounds : (at n x : ℕ) → within at n x ≡ true → (at ≤ x) × (x < at
 bounds at n x e = let p = and_parts (leb at x) (ltb x (at + n)) e in (leb-true at x p.0, ltb-true x (at + n) p.1)
 
 -- no block begins in a range that meets none
-none_begins : (bs : List Range) (at n x : ℕ) → Sound bs → MeetsNone bs at n → within at n x ≡ true → size_at x bs ≡ 0
+none_begins : (bs : List Range) (at n x : ℕ) → LieApart bs → MeetsNone bs at n → within at n x ≡ true → size_at x bs ≡ 0
 none_begins [] at n x s m e = refl
 none_begins (b ∷ bs) at n x s m e =
     cond_false (eqb b.at x) b.size (size_at x bs) (ne_eqb b.at x (λ z. let w = bounds at n x e in ⊎_elim (λ l. absurd (omega (arith, z, l, w.0, s.1))) (λ l. absurd (omega (arith, z, l, w.1))) m.0))
@@ -48,7 +42,7 @@ lies_apart (b ∷ bs) a n at size m e h = go (eqb b.at at) refl e (λ g. lies_ap
     go false f g again = again g
 
 -- no other block begins inside a block
-none_inside : (bs : List Range) (at size x : ℕ) → Sound bs → size_at at bs ≡ size → 1 ≤ size → within at size x ≡ true → (x ≡ at → ⊥) → size_at x bs ≡ 0
+none_inside : (bs : List Range) (at size x : ℕ) → LieApart bs → size_at at bs ≡ size → 1 ≤ size → within at size x ≡ true → (x ≡ at → ⊥) → size_at x bs ≡ 0
 none_inside [] at size x s e h w ne = refl
 none_inside (b ∷ bs) at size x s e h w ne = go (eqb b.at at) refl e (λ g. none_inside bs at size x s.3 g h w ne)
   where
@@ -76,10 +70,10 @@ without_other (b ∷ bs) at x ne = go (eqb b.at at) refl (without_other bs at x 
     go false f g = ap (cond (eqb b.at x) b.size) g
 
 -- a block that meets the others nowhere is the only one at its place
-only_one : (bs : List Range) (a n : ℕ) → Sound bs → MeetsNone bs a n → 1 ≤ n → size_at a bs ≡ 0
+only_one : (bs : List Range) (a n : ℕ) → LieApart bs → MeetsNone bs a n → 1 ≤ n → size_at a bs ≡ 0
 only_one bs a n s m h = none_begins bs a n a s m (and_from _ _ (le-leb a a (omega arith)) (lt-ltb a (a + n) (omega (arith, h))))
 
-without_it : (bs : List Range) (at : ℕ) → Sound bs → size_at at (without at bs) ≡ 0
+without_it : (bs : List Range) (at : ℕ) → LieApart bs → size_at at (without at bs) ≡ 0
 without_it [] at s = refl
 without_it (b ∷ bs) at s = go (eqb b.at at) refl (without_it bs at s.3)
   where
@@ -95,24 +89,19 @@ without_meets (b ∷ bs) at a n m = go (eqb b.at at) (without_meets bs at a n m.
     go true k = m.1
     go false k = (m.0, k)
 
-without_sound : (bs : List Range) (at : ℕ) → Sound bs → Sound (without at bs)
+without_sound : (bs : List Range) (at : ℕ) → LieApart bs → LieApart (without at bs)
 without_sound [] at s = tt
 without_sound (b ∷ bs) at s = go (eqb b.at at) (without_sound bs at s.3)
   where
-    go : (c : Bool) → Sound (without at bs) → Sound (cond c bs (b ∷ without at bs))
+    go : (c : Bool) → LieApart (without at bs) → LieApart (cond c bs (b ∷ without at bs))
     go true k = s.3
     go false k = (s.0, s.1, without_meets bs at b.at b.size s.2, k)
 
--- what the list and the bytes say is one thing
-pub record Agree (bs : List Range) (block : ℕ → ℕ) : Type 0 where
-  pub sound : Sound bs
-  pub same : (x : ℕ) → block x ≡ size_at x bs
-
-allocs : (bs : List Range) (block : ℕ → ℕ) (at size : ℕ) → Agree bs block → IsPlace replay_pool bs size at → Agree (blocks_after (Alloc at size) bs) (λ x. event_block (Alloc at size) x (block x))
+allocs : (bs : List Range) (block : ℕ → ℕ) (at size : ℕ) → ListsBlocks bs block → IsPlace replay_pool bs size at → ListsBlocks (blocks_after (Alloc at size) bs) (λ x. event_block (Alloc at size) x (block x))
 allocs bs block at size h (inr n) =
     let z : granted at size ≡ 0 = cond_true (eqb at 0) 0 size (eq-eqb at 0 n.0) in
-    subst (λ l. Agree l (λ x. event_block (Alloc at size) x (block x))) (sym (cond_true (eqb (granted at size) 0) bs (range at size ∷ bs) (eq-eqb (granted at size) 0 z)))
-    (record { sound = h.sound; same = λ x. cond_false (within at (granted at size) x) (cond (eqb x at) size 0) (block x) (ap (λ g. within at g x) z ∙ empty at x) ∙ h.same x })
+    subst (λ l. ListsBlocks l (λ x. event_block (Alloc at size) x (block x))) (sym (cond_true (eqb (granted at size) 0) bs (range at size ∷ bs) (eq-eqb (granted at size) 0 z)))
+    (record { apart = h.apart; same = λ x. cond_false (within at (granted at size) x) (cond (eqb x at) size 0) (block x) (ap (λ g. within at g x) z ∙ empty at x) ∙ h.same x })
   where
     empty : (at x : ℕ) → within at 0 x ≡ false
     empty at x = ⊎_elim (λ e. let w = bounds at 0 x e in absurd (omega (arith, w.0, w.1))) (λ e. e) (cases_Bool (within at 0 x))
@@ -120,9 +109,9 @@ allocs bs block at size h (inl f) =
     let place : (at ≡ 0 → ⊥) = λ z. absurd (omega (arith, z, f.0.low)) in
     let g : granted at size ≡ size = cond_false (eqb at 0) 0 size (ne_eqb at 0 place) in
     let some : (granted at size ≡ 0 → ⊥) = λ z. absurd (omega (arith, z, g, f.0.some)) in
-    subst (λ l. Agree l (λ x. event_block (Alloc at size) x (block x))) (sym (cond_false (eqb (granted at size) 0) bs (range at size ∷ bs) (ne_eqb (granted at size) 0 some)))
+    subst (λ l. ListsBlocks l (λ x. event_block (Alloc at size) x (block x))) (sym (cond_false (eqb (granted at size) 0) bs (range at size ∷ bs) (ne_eqb (granted at size) 0 some)))
     (record {
-      sound = (omega (arith, f.0.low), f.0.some, f.0.free, h.sound);
+      apart = (omega (arith, f.0.low), f.0.some, f.0.free, h.apart);
       same = λ x. ap (λ n. cond (within at n x) (cond (eqb x at) size 0) (block x)) g ∙ at_byte x;
     })
   where
@@ -130,7 +119,7 @@ allocs bs block at size h (inl f) =
     at_byte x = ⊎_elim
         (λ e. ⊎_elim
         (λ z. cond_true (within at size x) (cond (eqb x at) size 0) (block x) e ∙ cond_true (eqb x at) size 0 (eq-eqb x at z) ∙ sym (cond_true (eqb at x) size (size_at x bs) (eq-eqb at x (sym z))))
-        (λ z. cond_true (within at size x) (cond (eqb x at) size 0) (block x) e ∙ cond_false (eqb x at) size 0 (ne_eqb x at z) ∙ sym (none_begins bs at size x h.sound f.0.free e) ∙ sym (cond_false (eqb at x) size (size_at x bs) (ne_eqb at x (λ y. z (sym y)))))
+        (λ z. cond_true (within at size x) (cond (eqb x at) size 0) (block x) e ∙ cond_false (eqb x at) size 0 (ne_eqb x at z) ∙ sym (none_begins bs at size x h.apart f.0.free e) ∙ sym (cond_false (eqb at x) size (size_at x bs) (ne_eqb at x (λ y. z (sym y)))))
         (cases_eq x at))
         (λ e. cond_false (within at size x) (cond (eqb x at) size 0) (block x) e ∙ h.same x ∙ sym (cond_false (eqb at x) size (size_at x bs) (ne_eqb at x (λ y. true≢false (sym (here x (sym y)) ∙ e)))))
         (cases_Bool (within at size x))
@@ -138,10 +127,10 @@ allocs bs block at size h (inl f) =
         here : (x : ℕ) → x ≡ at → within at size x ≡ true
         here x y = subst (λ u. within at size u ≡ true) (sym y) (and_from _ _ (le-leb at at (omega arith)) (lt-ltb at (at + size) (omega (arith, f.0.some))))
 
-frees : (bs : List Range) (block : ℕ → ℕ) (at size : ℕ) → Agree bs block → eqb at 0 ≡ eqb size 0 → (1 ≤ size → block at ≡ size) → Agree (blocks_after (Free at size) bs) (λ x. event_block (Free at size) x (block x))
-frees bs block at size h z k = record { sound = without_sound bs at h.sound; same = λ x. ⊎_elim (λ e. nothing x e) (λ ne. freed x ne) (cases_eq size 0) }
+frees : (bs : List Range) (block : ℕ → ℕ) (at size : ℕ) → ListsBlocks bs block → eqb at 0 ≡ eqb size 0 → (1 ≤ size → block at ≡ size) → ListsBlocks (blocks_after (Free at size) bs) (λ x. event_block (Free at size) x (block x))
+frees bs block at size h z k = record { apart = without_sound bs at h.apart; same = λ x. ⊎_elim (λ e. nothing x e) (λ ne. freed x ne) (cases_eq size 0) }
   where
-    no_zero : (bs : List Range) → Sound bs → size_at 0 bs ≡ 0
+    no_zero : (bs : List Range) → LieApart bs → size_at 0 bs ≡ 0
     no_zero [] s = refl
     no_zero (b ∷ bs) s = cond_false (eqb b.at 0) b.size (size_at 0 bs) (ne_eqb b.at 0 (λ e. absurd (omega (arith, e, s.0)))) ∙ no_zero bs s.3
 
@@ -153,7 +142,7 @@ frees bs block at size h z k = record { sound = without_sound bs at h.sound; sam
         let at0 : at ≡ 0 = eqb-true at 0 (z ∙ eq-eqb size 0 e) in
         cond_false (within at size x) 0 (block x) (empty x e) ∙ h.same x
         ∙ ⊎_elim
-        (λ y. ap (λ u. size_at u bs) (y ∙ at0) ∙ no_zero bs h.sound ∙ sym (without_it bs at h.sound) ∙ ap (λ u. size_at u (without at bs)) (sym y))
+        (λ y. ap (λ u. size_at u bs) (y ∙ at0) ∙ no_zero bs h.apart ∙ sym (without_it bs at h.apart) ∙ ap (λ u. size_at u (without at bs)) (sym y))
         (λ y. sym (without_other bs at x y))
         (cases_eq x at)
 
@@ -164,9 +153,9 @@ frees bs block at size h z k = record { sound = without_sound bs at h.sound; sam
     freed x ne =
         let is : size_at at bs ≡ size = sym (h.same at) ∙ k (pos ne) in
         ⊎_elim
-        (λ y. cond_true (within at size x) 0 (block x) (subst (λ u. within at size u ≡ true) (sym y) (and_from _ _ (le-leb at at (omega arith)) (lt-ltb at (at + size) (omega (arith, pos ne))))) ∙ sym (without_it bs at h.sound) ∙ ap (λ u. size_at u (without at bs)) (sym y))
+        (λ y. cond_true (within at size x) 0 (block x) (subst (λ u. within at size u ≡ true) (sym y) (and_from _ _ (le-leb at at (omega arith)) (lt-ltb at (at + size) (omega (arith, pos ne))))) ∙ sym (without_it bs at h.apart) ∙ ap (λ u. size_at u (without at bs)) (sym y))
         (λ y. ⊎_elim
-        (λ e. cond_true (within at size x) 0 (block x) e ∙ sym (none_inside bs at size x h.sound is (pos ne) e y) ∙ sym (without_other bs at x y))
+        (λ e. cond_true (within at size x) 0 (block x) e ∙ sym (none_inside bs at size x h.apart is (pos ne) e y) ∙ sym (without_other bs at x y))
         (λ e. cond_false (within at size x) 0 (block x) e ∙ h.same x ∙ sym (without_other bs at x y))
         (cases_Bool (within at size x)))
         (cases_eq x at)
@@ -176,62 +165,62 @@ module _ (program : Program) (s : Start) where
   pool = OfKey (key Pool 0)
 
   -- an event that is none of the pool's changes neither
-  quiet : (m : Mark) (ev : List Mark) (c : Bool) (block : ℕ → ℕ) → act_blocks m.act (blocks ev) ≡ blocks ev → Agree (blocks ev) block → Agree (blocks (cond c (m ∷ ev) ev)) block
-  quiet m ev true block e h = subst (λ l. Agree l block) (sym e) h
+  quiet : (m : Mark) (ev : List Mark) (c : Bool) (block : ℕ → ℕ) → act_blocks m.act (blocks_from s.blocks ev) ≡ blocks_from s.blocks ev → ListsBlocks (blocks_from s.blocks ev) block → ListsBlocks (blocks_from s.blocks (cond c (m ∷ ev) ev)) block
+  quiet m ev true block e h = subst (λ l. ListsBlocks l block) (sym e) h
   quiet m ev false block e h = h
 
   -- an event of the pool
-  loud : (m : Mark) (ev : List Mark) (c : Bool) (k : EventKind) (block : ℕ → ℕ) → c ≡ true → act_blocks m.act (blocks ev) ≡ blocks_after k (blocks ev) → Agree (blocks_after k (blocks ev)) block → Agree (blocks (cond c (m ∷ ev) ev)) block
-  loud m ev true k block e f h = subst (λ l. Agree l block) (sym f) h
+  loud : (m : Mark) (ev : List Mark) (c : Bool) (k : EventKind) (block : ℕ → ℕ) → c ≡ true → act_blocks m.act (blocks_from s.blocks ev) ≡ blocks_after k (blocks_from s.blocks ev) → ListsBlocks (blocks_after k (blocks_from s.blocks ev)) block → ListsBlocks (blocks_from s.blocks (cond c (m ∷ ev) ev)) block
+  loud m ev true k block e f h = subst (λ l. ListsBlocks l block) (sym f) h
   loud m ev false k block e f h = absurd (true≢false (sym e))
 
-  made : (past : List Mark) (m : Mark) (e : Event) → Allowed (replay_rules program) s past m → m.act ≡ Made e → Agree (blocks (events_with s pool past)) (λ x. (byte s x past).block) → Agree (blocks (cond (is_listed e.keys (key Pool 0)) (m ∷ events_with s pool past) (events_with s pool past))) (λ x. event_block e.kind x (byte s x past).block)
+  made : (past : List Mark) (m : Mark) (e : Event) → Allowed (replay_rules program s) s past m → m.act ≡ Made e → ListsBlocks (blocks s past) (λ x. (byte s x past).block) → ListsBlocks (blocks_from s.blocks (cond (is_listed e.keys (key Pool 0)) (m ∷ new_events pool past) (new_events pool past))) (λ x. event_block e.kind x (byte s x past).block)
   made past m e a is h = go e.kind refl
     where
-      same : act_blocks m.act (blocks (events_with s pool past)) ≡ blocks_after e.kind (blocks (events_with s pool past))
-      same = ap (λ z. act_blocks z (blocks (events_with s pool past))) is
+      same : act_blocks m.act (blocks s past) ≡ blocks_after e.kind (blocks s past)
+      same = ap (λ z. act_blocks z (blocks s past)) is
 
       keyed : HasKeys program.interface m.thread (marks_of s m.thread past) (Made e)
       keyed = subst (HasKeys program.interface m.thread (marks_of s m.thread past)) is a.own.keys
 
-      shared : is_listed e.keys (key Pool 0) ≡ true → SharedAct program.interface (key Pool 0) (events_with s pool past) (Made e)
-      shared l = subst (SharedAct program.interface (key Pool 0) (events_with s pool past)) is (a.shared pool (ap (λ z. is_listed (keys_of z) (key Pool 0)) is ∙ l))
+      shared : is_listed e.keys (key Pool 0) ≡ true → SharedAct program.interface s (key Pool 0) (new_events pool past) (Made e)
+      shared l = subst (SharedAct program.interface s (key Pool 0) (new_events pool past)) is (a.shared pool (ap (λ z. is_listed (keys_of z) (key Pool 0)) is ∙ l))
 
-      carried : EventCarries program.interface (marks_of s m.thread past) e.kind
-      carried = subst (Carries program.interface m.thread (marks_of s m.thread past) (program.want m.thread (marks_of s m.thread past))) is a.own.carries
+      carried : EventCarries program.interface s m.thread (marks_of s m.thread past) e.kind
+      carried = subst (Carries program.interface s m.thread (marks_of s m.thread past) (program.want m.thread (marks_of s m.thread past))) is a.own.carries
 
       asked : (x : ℕ) → EventAsks e.kind x (byte s x past)
       asked = subst (λ z. Asks z (λ x. byte s x past)) is a.bytes
 
-      calm : (k : EventKind) → e.kind ≡ k → ((bs : List Range) → blocks_after k bs ≡ bs) → ((x n : ℕ) → event_block k x n ≡ n) → Agree (blocks (cond (is_listed e.keys (key Pool 0)) (m ∷ events_with s pool past) (events_with s pool past))) (λ x. event_block e.kind x (byte s x past).block)
-      calm k q still stays = quiet m (events_with s pool past) (is_listed e.keys (key Pool 0)) (λ x. event_block e.kind x (byte s x past).block) (same ∙ ap (λ z. blocks_after z (blocks (events_with s pool past))) q ∙ still (blocks (events_with s pool past)))
-          (record { sound = h.sound; same = λ x. ap (λ z. event_block z x (byte s x past).block) q ∙ stays x (byte s x past).block ∙ h.same x })
+      calm : (k : EventKind) → e.kind ≡ k → ((bs : List Range) → blocks_after k bs ≡ bs) → ((x n : ℕ) → event_block k x n ≡ n) → ListsBlocks (blocks_from s.blocks (cond (is_listed e.keys (key Pool 0)) (m ∷ new_events pool past) (new_events pool past))) (λ x. event_block e.kind x (byte s x past).block)
+      calm k q still stays = quiet m (new_events pool past) (is_listed e.keys (key Pool 0)) (λ x. event_block e.kind x (byte s x past).block) (same ∙ ap (λ z. blocks_after z (blocks s past)) q ∙ still (blocks s past))
+          (record { apart = h.apart; same = λ x. ap (λ z. event_block z x (byte s x past).block) q ∙ stays x (byte s x past).block ∙ h.same x })
 
-      go : (k : EventKind) → e.kind ≡ k → Agree (blocks (cond (is_listed e.keys (key Pool 0)) (m ∷ events_with s pool past) (events_with s pool past))) (λ x. event_block e.kind x (byte s x past).block)
+      go : (k : EventKind) → e.kind ≡ k → ListsBlocks (blocks_from s.blocks (cond (is_listed e.keys (key Pool 0)) (m ∷ new_events pool past) (new_events pool past))) (λ x. event_block e.kind x (byte s x past).block)
       go (Alloc at size) q =
           let l : is_listed e.keys (key Pool 0) ≡ true = listed_last e.keys [] (key Pool 0) (keyed ∙ ap (λ k. sorted_keys (keys_for program.interface m.thread (marks_of s m.thread past) k)) q) in
-          let p : IsPlace replay_pool (blocks (events_with s pool past)) size at = subst (SharedEvent program.interface Pool 0 (events_with s pool past)) q (shared l) in
-          loud m (events_with s pool past) (is_listed e.keys (key Pool 0)) e.kind (λ x. event_block e.kind x (byte s x past).block) l same
-          (subst (λ k. Agree (blocks_after k (blocks (events_with s pool past))) (λ x. event_block k x (byte s x past).block)) (sym q) (allocs (blocks (events_with s pool past)) (λ x. (byte s x past).block) at size h p))
+          let p : IsPlace replay_pool (blocks s past) size at = subst (SharedEvent program.interface s Pool 0 (new_events pool past)) q (shared l) in
+          loud m (new_events pool past) (is_listed e.keys (key Pool 0)) e.kind (λ x. event_block e.kind x (byte s x past).block) l same
+          (subst (λ k. ListsBlocks (blocks_after k (blocks s past)) (λ x. event_block k x (byte s x past).block)) (sym q) (allocs (blocks s past) (λ x. (byte s x past).block) at size h p))
       go (Free at size) q =
           let l : is_listed e.keys (key Pool 0) ≡ true = listed_last e.keys [] (key Pool 0) (keyed ∙ ap (λ k. sorted_keys (keys_for program.interface m.thread (marks_of s m.thread past) k)) q) in
-          let z : eqb at 0 ≡ eqb size 0 = subst (EventCarries program.interface (marks_of s m.thread past)) q carried in
+          let z : eqb at 0 ≡ eqb size 0 = subst (EventCarries program.interface s m.thread (marks_of s m.thread past)) q carried in
           let b : (x : ℕ) → EventAsks (Free at size) x (byte s x past) = subst (λ k. (x : ℕ) → EventAsks k x (byte s x past)) q asked in
-          loud m (events_with s pool past) (is_listed e.keys (key Pool 0)) e.kind (λ x. event_block e.kind x (byte s x past).block) l same
-          (subst (λ k. Agree (blocks_after k (blocks (events_with s pool past))) (λ x. event_block k x (byte s x past).block)) (sym q) (frees (blocks (events_with s pool past)) (λ x. (byte s x past).block) at size h z (λ n. (b at (and_from _ _ (le-leb at at (omega arith)) (lt-ltb at (at + size) (omega (arith, n))))).1 refl)))
+          loud m (new_events pool past) (is_listed e.keys (key Pool 0)) e.kind (λ x. event_block e.kind x (byte s x past).block) l same
+          (subst (λ k. ListsBlocks (blocks_after k (blocks s past)) (λ x. event_block k x (byte s x past).block)) (sym q) (frees (blocks s past) (λ x. (byte s x past).block) at size h z (λ n. (b at (and_from _ _ (le-leb at at (omega arith)) (lt-ltb at (at + size) (omega (arith, n))))).1 refl)))
       go (Call f args ins outs prepared) q = calm (Call f args ins outs prepared) q (λ bs. refl) (λ x n. refl)
       go (Ret f args v same' outs commit) q = calm (Ret f args v same' outs commit) q (λ bs. refl) (λ x n. refl)
       go (Up f args) q = calm (Up f args) q (λ bs. refl) (λ x n. refl)
       go (UpRet f v) q = calm (UpRet f v) q (λ bs. refl) (λ x n. refl)
       go (Stop f) q = calm (Stop f) q (λ bs. refl) (λ x n. refl)
 
-  more : (past : List Mark) (m : Mark) → Allowed (replay_rules program) s past m → Agree (blocks (events_with s pool past)) (λ x. (byte s x past).block) → Agree (blocks (events_with s pool (m ∷ past))) (λ x. (byte s x (m ∷ past)).block)
+  pub more : (past : List Mark) (m : Mark) → Allowed (replay_rules program s) s past m → ListsBlocks (blocks s past) (λ x. (byte s x past).block) → ListsBlocks (blocks s (m ∷ past)) (λ x. (byte s x (m ∷ past)).block)
   more past m a h = go m.act refl
     where
-      whole : (a : Act) → m.act ≡ a → Agree (blocks (cond (is_listed (keys_of a) (key Pool 0)) (m ∷ events_with s pool past) (events_with s pool past))) (λ x. block_after a x (byte s x past).block) → Agree (blocks (events_with s pool (m ∷ past))) (λ x. (byte s x (m ∷ past)).block)
-      whole a is h = subst (λ z. Agree (blocks (cond (is_listed (keys_of z) (key Pool 0)) (m ∷ events_with s pool past) (events_with s pool past))) (λ x. block_after z x (byte s x past).block)) (sym is) h
+      whole : (a : Act) → m.act ≡ a → ListsBlocks (blocks_from s.blocks (cond (is_listed (keys_of a) (key Pool 0)) (m ∷ new_events pool past) (new_events pool past))) (λ x. block_after a x (byte s x past).block) → ListsBlocks (blocks s (m ∷ past)) (λ x. (byte s x (m ∷ past)).block)
+      whole a is h = subst (λ z. ListsBlocks (blocks_from s.blocks (cond (is_listed (keys_of z) (key Pool 0)) (m ∷ new_events pool past) (new_events pool past))) (λ x. block_after z x (byte s x past).block)) (sym is) h
 
-      go : (b : Act) → m.act ≡ b → Agree (blocks (events_with s pool (m ∷ past))) (λ x. (byte s x (m ∷ past)).block)
+      go : (b : Act) → m.act ≡ b → ListsBlocks (blocks s (m ∷ past)) (λ x. (byte s x (m ∷ past)).block)
       go (Made e) is = whole (Made e) is (made past m e a is h)
       go Turn is = whole Turn is h
       go (Load o at bytes) is = whole (Load o at bytes) is h
@@ -241,12 +230,9 @@ module _ (program : Program) (s : Start) where
       go (Step f args v ins pieces freed) is = whole (Step f args v ins pieces freed) is h
       go (Fault k cr ins outs at) is = whole (Fault k cr ins outs at) is h
 
-pub agree : (program : Program) (memory : ℕ → Byte) → ((x : ℕ) → (memory x).block ≡ 0) → (run : List Mark) → Run (replay_rules program) (fresh memory) run → Agree (blocks (events_with (fresh memory) (OfKey (key Pool 0)) run)) (λ x. (byte (fresh memory) x run).block)
-agree program memory none [] h = record { sound = tt; same = none }
-agree program memory none (m ∷ past) h = more program (fresh memory) past m h.0 (agree program memory none past h.1)
-
-pub known : (program : Program) (memory : ℕ → Byte) → ((x : ℕ) → (memory x).block ≡ 0) → (run : List Mark) → Run (replay_rules program) (fresh memory) run → (x : ℕ) → (byte (fresh memory) x run).block ≡ size_at x (blocks (events_with (fresh memory) (OfKey (key Pool 0)) run))
-known program memory none run h x = (agree program memory none run h).same x
+pub agree : (program : Program) (s : Start) → ListsBlocks s.blocks (λ x. (s.memory x).block) → (run : List Mark) → Run (replay_rules program s) s run → ListsBlocks (blocks s run) (λ x. (byte s x run).block)
+agree program s begins [] h = begins
+agree program s begins (m ∷ past) h = more program s past m h.0 (agree program s begins past h.1)
 
 pub one_place : (pool : ℕ) (bs : List Range) (size at x : ℕ) → IsPlace pool bs size at → IsPlace pool bs size x → at ≡ x
 one_place pool bs size at x (inl p) (inl q) = let a = p.1 x q.0 in let b = q.1 at p.0 in omega (arith, a, b)

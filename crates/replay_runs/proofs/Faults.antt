@@ -222,7 +222,7 @@ module _ (program : Program) (s : Start) (past : List Mark) (t : ℕ) (below : t
   Comes kind = FaultMayCome program s past t kind
 
   module _ (w : Want) (is : program.want t mine ≡ w) where
-    comes : (k : FaultKind) (cr : Bool) (ins outs : List Range) (a : Access) → is_reply w (Fault k cr ins outs a) ≡ true → KeepsModes i w → Carries i t mine w (Fault k cr ins outs a) → IsFree past t (Fault k cr ins outs a) → Asks (Fault k cr ins outs a) (λ x. byte s x past) → Comes k
+    comes : (k : FaultKind) (cr : Bool) (ins outs : List Range) (a : Access) → is_reply w (Fault k cr ins outs a) ≡ true → KeepsModes i w → Carries i s t mine w (Fault k cr ins outs a) → IsFree past t (Fault k cr ins outs a) → Asks (Fault k cr ins outs a) (λ x. byte s x past) → Comes k
     comes k cr ins outs a reply modes carries free asks =
         record {
           mark = m;
@@ -234,7 +234,7 @@ module _ (program : Program) (s : Start) (past : List Mark) (t : ℕ) (below : t
               side = refl;
               replies = subst (λ v. is_reply v (Fault k cr ins outs a) ≡ true) (sym is) reply;
               modes = λ z. subst (KeepsModes i) (sym is) modes;
-              carries = subst (λ v. Carries i t mine v (Fault k cr ins outs a)) (sym is) carries;
+              carries = subst (λ v. Carries i s t mine v (Fault k cr ins outs a)) (sym is) carries;
               keys = tt;
               other_space = free.space;
               read_only = free.constant;

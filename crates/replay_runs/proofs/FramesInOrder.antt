@@ -39,7 +39,7 @@ module _ (program : Program) (ends : EndsOwnFrames program) where
   first t mine (Fault k cr ins outs at) modes replies = tt
   first t mine (Made e) modes replies = tt
 
-  all_first : (s : Start) (run : List Mark) → Run (replay_rules program) s run → FramesEndInOrder s run
+  all_first : (s : Start) (run : List Mark) → Run (replay_rules program s) s run → FramesEndInOrder s run
   all_first s [] h = tt
   all_first s (m ∷ past) h = (first m.thread (marks_of s m.thread past) m.act h.0.own.modes h.0.own.replies, all_first s past h.1)
 

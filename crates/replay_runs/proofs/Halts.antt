@@ -6,7 +6,7 @@ use Rattle.marks.specs.Places.{thread_count}
 use Rattle.marks.specs.Marks.{Stop, Made, Mark}
 use Rattle.marks.specs.Bytes.{touches, writes}
 use Rattle.marks.specs.Wants.{is_above}
-use Rattle.replay_runs.specs.Runs.{Start, Link, OfThread, OfKey, has, ticket, marks_of, events_with, last_clock, steps_since}
+use Rattle.replay_runs.specs.Runs.{Start, Link, OfThread, OfKey, has, ticket, marks_of, events_with, new_events, last_clock, steps_since}
 use Rattle.replay_runs.specs.Interface.{Program}
 use Rattle.replay_runs.specs.Threads.{fault_of, is_stopped}
 use Rattle.replay_runs.specs.Rules.{SharedRules}
@@ -46,7 +46,7 @@ module _ (program : Program) (s : Start) (past : List Mark) (t : ℕ) where
           index = refl;
           steps = λ e. refl;
           tickets = own_link (λ l. ticket stop l ≡ length (events_with s l past)) refl;
-          shared = own_link (λ l. SharedRules program.interface l (events_with s l past) stop) tt;
+          shared = own_link (λ l. SharedRules program.interface s l (new_events l past) stop) tt;
           rises = own_link (λ l. last_clock (events_with s l past) < suc (last_clock (events_with s (OfThread t) past))) (omega arith);
           least = λ e. (OfThread t, eq-eqb t t refl, refl);
           bytes = λ x. tt;

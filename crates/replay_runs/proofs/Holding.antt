@@ -7,12 +7,12 @@ use Rattle.marks.specs.Ranges.{Range, Piece, Prepared, in_range, any_range, any_
 use Rattle.marks.specs.Marks.{EventKind, Call, Ret, Up, UpRet, Alloc, Free, Stop, Commit, NoRegion, Withheld, Released, Act, Turn, Load, Store, Enter, Leave, Step, Fault, Made, Mark, is_event}
 use Rattle.marks.specs.Bytes.{Cell, Dead, Live, Held, IsLive, IsHeld, Shows, hold, release, give, give_any, writes, late, cell_after}
 use Rattle.marks.proofs.Touched.{or_true_left, or_true_right}
-use Rattle.replay_runs.specs.Runs.{OfKey, Start, has, keys_of, is_listed, marks_of, events_with}
+use Rattle.replay_runs.specs.Runs.{OfKey, Start, has, keys_of, is_listed, marks_of, new_events}
 use Rattle.replay_runs.specs.Threads.{OpenCall, act_calls, calls_after, open_calls, tail}
-use Rattle.replay_runs.specs.Pool.{act_use, use_after, commit_leaves, prepared_under, in_use}
+use Rattle.replay_runs.specs.Pool.{act_use, use_after, commit_leaves, prepared_under, in_use_from, in_use}
 use Rattle.replay_runs.specs.Keys.{key}
 use Rattle.replay_runs.specs.Rules.{Apart}
-use Rattle.replay_runs.specs.Unseen.{Holder, Calling, Preparing, link_of, any_held, is_in, holds}
+use Rattle.replay_runs.specs.Unseen.{Holder, Calling, Preparing, link_of, any_held, is_in, holds, Once}
 
 -- cells
 
@@ -194,14 +194,18 @@ calls_cases (Alloc at size) t x cs e = inl e
 calls_cases (Free at size) t x cs e = inl e
 calls_cases (Stop f) t x cs e = inl e
 
-commit_cases : (commit : Commit) (x : ℕ) (r : Option Range) → is_in (commit_leaves commit r) x ≡ true → is_in r x ≡ true
-commit_cases NoRegion x r e = e
-commit_cases Withheld x r e = e
-commit_cases (Released p) x r e = absurd (true≢false (sym e))
+commit_cases : (k : ℕ) (commit : Commit) (x : ℕ) (r : Option Range) → is_in (commit_leaves k commit r) x ≡ true → is_in r x ≡ true
+commit_cases k NoRegion x r e = e
+commit_cases k Withheld x r e = e
+commit_cases k (Released j p) x r e = go (eqb j k) e
+  where
+    go : (b : Bool) → is_in (cond b None r) x ≡ true → is_in r x ≡ true
+    go true f = absurd (true≢false (sym f))
+    go false f = f
 
 uses_cases : (j : EventKind) (t x k : ℕ) (r : Option Range) → is_in (use_after k j r) x ≡ true → (is_in r x ≡ true) ⊎ (event_taken j t x (Preparing k) ≡ true)
 uses_cases (Call f args ins outs ps) t x k r e = under_or_before ps k x r e
-uses_cases (Ret f args v same outs commit) t x k r e = inl (commit_cases commit x r e)
+uses_cases (Ret f args v same outs commit) t x k r e = inl (commit_cases k commit x r e)
 uses_cases (Up f args) t x k r e = inl e
 uses_cases (UpRet f v) t x k r e = inl e
 uses_cases (Alloc at size) t x k r e = inl e
@@ -236,14 +240,9 @@ holds_cases s past m x (Calling u) e = go (eqb m.thread u) refl e
     go false f h = inl h
 holds_cases s past m x (Preparing k) e = go (is_listed (keys_of m.act) (key Async k)) refl e
   where
-    go : (b : Bool) → is_listed (keys_of m.act) (key Async k) ≡ b → is_in (in_use k (cond b (m ∷ events_with s (OfKey (key Async k)) past) (events_with s (OfKey (key Async k)) past))) x ≡ true → (is_in (in_use k (events_with s (OfKey (key Async k)) past)) x ≡ true) ⊎ ((act_taken m.act m.thread x (Preparing k) ≡ true) × (is_listed (keys_of m.act) (key Async k) ≡ true))
-    go true f h = ⊎_elim (λ z. inl z) (λ z. inr (z, f)) (act_uses_cases m.act m.thread x k (in_use k (events_with s (OfKey (key Async k)) past)) h)
+    go : (b : Bool) → is_listed (keys_of m.act) (key Async k) ≡ b → is_in (in_use_from k (s.in_use k) (cond b (m ∷ new_events (OfKey (key Async k)) past) (new_events (OfKey (key Async k)) past))) x ≡ true → (is_in (in_use s k past) x ≡ true) ⊎ ((act_taken m.act m.thread x (Preparing k) ≡ true) × (is_listed (keys_of m.act) (key Async k) ≡ true))
+    go true f h = ⊎_elim (λ z. inl z) (λ z. inr (z, f)) (act_uses_cases m.act m.thread x k (in_use s k past) h)
     go false f h = inl h
-
--- each byte is held by one open call of a thread at most
-abbrev pub Once : List OpenCall → ℕ → Type 0
-Once [] x = Unit {0}
-Once (c ∷ cs) x = (any_range c.outs x ≡ true → any_held cs x ≡ false) × Once cs x
 
 pub once_tail : (cs : List OpenCall) (x : ℕ) → Once cs x → Once (tail cs) x
 once_tail [] x o = tt

@@ -7,16 +7,12 @@ use Rattle.marks.specs.Ranges.{Range, within, in_range, any_range}
 use Rattle.marks.proofs.Touched.{or_true_left, or_true_right}
 use Rattle.replay_runs.specs.Threads.{end_of}
 use Rattle.replay_runs.specs.Pool.{MeetsNone, without}
-use Rattle.replay_runs.specs.Blocks.{size_at}
-use Rattle.replay_runs.proofs.Blocks.{Sound, bounds}
+use Rattle.replay_runs.specs.Blocks.{LieApart, size_at}
+use Rattle.replay_runs.specs.Unseen.{Stacked, InPool}
+use Rattle.replay_runs.proofs.Blocks.{bounds}
 
 pub inside : (at n x : ℕ) → at ≤ x → x < at + n → within at n x ≡ true
 inside at n x le lt = and_from (leb at x) (ltb x (at + n)) (le-leb at x le) (lt-ltb x (at + n) lt)
-
--- frames that stand one on the other
-abbrev pub Stacked : ℕ → List Range → Type 0
-Stacked base [] = Unit {0}
-Stacked base (f ∷ fs) = (f.at ≡ end_of base fs) × Stacked base fs
 
 pub ends_above : (base : ℕ) (fs : List Range) → Stacked base fs → base ≤ end_of base fs
 ends_above base [] s = omega arith
@@ -27,10 +23,6 @@ one_stack t u x a b c d = omega (arith, a, b, c, d)
 
 pub not_both_areas : (t x : ℕ) → t < thread_count → x < stack Replay t + stack_size → replay_pool ≤ x → ⊥
 not_both_areas t x a b c = absurd (omega (arith, a, b, c))
-
-abbrev pub InPool : List Range → Type 0
-InPool [] = Unit {0}
-InPool (b ∷ bs) = (replay_pool ≤ b.at) × (b.at + b.size ≤ replay_pool + pool_size) × InPool bs
 
 pub without_in_pool : (bs : List Range) (at : ℕ) → InPool bs → InPool (without at bs)
 without_in_pool [] at h = tt
@@ -67,7 +59,7 @@ left_or_freed (b ∷ bs) at x e = go (eqb b.at at) refl (left_or_freed bs at x)
         (λ z. ⊎_elim (λ y. inl (or_true_right (in_range b x) (any_range (without at bs) x) y)) (λ y. inr y) (again z))
         (or_cases (in_range b x) (any_range bs x) e)
 
-pub no_block_at_zero : (bs : List Range) → Sound bs → size_at 0 bs ≡ 0
+pub no_block_at_zero : (bs : List Range) → LieApart bs → size_at 0 bs ≡ 0
 no_block_at_zero [] s = refl
 no_block_at_zero (b ∷ bs) s = go (eqb b.at 0) refl (no_block_at_zero bs s.3)
   where

@@ -1,7 +1,6 @@
 -- The checks of a step pass exactly where the step may pass.
 use Rattle.std.proofs.Common.{◌≡◌, ◌≢◌, ◌↔◌, inl, inr, ⊎_elim, ℕ, zero, suc, ◌≤◌, Bool, true, false, ◌||◌, cond, eqb, List, [], ◌∷◌, ◌++◌, Option, Some, None, refl, sym, ap, ◌∙◌, subst, arith, eq-eqb, eqb-true}
 use Rattle.std.proofs.lemmas.Bool.{ne_eqb, true≢false}
-use Rattle.logical_clock.specs.declared.key.Class.TheVariants.{Async}
 use Rattle.marks.specs.declared.side.Side.{Side}
 use Rattle.marks.specs.declared.side.Side.TheVariants.{Replay, System}
 use Rattle.marks.specs.Places.{function_address, is_constant, is_system}
@@ -10,7 +9,7 @@ use Rattle.marks.specs.Marks.{Mark}
 use Rattle.marks.specs.Bytes.{Cell, Dead, Live, Held, IsLive, IsHeld, AllLive}
 use Rattle.marks.specs.Wants.{Enters, Frees, Calls}
 use Rattle.marks.proofs.Touched.{or_left, or_right}
-use Rattle.replay_runs.specs.Runs.{Start, OfKey, events_with, byte}
+use Rattle.replay_runs.specs.Runs.{Start, byte}
 use Rattle.replay_runs.specs.Interface.{Interface}
 use Rattle.replay_runs.specs.Pool.{prepares_key, in_use}
 use Rattle.replay_runs.specs.Keys.{key}
@@ -203,7 +202,7 @@ module _ (s : Start) (past : List Mark) (t : ℕ) where
   keys_from more [] cs n d a p = p
   keys_from more (q ∷ ps) cs n d a p = (
     (λ k b. ⊎_elim
-        (λ ne. ne (subst (λ z. in_use z (events_with s (OfKey (key Async z)) past) ≡ None) (sym b.0) n.0))
+        (λ ne. ne (subst (λ z. in_use s z past ≡ None) (sym b.0) n.0))
         (λ z. not_false (any_number more q.key) a.0 (ap (any_number more) (sym b.0) ∙ z))
         b.1),
     keys_from (q.key ∷ more) ps cs n.1 d.1 (new_more q.key more ps a.1 d.0) p,

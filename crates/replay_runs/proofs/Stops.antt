@@ -10,7 +10,7 @@ use Rattle.marks.specs.Marks.{Access, Reading, Writing, Freeing, EventKind, Call
 use Rattle.marks.specs.Bytes.{Cell, Byte, IsLive, Shows, EventAsks, Asks, event_writes, reads, writes, late, late_event}
 use Rattle.marks.specs.Wants.{Want, Outside, Turns, Loads, Stores, Enters, Leaves, Allocs, Frees, Calls, Below, Gives, Returns, CallsBack, UpReturns, Steps, Fails, Answer, Go, same_numbers, answer_if, event_answer, answer_to, is_above, is_below}
 use Rattle.marks.proofs.Touched.{or_true_left, or_true_right}
-use Rattle.replay_runs.specs.Runs.{Start, Link, OfKey, Allowed, same_key, keys_of, is_listed, has, marks_of, events_with, byte}
+use Rattle.replay_runs.specs.Runs.{Start, Link, OfKey, Allowed, same_key, keys_of, is_listed, has, marks_of, new_events, byte}
 use Rattle.replay_runs.specs.Known.{NoRace}
 use Rattle.replay_runs.specs.Interface.{Interface, Program}
 use Rattle.replay_runs.specs.Threads.{frame_place, HasRoom, is_stop}
@@ -128,7 +128,7 @@ module _ (s : Start) (past : List Mark) (t : ℕ) where
     fail_found k f (inl z) = z.2
     fail_found k f (inr z) = absurd z.1
 
-    plain_found : (want : Want) (a : Act) (f : Finding) → Plain want a → KeepsModes i want → Carries i t mine want a → IsFree past t a → Asks a now → Finds (checks i s past t want) f → IsFaultFound f a
+    plain_found : (want : Want) (a : Act) (f : Finding) → Plain want a → KeepsModes i want → Carries i s t mine want a → IsFree past t a → Asks a now → Finds (checks i s past t want) f → IsFaultFound f a
     plain_found want a f turn modes c free asks h = absurd h
     plain_found want a f (load {o} {at} {n} bytes e) modes c free asks h =
         none (Loads o at (length bytes)) f (Load o at bytes) (read_from s past t (range at (length bytes)) Done (loaded o at bytes free asks) tt) (subst (λ k. Finds (checks i s past t (Loads o at k)) f) (sym e) h)
@@ -233,7 +233,7 @@ shown_live : (ps : List Piece) (x : ℕ) (c : Cell) → Shows ps x c → any_pie
 shown_live [] x c h e = absurd (true≢false (sym e))
 shown_live (p ∷ ps) x c h e = ⊎_elim (λ z. subst IsLive (sym (h.0 z)) tt) (λ z. shown_live ps x c h.1 z) (or_cases (in_range p.range x) (any_piece ps x) e)
 
-any_prepares : (ps : List Prepared) (k : ℕ) → prepares_key ps k ≡ true → any_key (map (λ p. key Async p.key) ps) (key Async k) ≡ true
+pub any_prepares : (ps : List Prepared) (k : ℕ) → prepares_key ps k ≡ true → any_key (map (λ p. key Async p.key) ps) (key Async k) ≡ true
 unfolding any_key
 any_prepares [] k e = e
 any_prepares (p ∷ ps) k e = ⊎_elim
@@ -245,18 +245,18 @@ module _ (i : Interface) (s : Start) (past : List Mark) (m : Mark) (e : Event) (
   abbrev own_part : List Mark
   own_part = marks_of s m.thread past
 
-  module _ (keys : HasKeys i m.thread own_part (Made e)) (shared : (l : Link) → has m l ≡ true → SharedRules i l (events_with s l past) m) where
+  module _ (keys : HasKeys i m.thread own_part (Made e)) (shared : (l : Link) → has m l ≡ true → SharedRules i s l (new_events l past) m) where
     listed : (k : ℕ) → prepares_key prepared k ≡ true → is_listed e.keys (key Async k) ≡ true
     listed k z =
         listed_of e.keys (i.keys_at_call f args ++ (map (key Callback) (i.registers f args) ++ map (λ p. key Async p.key) prepared)) (key Async k)
         (subst (λ q. map (λ q. q.key) e.keys ≡ sorted_keys (keys_for i m.thread own_part q)) kind keys)
         (any_right (i.keys_at_call f args) _ (key Async k) (any_right (map (key Callback) (i.registers f args)) _ (key Async k) (any_prepares prepared k z)))
 
-    unused : (k : ℕ) → prepares_key prepared k ≡ true → in_use k (events_with s (OfKey (key Async k)) past) ≡ None
+    unused : (k : ℕ) → prepares_key prepared k ≡ true → in_use s k past ≡ None
     unused k z =
         let h : has m (OfKey (key Async k)) ≡ true = ap (λ a. is_listed (keys_of a) (key Async k)) is ∙ listed k z in
-        let act : SharedAct i (key Async k) (events_with s (OfKey (key Async k)) past) (Made e) = subst (λ a. SharedAct i (key Async k) (events_with s (OfKey (key Async k)) past) a) is (shared (OfKey (key Async k)) h) in
-        subst (λ q. SharedEvent i Async k (events_with s (OfKey (key Async k)) past) q) kind act z
+        let act : SharedAct i s (key Async k) (new_events (OfKey (key Async k)) past) (Made e) = subst (λ a. SharedAct i s (key Async k) (new_events (OfKey (key Async k)) past) a) is (shared (OfKey (key Async k)) h) in
+        subst (λ q. SharedEvent i s Async k (new_events (OfKey (key Async k)) past) q) kind act z
 
     none_used : (ps : List Prepared) → ((k : ℕ) → prepares_key ps k ≡ true → prepares_key prepared k ≡ true) → NoneInUse s past ps
     none_used [] sub = tt
@@ -265,9 +265,9 @@ module _ (i : Interface) (s : Start) (past : List Mark) (m : Mark) (e : Event) (
       none_used ps (λ k z. sub k (or_true_right (eqb p.key k) (prepares_key ps k) z)),
     )
 
-    call_passes : (b : Bool) → KeepsModes i (Calls b f args) → EventCarries i own_part e.kind → IsFree past m.thread m.act → NoRace past m → Asks (Made e) (λ x. byte s x past) → CallMayPass i s past m.thread b f args
+    call_passes : (b : Bool) → KeepsModes i (Calls b f args) → EventCarries i s m.thread own_part e.kind → IsFree past m.thread m.act → NoRace past m → Asks (Made e) (λ x. byte s x past) → CallMayPass i s past m.thread b f args
     call_passes b modes carries free no_race asks =
-        let c : EventCarries i own_part (Call f args ins outs prepared) = subst (EventCarries i own_part) kind carries in
+        let c : EventCarries i s m.thread own_part (Call f args ins outs prepared) = subst (EventCarries i s m.thread own_part) kind carries in
         let ask : (x : ℕ) → Shows ins x (byte s x past).cell × ((any_range outs x || any_prepared prepared x) ≡ true → IsLive (byte s x past).cell) = λ x. subst (λ k. EventAsks k x (byte s x past)) kind (asks x) in
         let may = (exact s past m e f args ins outs prepared is kind).1 (record { no_race = no_race; reads = λ x z. shown_live ins x (byte s x past).cell (ask x).0 z; holds = λ x z. (ask x).1 z; other_space = free.space; read_only = free.constant }) in
         let as_held : (P : List Range → Type 0) → P (outs ++ prepared_ranges prepared) → P (i.outs f args ++ prepared_ranges (i.prepares f args)) = λ P z. subst (λ ps. P (i.outs f args ++ prepared_ranges ps)) c.3 (subst (λ os. P (os ++ prepared_ranges prepared)) c.2 z) in
@@ -288,22 +288,22 @@ made_is : (a : Act) → is_event a ≡ true → (e : Event) × (a ≡ Made e)
 made_is (Made e) z = (e, refl)
 made_is a z = absurd (true≢false (sym z))
 
-module _ (program : Program) (s : Start) (past : List Mark) (m : Mark) (f : Finding) (allowed : Allowed (replay_rules program) s past m) (no_race : NoRace past m) (go : is_stop m.act ≡ false) where
+module _ (program : Program) (s : Start) (past : List Mark) (m : Mark) (f : Finding) (allowed : Allowed (replay_rules program s) s past m) (no_race : NoRace past m) (go : is_stop m.act ≡ false) where
   abbrev i : Interface
   i = program.interface
 
   abbrev its : List Mark
   its = marks_of s m.thread past
 
-  event_found : (want : Want) (e : Event) (k : EventKind) → Answers want k → m.act ≡ Made e → e.kind ≡ k → KeepsModes i want → EventCarries i its e.kind → HasKeys i m.thread its (Made e) → Asks (Made e) (λ x. byte s x past) → Finds (checks i s past m.thread want) f → ⊥
+  event_found : (want : Want) (e : Event) (k : EventKind) → Answers want k → m.act ≡ Made e → e.kind ≡ k → KeepsModes i want → EventCarries i s m.thread its e.kind → HasKeys i m.thread its (Made e) → Asks (Made e) (λ x. byte s x past) → Finds (checks i s past m.thread want) f → ⊥
   event_found want e k (a_free {at = zero} size) is kind modes c keys asks h = h
   event_found want e k (a_free {at = suc at} size) is kind modes c keys asks h =
       let early : late m.act ≡ false = ap late is ∙ ap late_event kind in
-      let free : IsFree past m.thread (Made e) = subst (IsFree past m.thread) is (comes_free past m no_race early program its allowed.own) in
-      not_both (checks i s past m.thread (Frees (suc at))) f h (((say s past m.thread i).frees (suc at) (omega arith)).1 (free_passes s past m.thread at size e kind (subst (EventCarries i its) kind c) free asks))
+      let free : IsFree past m.thread (Made e) = subst (IsFree past m.thread) is (comes_free past m no_race early program s its allowed.own) in
+      not_both (checks i s past m.thread (Frees (suc at))) f h (((say s past m.thread i).frees (suc at) (omega arith)).1 (free_passes s past m.thread at size e kind (subst (EventCarries i s m.thread its) kind c) free asks))
   event_found want e k (a_call {b = b} {f = g} {args = args} ins outs prepared) is kind modes c keys asks h =
       let early : late m.act ≡ false = ap late is ∙ ap late_event kind in
-      not_both (checks i s past m.thread (Calls b g args)) f h (((say s past m.thread i).calls b g args).1 (call_passes i s past m e g args ins outs prepared is kind keys allowed.shared b modes c (comes_free past m no_race early program its allowed.own) no_race asks))
+      not_both (checks i s past m.thread (Calls b g args)) f h (((say s past m.thread i).calls b g args).1 (call_passes i s past m e g args ins outs prepared is kind keys allowed.shared b modes c (comes_free past m no_race early program s its allowed.own) no_race asks))
   event_found want e k (unchecked none) is kind modes c keys asks h = none i s past m.thread f h
 
   pub stops : Finds (checks i s past m.thread (program.want m.thread its)) f → IsFaultFound f m.act
@@ -313,10 +313,10 @@ module _ (program : Program) (s : Start) (past : List Mark) (m : Mark) (f : Find
       let e = w.0 in
       let reply : is_some (event_answer (program.want m.thread its) e.kind) ≡ true = event_reply (program.want m.thread its) e (sym (ap is_stop w.1) ∙ go) (sym (ap (is_reply (program.want m.thread its)) w.1) ∙ allowed.own.replies) in
       absurd (event_found (program.want m.thread its) e e.kind (answers (program.want m.thread its) e.kind reply) w.1 refl (allowed.own.modes go)
-      (subst (λ a. Carries i m.thread its (program.want m.thread its) a) w.1 allowed.own.carries)
+      (subst (λ a. Carries i s m.thread its (program.want m.thread its) a) w.1 allowed.own.carries)
       (subst (λ a. HasKeys i m.thread its a) w.1 allowed.own.keys)
       (subst (λ a. Asks a (λ x. byte s x past)) w.1 allowed.bytes)
       h))
       (λ z.
-      plain_found s past m.thread i (program.want m.thread its) m.act f (plain_is i (program.want m.thread its) m.act z (allowed.own.modes go) allowed.own.replies) (allowed.own.modes go) allowed.own.carries (comes_free past m no_race (late_plain m.act z) program its allowed.own) allowed.bytes h)
+      plain_found s past m.thread i (program.want m.thread its) m.act f (plain_is i (program.want m.thread its) m.act z (allowed.own.modes go) allowed.own.replies) (allowed.own.modes go) allowed.own.carries (comes_free past m no_race (late_plain m.act z) program s its allowed.own) allowed.bytes h)
       (cases_Bool (is_event m.act))

@@ -8,7 +8,7 @@ use Rattle.marks.specs.Ranges.{Range, in_range, any_range}
 use Rattle.marks.specs.Marks.{Access, Reading, Writing, Act, Fault, Mark}
 use Rattle.marks.specs.Bytes.{access_reads, access_writes, reads, writes, touches, late, place, conflict}
 use Rattle.marks.proofs.Touched.{or_true_left, or_true_right}
-use Rattle.replay_runs.specs.Runs.{OfThread}
+use Rattle.replay_runs.specs.Runs.{OfThread, Start}
 use Rattle.replay_runs.specs.Known.{known, known_at, NoRace}
 use Rattle.replay_runs.specs.Interface.{Program}
 use Rattle.replay_runs.specs.Rules.{OwnRules}
@@ -40,8 +40,8 @@ module _ (past : List Mark) (m : Mark) (free : NoRace past m) (early : late m.ac
       let k : known_at past m a.thread ≡ known past (OfThread m.thread) u = knows past m a.thread early ∙ ap (known past (OfThread m.thread)) r.2 in
       absurd (omega (arith, lt, k, r.5))
 
-  pub comes_free : (program : Program) (mine : List Mark) → OwnRules program mine m → IsFree past m.thread m.act
-  comes_free program mine own =
+  pub comes_free : (program : Program) (s : Start) (mine : List Mark) → OwnRules program s mine m → IsFree past m.thread m.act
+  comes_free program s mine own =
       record {
         space = own.other_space;
         constant = own.read_only;

@@ -20,7 +20,7 @@ IsFaultFound f a = (kind : FaultKind) × (f ≡ FaultFound kind) × (act_fault a
 -- where the checks find something, no mark of the thread may come but a Stop, or the Fault that is found
 abbrev pub WhatIsFoundStops : Program → Start → Type 0
 WhatIsFoundStops program s =
-    (past : List Mark) (m : Mark) (f : Finding) → Allowed (replay_rules program) s past m → NoRace past m → is_stop m.act ≡ false
+    (past : List Mark) (m : Mark) (f : Finding) → Allowed (replay_rules program s) s past m → NoRace past m → is_stop m.act ≡ false
     → Finds (checks program.interface s past m.thread (program.want m.thread (marks_of s m.thread past))) f → IsFaultFound f m.act
 
 -- the frame that the code ends and the block that it frees are there, and a frame has no constant. A block of system
@@ -48,7 +48,7 @@ pub record FaultMayCome (program : Program) (s : Start) (past : List Mark) (t : 
   pub mark : Mark
   pub thread : mark.thread ≡ t
   pub fault : act_fault mark.act None ≡ Some kind
-  pub allowed : Allowed (replay_rules program) s past mark
+  pub allowed : Allowed (replay_rules program s) s past mark
   pub no_race : NoRace past mark
 
 -- where the checks find a fault in a thread that goes on, it may come
@@ -62,7 +62,7 @@ pub record StopMayCome (program : Program) (s : Start) (past : List Mark) (t : �
   pub mark : Mark
   pub thread : mark.thread ≡ t
   pub stops : is_stop mark.act ≡ true
-  pub allowed : Allowed (replay_rules program) s past mark
+  pub allowed : Allowed (replay_rules program s) s past mark
   pub no_race : NoRace past mark
 
 -- a thread that stands above the cut may stop

@@ -1,5 +1,5 @@
 -- The laws of replay runs.
-use Rattle.std.specs.Prelude.{◌≡◌, ◌≢◌, ◌↔◌, ℕ, ◌-◌, ◌<◌, ◌≤◌, Bool, true, false, cond, eqb, ltb, List, [], ◌∷◌, ◌++◌, length, drop, Option}
+use Rattle.std.specs.Prelude.{◌≡◌, ◌≢◌, ◌↔◌, ℕ, ◌-◌, ◌<◌, ◌≤◌, Bool, true, false, cond, eqb, ltb, List, [], ◌∷◌, ◌++◌, length, drop, Option, None}
 use Rattle.logical_clock.specs.declared.event.Record.{Record}
 use Rattle.marks.specs.Places.{is_constant, is_system}
 use Rattle.marks.specs.Ranges.{Range, range, in_range}
@@ -17,10 +17,21 @@ use Rattle.replay_runs.specs.Records.{record_of, output}
 
 -- a start at which nothing was done, with this memory
 abbrev pub fresh : (ℕ → Byte) → Start
-fresh memory = record { parts = λ t. []; events = λ l. []; memory = memory; faults = 0 }
+fresh memory =
+    record {
+      parts = λ t. [];
+      events = λ l. [];
+      memory = memory;
+      faults = 0;
+      output = [];
+      blocks = [];
+      registered = λ f. false;
+      in_use = λ k. None;
+      returned = λ t f. None;
+    }
 
 abbrev pub IsReplayRun : Program → Start → List Mark → Type 0
-IsReplayRun program s run = Disciplined (replay_rules program) s run
+IsReplayRun program s run = Disciplined (replay_rules program s) s run
 
 -- q is a disciplined run too, in which each thread makes the same marks and each link has the same events, so that
 -- history and output are the same, and it leaves the same memory
@@ -92,7 +103,7 @@ pub record HasFirst (s : Start) (k : ℕ → ℕ) (p q : List Mark) : Type 0 whe
 -- where the start ends with events, of which none is dropped, a trimmed run without its later marks is so
 abbrev pub DroppedRunsAreTrimmed : Program → Start → Type 0
 DroppedRunsAreTrimmed program s =
-    (k : ℕ → ℕ) (p : List Mark) → Run (replay_rules program) s p → Trimmed s p → ((t : ℕ) → EndsWithEvent (s.parts t)) → ((t : ℕ) → length (s.events (OfThread t)) ≤ k t) → HasFirst s k p (keep (kept k) p)
+    (k : ℕ → ℕ) (p : List Mark) → Run (replay_rules program s) s p → Trimmed s p → ((t : ℕ) → EndsWithEvent (s.parts t)) → ((t : ℕ) → length (s.events (OfThread t)) ≤ k t) → HasFirst s k p (keep (kept k) p)
 
 -- so the records of a closed set of events are of the program
 abbrev pub ClosedSetsAreRuns : Program → Start → Type 0
@@ -151,9 +162,9 @@ OneRecordLess program s =
 -- the next mark of a run is allowed and passes the test for races; if it is no event, it is the only mark of its thread
 -- that the code and memory allow there
 pub record IsNext (program : Program) (s : Start) (past : List Mark) (m : Mark) : Type 0 where
-  pub allowed : Allowed (replay_rules program) s past m
+  pub allowed : Allowed (replay_rules program s) s past m
   pub no_race : NoRace past m
-  pub only : is_event m.act ≡ false → (n : Mark) → m.thread ≡ n.thread → m.index ≡ n.index → is_event n.act ≡ false → OwnRules program (marks_of s n.thread past) n → Asks n.act (λ x. byte s x past) → m ≡ n
+  pub only : is_event m.act ≡ false → (n : Mark) → m.thread ≡ n.thread → m.index ≡ n.index → is_event n.act ≡ false → OwnRules program s (marks_of s n.thread past) n → Asks n.act (λ x. byte s x past) → m ≡ n
 
 abbrev pub EachMarkIsTheNext : Program → Start → Type 0
 EachMarkIsTheNext program s =
@@ -162,17 +173,17 @@ EachMarkIsTheNext program s =
 -- step by step, no race with an earlier access is the rule of the whole run
 abbrev pub RacesAreFoundStepByStep : Program → Start → Type 0
 RacesAreFoundStepByStep program s =
-    (past : List Mark) (m : Mark) → Run (replay_rules program) s (m ∷ past) → RaceFree (m ∷ past) ↔ (RaceFree past × NoRace past m)
+    (past : List Mark) (m : Mark) → Run (replay_rules program s) s (m ∷ past) → RaceFree (m ∷ past) ↔ (RaceFree past × NoRace past m)
 
 -- and it is enough to look at the last accesses of each thread
 abbrev pub LastAccessesTell : Program → Start → Type 0
 LastAccessesTell program s =
-    (past : List Mark) (m : Mark) → Run (replay_rules program) s past → NoRace past m ↔ Watched past m
+    (past : List Mark) (m : Mark) → Run (replay_rules program s) s past → NoRace past m ↔ Watched past m
 
--- clocks that are counted step by step are the lengths of the longest chains
-abbrev pub ClocksAreLongestChains : Program → Type 0
-ClocksAreLongestChains program =
-    (memory : ℕ → Byte) (run : List Mark) → Run (replay_rules program) (fresh memory) run → (e : Mark) → In e run → is_event e.act ≡ true → IsLongest run e
+-- from a start before which there was no event, clocks that are counted step by step are the lengths of the longest chains
+abbrev pub ClocksAreLongestChains : Program → Start → Type 0
+ClocksAreLongestChains program s =
+    ((l : Link) → s.events l ≡ []) → (run : List Mark) → Run (replay_rules program s) s run → (e : Mark) → In e run → is_event e.act ≡ true → IsLongest run e
 
 -- nothing disturbs the access of a range by m: it races with no earlier one, and each byte is live, not pending, of
 -- replay memory and, if it is written, no constant

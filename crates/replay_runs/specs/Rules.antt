@@ -1,20 +1,20 @@
 -- The rules of a replay run: how each mark follows from its thread's own past, and from the events that share a key.
 use Rattle.std.specs.Prelude.{◌≡◌, ◌≢◌, ◌⊎◌, ℕ, ◌≤◌, ◌<◌, Bool, true, false, ◌&&◌, ◌||◌, cond, eqb, List, [], ◌∷◌, ◌++◌, map, length, Option, Some, None, is_some}
 use Rattle.logical_clock.specs.declared.key.Class.{Class}
-use Rattle.logical_clock.specs.declared.key.Class.TheVariants.{Callback, Pool, Async}
+use Rattle.logical_clock.specs.declared.key.Class.TheVariants.{Mutex, User, Callback, Thread, Pool, Out, Async}
 use Rattle.logical_clock.specs.declared.key.Key.{Key}
 use Rattle.marks.specs.declared.side.Side.TheVariants.{Replay, System}
 use Rattle.marks.specs.declared.fault.FaultKind.{FaultKind}
 use Rattle.marks.specs.declared.fault.FaultKind.TheVariants.{NotLive, ReadOnly}
 use Rattle.marks.specs.Places.{thread_count, replay_pool, is_constant, is_system}
 use Rattle.marks.specs.Ranges.{Range, Piece, Prepared, in_range, any_range, are_bytes, piece_ranges, piece_bytes, prepared_ranges}
-use Rattle.marks.specs.Marks.{EventKind, Call, Ret, Up, UpRet, Alloc, Free, Stop, Act, Enter, Fault, Made, Mark, Access, Reading, Writing, Commit, NoRegion, Withheld, Released, logged}
+use Rattle.marks.specs.Marks.{EventKind, Call, Ret, Up, UpRet, Alloc, Free, Stop, Act, Turn, Load, Store, Enter, Leave, Step, Fault, Made, Mark, Access, Reading, Writing, Commit, NoRegion, Withheld, Released, logged}
 use Rattle.marks.specs.Bytes.{writes, touches}
 use Rattle.marks.specs.Wants.{Want, Outside, Turns, Loads, Stores, Enters, Leaves, Allocs, Frees, Calls, Below, Gives, Returns, CallsBack, UpReturns, Steps, Fails, answer_to, is_above, is_below}
-use Rattle.replay_runs.specs.Runs.{Link, OfThread, OfKey, Rules}
+use Rattle.replay_runs.specs.Runs.{Link, OfThread, OfKey, Start, Rules}
 use Rattle.replay_runs.specs.Interface.{Interface, Program, Committing}
 use Rattle.replay_runs.specs.Threads.{frame_place, HasRoom, OpenCall, open_calls, open_ups, fault_of, is_stop, is_stopped, last_return, same_return}
-use Rattle.replay_runs.specs.Pool.{blocks, IsPlace, prepares_key, in_use, is_registered}
+use Rattle.replay_runs.specs.Pool.{blocks_from, IsPlace, prepares_key, in_use_from, registered_from}
 use Rattle.replay_runs.specs.Keys.{sorted_keys, keys_for}
 
 -- the mark answers what the code wants; a thread above the cut may stop at any mark
@@ -70,14 +70,15 @@ AreUsed (n ∷ ns) (p ∷ ps) = IsUsed n p × AreUsed ns ps
 AreUsed _ _ = ⊥
 
 -- the region of a NULL pointer has no bytes
-abbrev pub CommitsUsed : Option ℕ → Commit → Type 0
-CommitsUsed None commit = commit ≡ Withheld
-CommitsUsed (Some n) (Released p) = IsUsed (cond (eqb p.range.at 0) 0 n) p
-CommitsUsed (Some n) _ = ⊥
+abbrev pub CommitsUsed : ℕ → Option ℕ → Commit → Type 0
+CommitsUsed k None commit = commit ≡ Withheld
+CommitsUsed k (Some n) NoRegion = ⊥
+CommitsUsed k (Some n) Withheld = ⊥
+CommitsUsed k (Some n) (Released j p) = (j ≡ k) × IsUsed (cond (eqb p.range.at 0) 0 n) p
 
 abbrev pub Commits : Option Committing → Commit → Type 0
 Commits None commit = commit ≡ NoRegion
-Commits (Some c) commit = CommitsUsed c.used commit
+Commits (Some c) commit = CommitsUsed c.key c.used commit
 
 -- the Ret closes the innermost open Call, over the whole of its ranges
 abbrev pub Closes : List OpenCall → ℕ → List ℕ → List Range → Type 0
@@ -89,23 +90,23 @@ ClosesUp [] func = ⊥
 ClosesUp (f ∷ fs) func = func ≡ f
 
 -- what a Ret carries
-pub record IsReturn (i : Interface) (mine : List Mark) (func : ℕ) (args : List ℕ) (result : ℕ) (same : Bool) (outs : List Piece) (commit : Commit) : Type 0 where
+pub record IsReturn (i : Interface) (s : Start) (t : ℕ) (mine : List Mark) (func : ℕ) (args : List ℕ) (result : ℕ) (same : Bool) (outs : List Piece) (commit : Commit) : Type 0 where
   pub closes : Closes (open_calls mine) func args (piece_ranges outs)
   pub result_is : i.gives func result ≡ true
   pub used : AreUsed (i.used func args result) outs
   pub committed : Commits (i.commits func args result) commit
   -- the form `same` comes exactly where result and bytes are those of the thread's last return of the function
-  pub repeats : same ≡ (i.is_cached func && same_return (last_return func mine) (record { result = result; bytes = piece_bytes outs ++ logged commit }))
+  pub repeats : same ≡ (i.is_cached func && same_return (last_return (s.returned t func) func mine) (record { result = result; bytes = piece_bytes outs ++ logged commit }))
 
 -- what an event carries besides what the code wants
-abbrev pub EventCarries : Interface → List Mark → EventKind → Type 0
-EventCarries i mine (Call func args ins outs prepared) = (piece_ranges ins ≡ i.ins func args) × AreWhole ins × (outs ≡ i.outs func args) × (prepared ≡ i.prepares func args) × Apart (outs ++ prepared_ranges prepared) × DistinctKeys prepared
-EventCarries i mine (Ret func args result same outs commit) = IsReturn i mine func args result same outs commit
-EventCarries i mine (Up func args) = (i.may_run Replay func ≡ true) × (i.takes func args ≡ true)
-EventCarries i mine (UpRet func result) = ClosesUp (open_ups mine) func
-EventCarries i mine (Alloc at size) = Unit {0}
-EventCarries i mine (Free at size) = eqb at 0 ≡ eqb size 0
-EventCarries i mine (Stop fault) = fault ≡ fault_of mine
+abbrev pub EventCarries : Interface → Start → ℕ → List Mark → EventKind → Type 0
+EventCarries i s t mine (Call func args ins outs prepared) = (piece_ranges ins ≡ i.ins func args) × AreWhole ins × (outs ≡ i.outs func args) × (prepared ≡ i.prepares func args) × Apart (outs ++ prepared_ranges prepared) × DistinctKeys prepared
+EventCarries i s t mine (Ret func args result same outs commit) = IsReturn i s t mine func args result same outs commit
+EventCarries i s t mine (Up func args) = (i.may_run Replay func ≡ true) × (i.takes func args ≡ true)
+EventCarries i s t mine (UpRet func result) = ClosesUp (open_ups mine) func
+EventCarries i s t mine (Alloc at size) = Unit {0}
+EventCarries i s t mine (Free at size) = eqb at 0 ≡ eqb size 0
+EventCarries i s t mine (Stop fault) = fault ≡ fault_of mine
 
 abbrev pub SomeConstant : Range → Type 0
 SomeConstant r = (x : ℕ) × (in_range r x ≡ true) × (is_constant x ≡ true)
@@ -117,41 +118,47 @@ pub data StopsCall (ins outs : List Range) : FaultKind → List Range → List R
   AtConstant : (before after : List Range) (r : Range) → outs ≡ before ++ (r ∷ after) → Apart (r ∷ before) → SomeConstant r → StopsCall ins outs ReadOnly ins before (Writing r)
 
 -- what a mark carries besides what the code wants: frames lie at the least free place, a fault comes where it must
-abbrev pub Carries : Interface → ℕ → List Mark → Want → Act → Type 0
-Carries i t mine want (Made e) = EventCarries i mine e.kind
-Carries i t mine Outside act = Unit {0}
-Carries i t mine Turns act = Unit {0}
-Carries i t mine (Loads origin at width) act = Unit {0}
-Carries i t mine (Stores origin at bytes) (Fault ReadOnly crosses ins outs (Writing r)) = SomeConstant r
-Carries i t mine (Stores origin at bytes) act = Unit {0}
-Carries i t mine (Enters indirect func args bytes) (Enter f vs at b) = (at ≡ frame_place t mine) × HasRoom t mine (length bytes)
-Carries i t mine (Enters indirect func args bytes) (Fault kind crosses ins outs access) = HasRoom t mine (length bytes) → ⊥
-Carries i t mine (Enters indirect func args bytes) act = Unit {0}
-Carries i t mine (Leaves at size) act = Unit {0}
-Carries i t mine (Allocs size) act = Unit {0}
-Carries i t mine (Frees at) act = Unit {0}
-Carries i t mine (Calls indirect func args) (Fault kind crosses ins outs access) = StopsCall (i.ins func args) (i.outs func args ++ prepared_ranges (i.prepares func args)) kind ins outs access
-Carries i t mine (Calls indirect func args) act = Unit {0}
-Carries i t mine (Below func args) act = Unit {0}
-Carries i t mine (Gives func args) act = Unit {0}
-Carries i t mine (Returns func args result) act = Unit {0}
-Carries i t mine (CallsBack func args bytes) act = Unit {0}
-Carries i t mine (UpReturns func result) act = Unit {0}
-Carries i t mine (Steps indirect func args) act = Unit {0}
-Carries i t mine (Fails kind) act = Unit {0}
+abbrev pub Carries : Interface → Start → ℕ → List Mark → Want → Act → Type 0
+Carries i s t mine want (Made e) = EventCarries i s t mine e.kind
+Carries i s t mine Outside act = Unit {0}
+Carries i s t mine Turns act = Unit {0}
+Carries i s t mine (Loads origin at width) act = Unit {0}
+Carries i s t mine (Stores origin at bytes) (Fault ReadOnly crosses ins outs (Writing r)) = SomeConstant r
+Carries i s t mine (Stores origin at bytes) act = Unit {0}
+Carries i s t mine (Enters indirect func args bytes) (Enter f vs at b) = (at ≡ frame_place t mine) × HasRoom t mine (length bytes)
+Carries i s t mine (Enters indirect func args bytes) (Fault kind crosses ins outs access) = HasRoom t mine (length bytes) → ⊥
+Carries i s t mine (Enters indirect func args bytes) act = Unit {0}
+Carries i s t mine (Leaves at size) act = Unit {0}
+Carries i s t mine (Allocs size) act = Unit {0}
+Carries i s t mine (Frees at) act = Unit {0}
+Carries i s t mine (Calls indirect func args) (Fault kind crosses ins outs access) = StopsCall (i.ins func args) (i.outs func args ++ prepared_ranges (i.prepares func args)) kind ins outs access
+Carries i s t mine (Calls indirect func args) act = Unit {0}
+Carries i s t mine (Below func args) act = Unit {0}
+Carries i s t mine (Gives func args) act = Unit {0}
+Carries i s t mine (Returns func args result) act = Unit {0}
+Carries i s t mine (CallsBack func args bytes) act = Unit {0}
+Carries i s t mine (UpReturns func result) act = Unit {0}
+Carries i s t mine (Steps indirect func args) act = Unit {0}
+Carries i s t mine (Fails kind) act = Unit {0}
 
 -- the keys of an event, each once and in order
 abbrev pub HasKeys : Interface → ℕ → List Mark → Act → Type 0
 HasKeys i t mine (Made e) = map (λ q. q.key) e.keys ≡ sorted_keys (keys_for i t mine e.kind)
-HasKeys i t mine act = Unit {0}
+HasKeys i t mine Turn = Unit {0}
+HasKeys i t mine (Load origin at bytes) = Unit {0}
+HasKeys i t mine (Store origin at bytes) = Unit {0}
+HasKeys i t mine (Enter func args at bytes) = Unit {0}
+HasKeys i t mine (Leave at size) = Unit {0}
+HasKeys i t mine (Step func args result ins pieces freed) = Unit {0}
+HasKeys i t mine (Fault kind crosses ins outs access) = Unit {0}
 
 -- the rules of a thread's own past
-pub record OwnRules (program : Program) (mine : List Mark) (m : Mark) : Type 0 where
+pub record OwnRules (program : Program) (s : Start) (mine : List Mark) (m : Mark) : Type 0 where
   pub thread : m.thread < thread_count
   pub side : m.side ≡ Replay
   pub replies : is_reply (program.want m.thread mine) m.act ≡ true
   pub modes : is_stop m.act ≡ false → KeepsModes program.interface (program.want m.thread mine)
-  pub carries : Carries program.interface m.thread mine (program.want m.thread mine) m.act
+  pub carries : Carries program.interface s m.thread mine (program.want m.thread mine) m.act
   pub keys : HasKeys program.interface m.thread mine m.act
   -- code above the cut touches no memory of the system, and writes no constant
   pub other_space : (x : ℕ) → touches m.act x ≡ true → is_system x ≡ false
@@ -160,21 +167,66 @@ pub record OwnRules (program : Program) (mine : List Mark) (m : Mark) : Type 0 w
   pub running : is_stopped mine ≡ false
   pub after_fault : fault_of mine ≢ None → is_stop m.act ≡ true
 
--- the rules of the events with a key, by its class and value
-abbrev pub SharedEvent : Interface → Class → ℕ → List Mark → EventKind → Type 0
-SharedEvent i Pool value past (Alloc at size) = IsPlace replay_pool (blocks past) size at
-SharedEvent i Callback value past (Up func args) = (func ≡ i.main) ⊎ (is_registered past ≡ true)
-SharedEvent i Async value past (Call func args ins outs prepared) = prepares_key prepared value ≡ true → in_use value past ≡ None
-SharedEvent i Async value past (Ret func args result same outs (Released p)) = in_use value past ≡ Some p.range
-SharedEvent i class value past kind = Unit {0}
+-- a block lies at the least place that none of these blocks meets
+abbrev pub PoolRule : List Range → EventKind → Type 0
+PoolRule bs (Call func args ins outs prepared) = Unit {0}
+PoolRule bs (Ret func args result same outs commit) = Unit {0}
+PoolRule bs (Up func args) = Unit {0}
+PoolRule bs (UpRet func result) = Unit {0}
+PoolRule bs (Alloc at size) = IsPlace replay_pool bs size at
+PoolRule bs (Free at size) = Unit {0}
+PoolRule bs (Stop fault) = Unit {0}
 
-abbrev pub SharedAct : Interface → Key → List Mark → Act → Type 0
-SharedAct i k past (Made e) = SharedEvent i k.class k.value past e.kind
-SharedAct i k past act = Unit {0}
+-- what is called back is the program's first function, or is registered
+abbrev pub CallbackRule : Interface → Bool → EventKind → Type 0
+CallbackRule i registered (Call func args ins outs prepared) = Unit {0}
+CallbackRule i registered (Ret func args result same outs commit) = Unit {0}
+CallbackRule i registered (Up func args) = (func ≡ i.main) ⊎ (registered ≡ true)
+CallbackRule i registered (UpRet func result) = Unit {0}
+CallbackRule i registered (Alloc at size) = Unit {0}
+CallbackRule i registered (Free at size) = Unit {0}
+CallbackRule i registered (Stop fault) = Unit {0}
 
-abbrev pub SharedRules : Interface → Link → List Mark → Mark → Type 0
-SharedRules i (OfThread t) past m = Unit {0}
-SharedRules i (OfKey k) past m = SharedAct i k past m.act
+-- what is released under the key is the region that is in use under it
+abbrev pub ReleaseRule : ℕ → Option Range → Commit → Type 0
+ReleaseRule k region NoRegion = Unit {0}
+ReleaseRule k region Withheld = Unit {0}
+ReleaseRule k region (Released j p) = j ≡ k → region ≡ Some p.range
 
-abbrev pub replay_rules : Program → Rules
-replay_rules program = record { Own = OwnRules program; Shared = SharedRules program.interface }
+-- a key under which a region is prepared isn't in use
+abbrev pub AsyncRule : ℕ → Option Range → EventKind → Type 0
+AsyncRule k region (Call func args ins outs prepared) = prepares_key prepared k ≡ true → region ≡ None
+AsyncRule k region (Ret func args result same outs commit) = ReleaseRule k region commit
+AsyncRule k region (Up func args) = Unit {0}
+AsyncRule k region (UpRet func result) = Unit {0}
+AsyncRule k region (Alloc at size) = Unit {0}
+AsyncRule k region (Free at size) = Unit {0}
+AsyncRule k region (Stop fault) = Unit {0}
+
+-- the rules of the events with a key, by its class and value, after those with this key since the start
+abbrev pub SharedEvent : Interface → Start → Class → ℕ → List Mark → EventKind → Type 0
+SharedEvent i s Mutex value past kind = Unit {0}
+SharedEvent i s User value past kind = Unit {0}
+SharedEvent i s Callback value past kind = CallbackRule i (registered_from (s.registered value) past) kind
+SharedEvent i s Thread value past kind = Unit {0}
+SharedEvent i s Pool value past kind = PoolRule (blocks_from s.blocks past) kind
+SharedEvent i s Out value past kind = Unit {0}
+SharedEvent i s Async value past kind = AsyncRule value (in_use_from value (s.in_use value) past) kind
+
+abbrev pub SharedAct : Interface → Start → Key → List Mark → Act → Type 0
+SharedAct i s k past (Made e) = SharedEvent i s k.class k.value past e.kind
+SharedAct i s k past Turn = Unit {0}
+SharedAct i s k past (Load origin at bytes) = Unit {0}
+SharedAct i s k past (Store origin at bytes) = Unit {0}
+SharedAct i s k past (Enter func args at bytes) = Unit {0}
+SharedAct i s k past (Leave at size) = Unit {0}
+SharedAct i s k past (Step func args result ins pieces freed) = Unit {0}
+SharedAct i s k past (Fault kind crosses ins outs access) = Unit {0}
+
+abbrev pub SharedRules : Interface → Start → Link → List Mark → Mark → Type 0
+SharedRules i s (OfThread t) past m = Unit {0}
+SharedRules i s (OfKey k) past m = SharedAct i s k past m.act
+
+-- the rules of a replay run of the program from this start
+abbrev pub replay_rules : Program → Start → Rules
+replay_rules program s = record { Own = OwnRules program s; Shared = SharedRules program.interface s }

@@ -7,15 +7,16 @@ use Rattle.marks.specs.Ranges.{Range, range, in_range, any_range}
 use Rattle.marks.specs.Marks.{EventKind, Ret, Alloc, Act, Enter, Leave, Made, Mark}
 use Rattle.marks.specs.Bytes.{Byte, Dead, IsHeld, touches, place}
 use Rattle.marks.specs.Wants.{Leaves}
-use Rattle.replay_runs.specs.Runs.{Link, OfThread, OfKey, In, Start, Allowed, Run, RaceFree, fault_count, marks_of, events_with, byte}
+use Rattle.replay_runs.specs.Runs.{Link, OfThread, OfKey, In, Start, Allowed, Run, RaceFree, fault_count, marks_of, byte}
 use Rattle.replay_runs.specs.Known.{known, NoRace}
 use Rattle.replay_runs.specs.Interface.{Program}
-use Rattle.replay_runs.specs.Threads.{HasRoom, OpenCall, frame_place, open_calls, frames}
-use Rattle.replay_runs.specs.Pool.{in_use}
+use Rattle.replay_runs.specs.Threads.{HasRoom, OpenCall, end_of, frame_place, open_calls, frames}
+use Rattle.replay_runs.specs.Pool.{blocks, in_use}
 use Rattle.replay_runs.specs.Keys.{key}
 use Rattle.replay_runs.specs.Rules.{replay_rules}
 use Rattle.replay_runs.specs.Laws.{fresh}
 use Rattle.replay_runs.specs.Passing.{Unraced}
+use Rattle.replay_runs.specs.Blocks.{ListsBlocks}
 
 -- who holds a byte: an open call of a thread, or the region that is prepared under a key
 pub data Holder : Type 0 where
@@ -36,7 +37,7 @@ is_in (Some r) x = in_range r x
 
 abbrev pub holds : Start → List Mark → ℕ → Holder → Bool
 holds s past x (Calling t) = any_held (open_calls (marks_of s t past)) x
-holds s past x (Preparing k) = is_in (in_use k (events_with s (OfKey (key Async k)) past)) x
+holds s past x (Preparing k) = is_in (in_use s k past) x
 
 abbrev pub is_own : Link → ℕ → Bool
 is_own (OfThread t) u = eqb t u
@@ -69,23 +70,59 @@ EndsOwnFrames program = (t : ℕ) (mine : List Mark) (at size : ℕ) → program
 
 -- and then each run does so
 abbrev pub CodeEndsFramesInOrder : Program → Type 0
-CodeEndsFramesInOrder program = EndsOwnFrames program → (s : Start) (run : List Mark) → Run (replay_rules program) s run → FramesEndInOrder s run
+CodeEndsFramesInOrder program = EndsOwnFrames program → (s : Start) (run : List Mark) → Run (replay_rules program s) s run → FramesEndInOrder s run
 
--- nothing lies in the stacks and in the pool, and no block begins anywhere
+-- frames that stand one on the other
+abbrev pub Stacked : ℕ → List Range → Type 0
+Stacked base [] = Unit {0}
+Stacked base (f ∷ fs) = (f.at ≡ end_of base fs) × Stacked base fs
+
+abbrev pub InPool : List Range → Type 0
+InPool [] = Unit {0}
+InPool (b ∷ bs) = (replay_pool ≤ b.at) × (b.at + b.size ≤ replay_pool + pool_size) × InPool bs
+
+-- of these calls one at most holds the byte
+abbrev pub Once : List OpenCall → ℕ → Type 0
+Once [] x = Unit {0}
+Once (c ∷ cs) x = (any_range c.outs x ≡ true → any_held cs x ≡ false) × Once cs x
+
+-- what is live in the stacks and the pool is what frames and blocks have, and what is pending is what calls and keys hold,
+-- each byte for one of them
+pub record IsWhole (s : Start) (past : List Mark) : Type 0 where
+  pub stacked : (t : ℕ) → Stacked (stack Replay t) (frames (marks_of s t past))
+  pub room : (t : ℕ) → frame_place t (marks_of s t past) ≤ stack Replay t + stack_size
+  pub above : (t x : ℕ) → t < thread_count → frame_place t (marks_of s t past) ≤ x → x < stack Replay t + stack_size → (byte s x past).cell ≡ Dead
+  pub listed : ListsBlocks (blocks s past) (λ x. (byte s x past).block)
+  pub in_pool : InPool (blocks s past)
+  pub unused : (x : ℕ) → replay_pool ≤ x → x < replay_pool + pool_size → any_range (blocks s past) x ≡ false → (byte s x past).cell ≡ Dead
+  pub once : (t x : ℕ) → Once (open_calls (marks_of s t past)) x
+  pub held : (x : ℕ) (h : Holder) → holds s past x h ≡ true → IsHeld (byte s x past).cell
+  pub one : (x : ℕ) (h j : Holder) → holds s past x h ≡ true → holds s past x j ≡ true → h ≡ j
+  pub owed : (x : ℕ) → IsHeld (byte s x past).cell → (h : Holder) × (holds s past x h ≡ true)
+
+-- nothing lies in the stacks and in the pool, no block begins anywhere, and nothing is pending
 pub record HasNoObjects (memory : ℕ → Byte) : Type 0 where
   pub cells : (x : ℕ) → replay_stacks ≤ x → x < replay_end → (memory x).cell ≡ Dead
   pub blocks : (x : ℕ) → (memory x).block ≡ 0
+  pub unheld : (x : ℕ) → IsHeld (memory x).cell → ⊥
 
--- a run without a race and without a fault so far
-pub record Calm (program : Program) (memory : ℕ → Byte) (run : List Mark) : Type 0 where
-  pub steps : Run (replay_rules program) (fresh memory) run
+abbrev pub FreshStartsAreWhole : Type 0
+FreshStartsAreWhole = (memory : ℕ → Byte) → HasNoObjects memory → IsWhole (fresh memory) []
+
+-- a run without a race and without a fault since the start, which is whole
+pub record Calm (program : Program) (s : Start) (run : List Mark) : Type 0 where
+  pub starts : IsWhole s []
+  pub steps : Run (replay_rules program s) s run
   pub race_free : RaceFree run
-  pub in_order : FramesEndInOrder (fresh memory) run
+  pub in_order : FramesEndInOrder s run
   pub no_fault : fault_count run ≡ 0
 
-abbrev pub UnseenBytesAreKnown : Program → Type 0
-UnseenBytesAreKnown program =
-    (memory : ℕ → Byte) → HasNoObjects memory → (run : List Mark) → Calm program memory run → (x : ℕ) → BytesAreKnown (fresh memory) run x
+-- it stays whole
+abbrev pub CalmRunsAreWhole : Program → Start → Type 0
+CalmRunsAreWhole program s = (run : List Mark) → Calm program s run → IsWhole s run
+
+abbrev pub UnseenBytesAreKnown : Program → Start → Type 0
+UnseenBytesAreKnown program s = (run : List Mark) → Calm program s run → (x : ℕ) → BytesAreKnown s run x
 
 abbrev pub IsNewOrBack : EventKind → Type 0
 IsNewOrBack (Alloc at size) = Unit {0}
@@ -99,18 +136,12 @@ TakesUnseen (Made e) = IsNewOrBack e.kind
 TakesUnseen _ = ⊥
 
 -- so a frame, a new block and a return race with nothing, by the rules alone
-abbrev pub UnseenBytesRaceWithNothing : Program → Type 0
-UnseenBytesRaceWithNothing program =
-    (memory : ℕ → Byte) → HasNoObjects memory → (past : List Mark) → Calm program memory past → (m : Mark) → Allowed (replay_rules program) (fresh memory) past m → TakesUnseen m.act → NoRace past m
+abbrev pub UnseenBytesRaceWithNothing : Program → Start → Type 0
+UnseenBytesRaceWithNothing program s =
+    (past : List Mark) → Calm program s past → (m : Mark) → Allowed (replay_rules program s) s past m → TakesUnseen m.act → NoRace past m
 
 -- nor does a frame for which there is room
-abbrev pub FramesRaceWithNothing : Program → Type 0
-FramesRaceWithNothing program =
-    (memory : ℕ → Byte) → HasNoObjects memory → (past : List Mark) → Calm program memory past → (t size : ℕ) → t < thread_count → HasRoom t (marks_of (fresh memory) t past) size
-    → Unraced past t true (range (frame_place t (marks_of (fresh memory) t past)) size)
-
--- the bytes of an open call, and of a region under a key in use, are held, and no two have one
-abbrev pub HeldBytesHaveOneHolder : Program → Type 0
-HeldBytesHaveOneHolder program =
-    (memory : ℕ → Byte) → HasNoObjects memory → (run : List Mark) → Calm program memory run → (x : ℕ) (h : Holder) → holds (fresh memory) run x h ≡ true
-    → IsHeld (byte (fresh memory) x run).cell × ((j : Holder) → holds (fresh memory) run x j ≡ true → h ≡ j)
+abbrev pub FramesRaceWithNothing : Program → Start → Type 0
+FramesRaceWithNothing program s =
+    (past : List Mark) → Calm program s past → (t size : ℕ) → t < thread_count → HasRoom t (marks_of s t past) size
+    → Unraced past t true (range (frame_place t (marks_of s t past)) size)

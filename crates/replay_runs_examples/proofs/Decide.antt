@@ -11,17 +11,17 @@ use Rattle.marks.specs.declared.fault.FaultKind.{FaultKind}
 use Rattle.marks.specs.declared.fault.FaultKind.TheVariants.{ReadOnly}
 use Rattle.marks.specs.Places.{thread_count, frame_count, stack, stack_size, replay_pool, pool_size, alignment, is_constant, is_system}
 use Rattle.marks.specs.Ranges.{Range, piece_ranges, piece_bytes, prepared_ranges}
-use Rattle.marks.specs.Marks.{Writing, Commit, Released, EventKind, Call, Ret, Up, UpRet, Alloc, Free, Stop, Act, Turn, Load, Store, Enter, Leave, Step, Fault, Made, Mark, is_event, logged}
+use Rattle.marks.specs.Marks.{Writing, Commit, NoRegion, Withheld, Released, EventKind, Call, Ret, Up, UpRet, Alloc, Free, Stop, Act, Turn, Load, Store, Enter, Leave, Step, Fault, Made, Mark, is_event, logged}
 use Rattle.marks.specs.Bytes.{touches, writes, place, conflict}
 use Rattle.marks.specs.Wants.{Want, Outside, Turns, Loads, Stores, Enters, Leaves, Allocs, Frees, Calls, Below, Gives, Returns, CallsBack, UpReturns, Steps, Fails}
 use Rattle.marks.proofs.Touched.{or_true_left, or_true_right}
-use Rattle.replay_runs.specs.Runs.{Link, OfThread, OfKey, same_key, keys_of, is_listed, has, ticket, clock_of, In, Start, marks_of, events_with, byte, last_clock, steps_since, steps_of, fault_count, RaceFree, Allowed, Run}
+use Rattle.replay_runs.specs.Runs.{Link, OfThread, OfKey, same_key, keys_of, is_listed, has, ticket, clock_of, In, Start, marks_of, events_with, new_events, byte, last_clock, steps_since, steps_of, fault_count, RaceFree, Allowed, Run}
 use Rattle.replay_runs.specs.Known.{known_at, NoRace}
 use Rattle.replay_runs.specs.Interface.{Interface, Program}
 use Rattle.replay_runs.specs.Threads.{frames, frame_place, HasRoom, open_calls, open_ups, fault_of, is_stop, is_stopped, last_return, same_return}
-use Rattle.replay_runs.specs.Pool.{blocks, IsPlace, prepares_key, in_use, is_registered}
+use Rattle.replay_runs.specs.Pool.{blocks_from, IsPlace, prepares_key, in_use_from, registered_from}
 use Rattle.replay_runs.specs.Keys.{sorted_keys, keys_for}
-use Rattle.replay_runs.specs.Rules.{is_reply, AllMayRun, KeepsModes, EventCarries, Carries, HasKeys, OwnRules, SharedEvent, SharedAct, SharedRules, replay_rules}
+use Rattle.replay_runs.specs.Rules.{is_reply, AllMayRun, KeepsModes, EventCarries, Carries, HasKeys, OwnRules, PoolRule, CallbackRule, ReleaseRule, AsyncRule, SharedEvent, SharedAct, SharedRules, replay_rules}
 use Rattle.replay_runs.specs.Laws.{IsReplayRun}
 use Rattle.replay_runs.proofs.Keys.{same_key_true, same_key_refl}
 use Rattle.replay_runs.proofs.Race.{race_free_more}
@@ -33,34 +33,34 @@ module _ (program : Program) (s : Start) where
   abbrev i : Interface
   i = program.interface
 
-  abbrev event_carries : List Mark → EventKind → Bool
-  event_carries mine (Call f args ins outs prepared) = same_ranges (piece_ranges ins) (i.ins f args) && (whole ins && (same_ranges outs (i.outs f args) && (same_prepared prepared (i.prepares f args) && (apart (outs ++ prepared_ranges prepared) && distinct prepared))))
-  event_carries mine (Ret f args v same outs commit) = closes (open_calls mine) f args (piece_ranges outs) && (i.gives f v && (are_used (i.used f args v) outs && (commits (i.commits f args v) commit && same_bool same (i.is_cached f && same_return (last_return f mine) (record { result = v; bytes = piece_bytes outs ++ logged commit })))))
-  event_carries mine (Up f args) = i.may_run Replay f && i.takes f args
-  event_carries mine (UpRet f v) = closes_up (open_ups mine) f
-  event_carries mine (Alloc at size) = true
-  event_carries mine (Free at size) = same_bool (eqb at 0) (eqb size 0)
-  event_carries mine (Stop fault) = same_fault fault (fault_of mine)
+  abbrev event_carries : ℕ → List Mark → EventKind → Bool
+  event_carries t mine (Call f args ins outs prepared) = same_ranges (piece_ranges ins) (i.ins f args) && (whole ins && (same_ranges outs (i.outs f args) && (same_prepared prepared (i.prepares f args) && (apart (outs ++ prepared_ranges prepared) && distinct prepared))))
+  event_carries t mine (Ret f args v same outs commit) = closes (open_calls mine) f args (piece_ranges outs) && (i.gives f v && (are_used (i.used f args v) outs && (commits (i.commits f args v) commit && same_bool same (i.is_cached f && same_return (last_return (s.returned t f) f mine) (record { result = v; bytes = piece_bytes outs ++ logged commit })))))
+  event_carries t mine (Up f args) = i.may_run Replay f && i.takes f args
+  event_carries t mine (UpRet f v) = closes_up (open_ups mine) f
+  event_carries t mine (Alloc at size) = true
+  event_carries t mine (Free at size) = same_bool (eqb at 0) (eqb size 0)
+  event_carries t mine (Stop fault) = same_fault fault (fault_of mine)
 
-  event_carries_true : (mine : List Mark) (k : EventKind) → event_carries mine k ≡ true → EventCarries i mine k
-  event_carries_true mine (Call f args ins outs prepared) h =
+  event_carries_true : (t : ℕ) (mine : List Mark) (k : EventKind) → event_carries t mine k ≡ true → EventCarries i s t mine k
+  event_carries_true t mine (Call f args ins outs prepared) h =
       let a = and_parts (same_ranges (piece_ranges ins) (i.ins f args)) _ h in
       let b = and_parts (whole ins) _ a.1 in
       let c = and_parts (same_ranges outs (i.outs f args)) _ b.1 in
       let d = and_parts (same_prepared prepared (i.prepares f args)) _ c.1 in
       let e = and_parts (apart (outs ++ prepared_ranges prepared)) (distinct prepared) d.1 in
       (same_ranges_true _ _ a.0, whole_true ins b.0, same_ranges_true _ _ c.0, same_prepared_true _ _ d.0, apart_true _ e.0, distinct_true prepared e.1)
-  event_carries_true mine (Ret f args v same outs commit) h =
+  event_carries_true t mine (Ret f args v same outs commit) h =
       let a = and_parts (closes (open_calls mine) f args (piece_ranges outs)) _ h in
       let b = and_parts (i.gives f v) _ a.1 in
       let c = and_parts (are_used (i.used f args v) outs) _ b.1 in
-      let d = and_parts (commits (i.commits f args v) commit) (same_bool same (i.is_cached f && same_return (last_return f mine) (record { result = v; bytes = piece_bytes outs ++ logged commit }))) c.1 in
+      let d = and_parts (commits (i.commits f args v) commit) (same_bool same (i.is_cached f && same_return (last_return (s.returned t f) f mine) (record { result = v; bytes = piece_bytes outs ++ logged commit }))) c.1 in
       record { closes = closes_true (open_calls mine) f args (piece_ranges outs) a.0; result_is = b.0; used = are_used_true (i.used f args v) outs c.0; committed = commits_true (i.commits f args v) commit d.0; repeats = same_bool_true same _ d.1 }
-  event_carries_true mine (Up f args) h = and_parts (i.may_run Replay f) (i.takes f args) h
-  event_carries_true mine (UpRet f v) h = closes_up_true (open_ups mine) f h
-  event_carries_true mine (Alloc at size) h = tt
-  event_carries_true mine (Free at size) h = same_bool_true (eqb at 0) (eqb size 0) h
-  event_carries_true mine (Stop fault) h = same_fault_true fault (fault_of mine) h
+  event_carries_true t mine (Up f args) h = and_parts (i.may_run Replay f) (i.takes f args) h
+  event_carries_true t mine (UpRet f v) h = closes_up_true (open_ups mine) f h
+  event_carries_true t mine (Alloc at size) h = tt
+  event_carries_true t mine (Free at size) h = same_bool_true (eqb at 0) (eqb size 0) h
+  event_carries_true t mine (Stop fault) h = same_fault_true fault (fault_of mine) h
 
   abbrev has_room : ℕ → List Mark → ℕ → Bool
   has_room t mine size = leb (frame_place t mine + size) (stack Replay t + stack_size) && ltb (length (frames mine)) frame_count
@@ -70,15 +70,15 @@ module _ (program : Program) (s : Start) where
 
   -- that a stack is full isn't tried
   abbrev pub carries : ℕ → List Mark → Want → Act → Bool
-  carries t mine want (Made e) = event_carries mine e.kind
+  carries t mine want (Made e) = event_carries t mine e.kind
   carries t mine (Enters indirect f args bytes) (Enter g vs at b) = eqb at (frame_place t mine) && has_room t mine (length bytes)
   carries t mine (Enters indirect f args bytes) (Fault k cr ins outs a) = false
   carries t mine (Calls indirect f args) (Fault k cr ins outs a) = stops (i.ins f args) (i.outs f args ++ prepared_ranges (i.prepares f args)) k ins outs a
   carries t mine (Stores o at bytes) (Fault ReadOnly cr ins outs (Writing r)) = some_constant r
   carries t mine want act = true
 
-  pub carries_true : (t : ℕ) (mine : List Mark) (want : Want) (a : Act) → carries t mine want a ≡ true → Carries i t mine want a
-  carries_true t mine want (Made e) h = event_carries_true mine e.kind h
+  pub carries_true : (t : ℕ) (mine : List Mark) (want : Want) (a : Act) → carries t mine want a ≡ true → Carries i s t mine want a
+  carries_true t mine want (Made e) h = event_carries_true t mine e.kind h
   carries_true t mine Outside a h = tt
   carries_true t mine Turns a h = tt
   carries_true t mine (Loads o at n) a h = tt
@@ -164,7 +164,7 @@ module _ (program : Program) (s : Start) where
   or_not true b h e = absurd (true≢false e)
   or_not false b h e = h
 
-  own_true : (mine : List Mark) (m : Mark) → m.side ≡ Replay → own mine m ≡ true → OwnRules program mine m
+  own_true : (mine : List Mark) (m : Mark) → m.side ≡ Replay → own mine m ≡ true → OwnRules program s mine m
   own_true mine m side h =
       let a = and_parts (ltb m.thread thread_count) _ h in
       let b = and_parts (is_reply (program.want m.thread mine) m.act) _ a.1 in
@@ -210,33 +210,58 @@ module _ (program : Program) (s : Start) where
   is_none_true None h = refl
   is_none_true (Some r) h = absurd (true≢false (sym h))
 
-  abbrev committed_region : Commit → Option Range
-  committed_region (Released p) = Some p.range
-  committed_region c = None
+  abbrev pool_rule : List Range → EventKind → Bool
+  pool_rule bs (Alloc at size) = first_place bs size at
+  pool_rule bs k = true
 
-  abbrev releases : Commit → Bool
-  releases (Released p) = true
-  releases c = false
+  pool_rule_true : (bs : List Range) (k : EventKind) → pool_rule bs k ≡ true → PoolRule bs k
+  pool_rule_true bs (Alloc at size) h = first_place_true bs size at h
+  pool_rule_true bs k h = tt
+
+  abbrev callback_rule : Bool → EventKind → Bool
+  callback_rule registered (Up f args) = eqb f i.main || registered
+  callback_rule registered k = true
+
+  callback_rule_true : (registered : Bool) (k : EventKind) → callback_rule registered k ≡ true → CallbackRule i registered k
+  callback_rule_true registered (Up f args) h = ⊎_elim (λ z. inl (eqb-true _ _ z)) inr (or_cases (eqb f i.main) registered h)
+  callback_rule_true registered k h = tt
+
+  abbrev release_rule : ℕ → Option Range → Commit → Bool
+  release_rule k region (Released j p) = not (eqb j k) || same_range region (Some p.range)
+  release_rule k region c = true
+
+  release_rule_true : (k : ℕ) (region : Option Range) (c : Commit) → release_rule k region c ≡ true → ReleaseRule k region c
+  release_rule_true k region NoRegion h = tt
+  release_rule_true k region Withheld h = tt
+  release_rule_true k region (Released j p) h = λ e. same_range_true region (Some p.range) (if_so (eqb j k) (same_range region (Some p.range)) h (eq-eqb j k e))
+
+  abbrev async_rule : ℕ → Option Range → EventKind → Bool
+  async_rule k region (Call f args ins outs prepared) = not (prepares_key prepared k) || is_none region
+  async_rule k region (Ret f args v same outs commit) = release_rule k region commit
+  async_rule k region e = true
+
+  async_rule_true : (k : ℕ) (region : Option Range) (e : EventKind) → async_rule k region e ≡ true → AsyncRule k region e
+  async_rule_true k region (Call f args ins outs prepared) h = λ e. is_none_true region (if_so (prepares_key prepared k) (is_none region) h e)
+  async_rule_true k region (Ret f args v same outs commit) h = release_rule_true k region commit h
+  async_rule_true k region e h = tt
 
   abbrev shared_event : Class → ℕ → List Mark → EventKind → Bool
-  shared_event Pool value past (Alloc at size) = first_place (blocks past) size at
-  shared_event Callback value past (Up f args) = eqb f i.main || is_registered past
-  shared_event Async value past (Call f args ins outs prepared) = not (prepares_key prepared value) || is_none (in_use value past)
-  shared_event Async value past (Ret f args v same outs (Released p)) = same_range (in_use value past) (Some p.range)
+  shared_event Pool value past k = pool_rule (blocks_from s.blocks past) k
+  shared_event Callback value past k = callback_rule (registered_from (s.registered value) past) k
+  shared_event Async value past k = async_rule value (in_use_from value (s.in_use value) past) k
   shared_event c value past k = true
 
-  shared_event_true : (c : Class) (value : ℕ) (past : List Mark) (k : EventKind) → shared_event c value past k ≡ true → SharedEvent i c value past k
-  shared_event_true Pool value past (Alloc at size) h = first_place_true (blocks past) size at h
-  shared_event_true Callback value past (Up f args) h = ⊎_elim (λ z. inl (eqb-true _ _ z)) inr (or_cases (eqb f i.main) (is_registered past) h)
-  shared_event_true Async value past (Call f args ins outs prepared) h = λ e. is_none_true (in_use value past) (if_so (prepares_key prepared value) (is_none (in_use value past)) h e)
-  shared_event_true Async value past (Ret f args v same outs (Released p)) h = same_range_true (in_use value past) (Some p.range) h
+  shared_event_true : (c : Class) (value : ℕ) (past : List Mark) (k : EventKind) → shared_event c value past k ≡ true → SharedEvent i s c value past k
+  shared_event_true Pool value past k h = pool_rule_true (blocks_from s.blocks past) k h
+  shared_event_true Callback value past k h = callback_rule_true (registered_from (s.registered value) past) k h
+  shared_event_true Async value past k h = async_rule_true value (in_use_from value (s.in_use value) past) k h
   shared_event_true c value past k h = tt
 
   abbrev shared_act : Key → List Mark → Act → Bool
   shared_act k past (Made e) = shared_event k.class k.value past e.kind
   shared_act k past a = true
 
-  shared_act_true : (k : Key) (past : List Mark) (a : Act) → shared_act k past a ≡ true → SharedAct i k past a
+  shared_act_true : (k : Key) (past : List Mark) (a : Act) → shared_act k past a ≡ true → SharedAct i s k past a
   shared_act_true k past (Made e) h = shared_event_true k.class k.value past e.kind h
   shared_act_true k past Turn h = tt
   shared_act_true k past (Load o at bytes) h = tt
@@ -300,7 +325,7 @@ module _ (program : Program) (s : Start) where
   shared (OfThread t) past m = true
   shared (OfKey k) past m = shared_act k past m.act
 
-  pub shared_true : (l : Link) (past : List Mark) (m : Mark) → shared l past m ≡ true → SharedRules i l past m
+  pub shared_true : (l : Link) (past : List Mark) (m : Mark) → shared l past m ≡ true → SharedRules i s l past m
   shared_true (OfThread t) past m h = tt
   shared_true (OfKey k) past m h = shared_act_true k past m.act h
 
@@ -310,18 +335,18 @@ module _ (program : Program) (s : Start) where
       && (eqb m.index (length (events_with s (OfThread m.thread) past))
       && ((not (is_event m.act) || eqb (steps_of m.act) (steps_since (marks_of s m.thread past)))
       && (all_links m (λ l. eqb (ticket m l) (length (events_with s l past)))
-      && (all_links m (λ l. shared l (events_with s l past) m)
+      && (all_links m (λ l. shared l (new_events l past) m)
       && (all_links m (λ l. ltb (last_clock (events_with s l past)) (clock_of m.act))
       && ((not (is_event m.act) || some_link m (λ l. eqb (clock_of m.act) (suc (last_clock (events_with s l past)))))
       && asks m.act (λ x. byte s x past)))))))
 
-  allowed_true : (past : List Mark) (m : Mark) → m.side ≡ Replay → is_allowed past m ≡ true → Allowed (replay_rules program) s past m
+  allowed_true : (past : List Mark) (m : Mark) → m.side ≡ Replay → is_allowed past m ≡ true → Allowed (replay_rules program s) s past m
   allowed_true past m side h =
       let a = and_parts (own (marks_of s m.thread past) m) _ h in
       let b = and_parts (eqb m.index (length (events_with s (OfThread m.thread) past))) _ a.1 in
       let c = and_parts (not (is_event m.act) || eqb (steps_of m.act) (steps_since (marks_of s m.thread past))) _ b.1 in
       let d = and_parts (all_links m (λ l. eqb (ticket m l) (length (events_with s l past)))) _ c.1 in
-      let e = and_parts (all_links m (λ l. shared l (events_with s l past) m)) _ d.1 in
+      let e = and_parts (all_links m (λ l. shared l (new_events l past) m)) _ d.1 in
       let f = and_parts (all_links m (λ l. ltb (last_clock (events_with s l past)) (clock_of m.act))) _ e.1 in
       let g = and_parts (not (is_event m.act) || some_link m (λ l. eqb (clock_of m.act) (suc (last_clock (events_with s l past))))) (asks m.act (λ x. byte s x past)) f.1 in
       record {
@@ -329,7 +354,7 @@ module _ (program : Program) (s : Start) where
         index = eqb-true _ _ b.0;
         steps = λ made. eqb-true _ _ (if_so (is_event m.act) _ c.0 made);
         tickets = λ l z. eqb-true _ _ (all_links_true m (λ l. eqb (ticket m l) (length (events_with s l past))) d.0 l z);
-        shared = λ l z. shared_true l (events_with s l past) m (all_links_true m (λ l. shared l (events_with s l past) m) e.0 l z);
+        shared = λ l z. shared_true l (new_events l past) m (all_links_true m (λ l. shared l (new_events l past) m) e.0 l z);
         rises = λ l z. ltb-true _ _ (all_links_true m (λ l. ltb (last_clock (events_with s l past)) (clock_of m.act)) f.0 l z);
         least = λ made. let w = some_link_true m (λ l. eqb (clock_of m.act) (suc (last_clock (events_with s l past)))) (if_so (is_event m.act) _ g.0 made) made in (w.0, w.1, eqb-true _ _ w.2);
         bytes = asks_true m.act (λ x. byte s x past) g.1;
@@ -385,7 +410,7 @@ module _ (program : Program) (s : Start) where
   is_run [] = true
   is_run (m ∷ past) = (is_above_cut m.side && is_allowed past m) && is_run past
 
-  pub is_run_true : (run : List Mark) → is_run run ≡ true → Run (replay_rules program) s run
+  pub is_run_true : (run : List Mark) → is_run run ≡ true → Run (replay_rules program s) s run
   unfolding is_run
   is_run_true [] h = tt
   is_run_true (m ∷ past) h =
@@ -398,12 +423,12 @@ module _ (program : Program) (s : Start) where
   is_race_free [] = true
   is_race_free (m ∷ past) = no_race past m && is_race_free past
 
-  race_free_true : (run : List Mark) → Run (replay_rules program) s run → is_race_free run ≡ true → RaceFree run
+  race_free_true : (run : List Mark) → Run (replay_rules program s) s run → is_race_free run ≡ true → RaceFree run
   unfolding is_race_free
   race_free_true [] r h = λ a b j k ne x c. absurd j
   race_free_true (m ∷ past) r h =
       let w = and_parts (no_race past m) (is_race_free past) h in
-      race_free_more (replay_rules program) s past m r (race_free_true past r.1 w.1) (no_race_true past m w.0)
+      race_free_more (replay_rules program s) s past m r (race_free_true past r.1 w.1) (no_race_true past m w.0)
 
   unfoldable pub is_disciplined : List Mark → Bool
   is_disciplined run = is_run run && (is_race_free run && leb (s.faults + fault_count run) 1)

@@ -7,3 +7,4 @@ pub mod Named
 pub mod Refused
 pub mod Absent
 pub mod Surprised
+pub mod NamedFindings

@@ -39,7 +39,7 @@ pub before_holds : IsReplayRun racing here before
 unfolding answer_to all_from all_in some_from access_ranges event_ranges ranges_of for_touched all_keys some_key all_past is_run is_race_free is_disciplined
 before_holds = disciplined racing here before refl
 
-pub step_is_a_run : Run (replay_rules racing) here (mark racing here before second_load ∷ before)
+pub step_is_a_run : Run (replay_rules racing here) here (mark racing here before second_load ∷ before)
 unfolding answer_to all_from all_in some_from access_ranges event_ranges ranges_of for_touched all_keys some_key all_past is_run
 step_is_a_run = is_run_true racing here (mark racing here before second_load ∷ before) refl
 

@@ -158,29 +158,35 @@ are_used_true [] (p ∷ ps) h = absurd (true≢false (sym h))
 are_used_true (n ∷ ns) [] h = absurd (true≢false (sym h))
 are_used_true (n ∷ ns) (p ∷ ps) h = let w = and_parts (is_used n p) (are_used ns ps) h in (is_used_true n p w.0, are_used_true ns ps w.1)
 
-abbrev pub used_commit : Option ℕ → Commit → Bool
-used_commit None Withheld = true
-used_commit (Some n) (Released p) = is_used (cond (eqb p.range.at 0) 0 n) p
-used_commit _ _ = false
+abbrev pub used_commit : ℕ → Option ℕ → Commit → Bool
+used_commit k None NoRegion = false
+used_commit k None Withheld = true
+used_commit k None (Released j p) = false
+used_commit k (Some n) NoRegion = false
+used_commit k (Some n) Withheld = false
+used_commit k (Some n) (Released j p) = eqb j k && is_used (cond (eqb p.range.at 0) 0 n) p
 
-pub used_commit_true : (o : Option ℕ) (c : Commit) → used_commit o c ≡ true → CommitsUsed o c
-used_commit_true None Withheld h = refl
-used_commit_true None NoRegion h = absurd (true≢false (sym h))
-used_commit_true None (Released p) h = absurd (true≢false (sym h))
-used_commit_true (Some n) (Released p) h = is_used_true _ p h
-used_commit_true (Some n) NoRegion h = absurd (true≢false (sym h))
-used_commit_true (Some n) Withheld h = absurd (true≢false (sym h))
+pub used_commit_true : (k : ℕ) (o : Option ℕ) (c : Commit) → used_commit k o c ≡ true → CommitsUsed k o c
+used_commit_true k None Withheld h = refl
+used_commit_true k None NoRegion h = absurd (true≢false (sym h))
+used_commit_true k None (Released j p) h = absurd (true≢false (sym h))
+used_commit_true k (Some n) (Released j p) h =
+    let w = and_parts (eqb j k) (is_used (cond (eqb p.range.at 0) 0 n) p) h in
+    (eqb-true j k w.0, is_used_true (cond (eqb p.range.at 0) 0 n) p w.1)
+used_commit_true k (Some n) NoRegion h = absurd (true≢false (sym h))
+used_commit_true k (Some n) Withheld h = absurd (true≢false (sym h))
 
 abbrev pub commits : Option Committing → Commit → Bool
 commits None NoRegion = true
-commits None _ = false
-commits (Some c) commit = used_commit c.used commit
+commits None Withheld = false
+commits None (Released j p) = false
+commits (Some c) commit = used_commit c.key c.used commit
 
 pub commits_true : (o : Option Committing) (c : Commit) → commits o c ≡ true → Commits o c
 commits_true None NoRegion h = refl
 commits_true None Withheld h = absurd (true≢false (sym h))
-commits_true None (Released p) h = absurd (true≢false (sym h))
-commits_true (Some k) c h = used_commit_true k.used c h
+commits_true None (Released j p) h = absurd (true≢false (sym h))
+commits_true (Some k) c h = used_commit_true k.key k.used c h
 
 abbrev pub closes : List OpenCall → ℕ → List ℕ → List Range → Bool
 closes [] f args outs = false

@@ -90,7 +90,7 @@ filled_later =
     ∷ Makes 1 (Up worker (0 ∷ []))
     ∷ Steps 1 (Enter worker (0 ∷ []) 0x20010000 (zeros 16))
     ∷ calls 1 await (9 ∷ [])
-    ∷ Makes 1 (Ret await (9 ∷ []) 2 false [] (Released filled))
+    ∷ Makes 1 (Ret await (9 ∷ []) 2 false [] (Released 9 filled))
     ∷ Steps 1 (Leave 0x20010000 16)
     ∷ Makes 1 (UpRet worker 2)
     ∷ Steps 0 (Load None 0x20000000 (1 ∷ 0 ∷ 0 ∷ 0 ∷ []))

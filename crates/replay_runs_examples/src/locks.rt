@@ -24,7 +24,7 @@ pub fn two_threads_under_a_lock()
 /// races, and the checks name the race, its byte and the other thread.
 pub fn two_threads_without_a_lock()
     ensures before { IsReplayRun racing here (run_of racing here unlocked) }
-    ensures step { Run (replay_rules racing) here (mark racing here (run_of racing here unlocked) second_load ∷ run_of racing here unlocked) }
+    ensures step { Run (replay_rules racing here) here (mark racing here (run_of racing here unlocked) second_load ∷ run_of racing here unlocked) }
     ensures race { IsReplayRun racing here (mark racing here (run_of racing here unlocked) second_load ∷ run_of racing here unlocked) → ⊥ }
     ensures named { Finds (checks racing.interface here (run_of racing here unlocked) 2 (Loads (Some 0) 0x10000000 4)) (BreachFound Race 0x10000000 (Some 1)) }
 {}

@@ -4,7 +4,6 @@ use Rattle.std.specs.Prelude.{◌↔◌, option_map}
 use Rattle.std.proofs.lemmas.Bool.{true≢false, eq-eqb, or_cases}
 use Rattle.std.proofs.lemmas.List.{append-nil}
 use Rattle.std.proofs.lemmas.List.Folds.{list_any-append}
-use Rattle.logical_clock.specs.declared.key.Class.TheVariants.{Async}
 use Rattle.marks.specs.declared.side.Side.TheVariants.{Replay}
 use Rattle.marks.specs.Places.{is_system}
 use Rattle.marks.specs.Ranges.{Prepared, in_range, any_range, any_prepared, prepared_ranges}
@@ -22,7 +21,7 @@ use Rattle.space_memory_access.specs.declared.access.Access.{Access}
 use Rattle.space_memory_access.specs.declared.refusal.Refusal.{Refusal}
 use Rattle.space_memory_access.specs.declared.refusal.Refusal.TheVariants.{NotLive, Pending, OtherSpace, ReadOnly, StackFull, KeyInUse, NoKey, Size}
 use Rattle.space_memory_access.specs.Accesses.{IsAllowed, IsRefused}
-use Rattle.replay_runs.specs.Runs.{Start, OfKey, events_with, byte}
+use Rattle.replay_runs.specs.Runs.{Start, byte}
 use Rattle.replay_runs.specs.Keys.{key}
 use Rattle.replay_runs.specs.Interface.{Interface}
 use Rattle.replay_runs.specs.Pool.{prepares_key, prepared_under, in_use}
@@ -79,7 +78,7 @@ module _ (s : Start) (past : List Mark) (t : ℕ) (ins outs : List marks.Range) 
   none_used : (ps : List Prepared) → ((k : ℕ) → prepares_key ps k ≡ true → prepares_key prepared k ≡ true) → NoneInUse s past ps
   none_used [] sub = tt
   none_used (p ∷ ps) sub = (
-    no_range (in_use p.key (events_with s (OfKey (key Async p.key)) past)) (sym (h.stands.keys p.key) ∙ ap (option_map (λ (r : Region). r.range)) (no_key_mid p.key (sub p.key (or_left (eqb p.key p.key) (prepares_key ps p.key) (eq-eqb p.key p.key refl))))),
+    no_range (in_use s p.key past) (sym (h.stands.keys p.key) ∙ ap (option_map (λ (r : Region). r.range)) (no_key_mid p.key (sub p.key (or_left (eqb p.key p.key) (prepares_key ps p.key) (eq-eqb p.key p.key refl))))),
     none_used ps (λ k is'. sub k (or_true (eqb p.key k) (prepares_key ps k) is')),
   )
 
@@ -87,7 +86,7 @@ module _ (s : Start) (past : List Mark) (t : ℕ) (ins outs : List marks.Range) 
   free_keys_mid = none_used prepared (λ k is'. is')
 
   -- a key that is neither in use nor prepared by the Call has no region
-  pub no_region_mid : (k : ℕ) → in_use k (events_with s (OfKey (key Async k)) past) ≡ None → prepares_key prepared k ≡ false → prepared_region memory.held.regions k ≡ None
+  pub no_region_mid : (k : ℕ) → in_use s k past ≡ None → prepares_key prepared k ≡ false → prepared_region memory.held.regions k ≡ None
   no_region_mid k none unused =
       ap (λ rs. prepared_region rs k) h.regions.all
       ∙ prepared_left base.held.regions h.regions.added k (no_region (prepared_region base.held.regions k) (h.stands.keys k ∙ ap (option_map memory_range) none))

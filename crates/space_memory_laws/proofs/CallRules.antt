@@ -16,7 +16,7 @@ use Rattle.space_memory_access.specs.declared.holder.Region.{Region}
 use Rattle.space_memory_access.specs.declared.holder.Holder.{Holder}
 use Rattle.space_memory_access.specs.Holders.{has_key}
 use Rattle.space_memory_access.specs.Held.{innermost, prepared_region}
-use Rattle.replay_runs.specs.Runs.{Start, OfKey, has, events_with, byte}
+use Rattle.replay_runs.specs.Runs.{Start, OfKey, has, byte}
 use Rattle.replay_runs.specs.Keys.{key}
 use Rattle.replay_runs.specs.Pool.{prepares_key, in_use}
 use Rattle.replay_runs.specs.Rules.{Apart, DistinctKeys}
@@ -154,7 +154,7 @@ module _ (s : Start) (past : List Mark) (base new : SpaceState) (m : Mark) (e : 
   none_used [] sub = tt
   none_used (p ∷ ps) sub = (
     (let used = sub p.key (or_left' (eqb p.key p.key) (prepares_key ps p.key) (eq-eqb p.key p.key refl)) in
-        no_range (in_use p.key (events_with s (OfKey (key Async p.key)) past)) (sym (h.stands.keys p.key) ∙ ap (option_map (λ (r : Region). r.range)) (no_key s past base new m e func args ins outs prepared h is kind keyed p.key used))),
+        no_range (in_use s p.key past) (sym (h.stands.keys p.key) ∙ ap (option_map (λ (r : Region). r.range)) (no_key s past base new m e func args ins outs prepared h is kind keyed p.key used))),
     none_used ps (λ k is'. sub k (or_right' (eqb p.key k) (prepares_key ps k) is')),
   )
 

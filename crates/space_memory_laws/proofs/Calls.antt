@@ -4,10 +4,10 @@ use Rattle.std.specs.Prelude.{slice_index, option_map, unwrap_or}
 use Rattle.std.specs.List.{list_any}
 use Rattle.std.proofs.lemmas.Bool.{cases_Bool, cases_eq, true≢false, cond-true, cond-false, eq-eqb, ne_eqb, and_parts, and_from, and_left, and_right, or_cases}
 use Rattle.std.proofs.lemmas.List.Elements.{filter-append, All-head, All-tail}
-use Rattle.logical_clock.specs.declared.key.Class.TheVariants.{Pool, Async}
+use Rattle.logical_clock.specs.declared.key.Class.TheVariants.{Async}
 use Rattle.marks.specs.declared.side.Side.TheVariants.{Replay}
 use Rattle.marks.specs.Places.{thread_count, stack, replay_pool, pool_size, is_system, is_constant}
-use Rattle.marks.specs.Ranges.{Piece, Prepared, in_range, any_range, any_piece, any_prepared, piece_ranges, prepared_ranges}
+use Rattle.marks.specs.Ranges.{Piece, Prepared, any_range, any_prepared, piece_ranges}
 use Rattle.marks.specs.Ranges as marks
 use Rattle.marks.specs.Marks.{Call, Event, Made, Mark}
 use Rattle.marks.specs.Bytes.{hold, event_leaves, cell_after, event_block, block_after}
@@ -19,7 +19,7 @@ use Rattle.space_memory_access.specs.declared.holder.OpenCall.{OpenCall}
 use Rattle.space_memory_access.specs.declared.holder.Region.{Region}
 use Rattle.space_memory_access.specs.Holders.{is_out_of, is_same_call, has_key}
 use Rattle.space_memory_access.specs.Held.{innermost, prepared_region}
-use Rattle.replay_runs.specs.Runs.{Start, OfKey, has, marks_of, events_with, byte}
+use Rattle.replay_runs.specs.Runs.{Start, OfKey, has, marks_of, byte}
 use Rattle.replay_runs.specs.Keys.{key}
 use Rattle.replay_runs.specs.Threads.{frames_after, calls_after, act_calls, open_calls}
 use Rattle.replay_runs.specs.Threads as run
@@ -248,12 +248,12 @@ module _ (s : Start) (past : List Mark) (base new : SpaceState) (m : Mark) (e : 
   no_key k used = own_key base.held.regions h.regions.added k keys_all (λ none. prepared_there prepared k used (no_range (prepared_under prepared k None) (sym (added_key base.bytes made (piece_ranges ins) outs prepared h.regions.added h.regions.regions k) ∙ ap (option_map (λ (r : Region). r.range)) none)))
 
   abbrev before_key : ℕ → Option marks.Range
-  before_key k = in_use k (events_with s (OfKey (key Async k)) past)
+  before_key k = in_use s k past
 
   use_is : (k : ℕ) (o : Option marks.Range) → act_use k m.act o ≡ prepared_under prepared k o
   use_is k o = ap (λ a. act_use k a o) is ∙ ap (λ q. use_after k q o) kind
 
-  keys_are : (k : ℕ) → option_map (λ (r : Region). r.range) (prepared_region new.held.regions k) ≡ option_map memory_range (in_use k (events_with s (OfKey (key Async k)) (m ∷ past)))
+  keys_are : (k : ℕ) → option_map (λ (r : Region). r.range) (prepared_region new.held.regions k) ≡ option_map memory_range (in_use s k (m ∷ past))
   keys_are k = ap (λ rs. option_map (λ (r : Region). r.range) (prepared_region rs k)) h.regions.all ∙ elim (cases_Bool (prepares_key prepared k)) [
     | inl used ↦
         ap (option_map (λ (r : Region). r.range)) (prepared_left base.held.regions h.regions.added k (no_key k used))
@@ -269,7 +269,7 @@ module _ (s : Start) (past : List Mark) (base new : SpaceState) (m : Mark) (e : 
   same_frames : (t : ℕ) → run.frames (marks_of s t (m ∷ past)) ≡ run.frames (marks_of s t past)
   same_frames t = frames_stay s m past (λ fs. ap (λ a. frames_after a fs) is) t
 
-  same_blocks : blocks (events_with s (OfKey (key Pool 0)) (m ∷ past)) ≡ blocks (events_with s (OfKey (key Pool 0)) past)
+  same_blocks : blocks s (m ∷ past) ≡ blocks s past
   same_blocks = blocks_stay s m past (λ bs. ap (λ a. act_blocks a bs) is ∙ ap (λ k. blocks_after k bs) kind)
 
   same_side : new.sides.replay ≡ base.sides.replay

@@ -2,7 +2,6 @@
 use Rattle.std.proofs.Common.{◌≡◌, ℕ, ◌+◌, ◌-◌, ◌<◌, true, false, leb, ltb, List, length, Option, Some, None, is_some, refl, ap, sym, ◌∙◌, arith}
 use Rattle.std.specs.Prelude.{unwrap_or, slice_get}
 use Rattle.std.proofs.lemmas.Bool.{and_parts, ltb-true, false_from_ne_true, true≢false}
-use Rattle.logical_clock.specs.declared.key.Class.TheVariants.{Pool}
 use Rattle.marks.specs.Places.{thread_count, constants, replay_globals, replay_pool, pool_size, is_constant, is_system}
 use Rattle.marks.specs.Ranges.{range, in_range}
 use Rattle.marks.specs.Marks.{Mark}
@@ -10,8 +9,7 @@ use Rattle.marks.specs.Wants.{Outside, Turns, Loads, Stores, Enters, Leaves, All
 use Rattle.space_memory_bytes.specs.Areas.{byte_at}
 use Rattle.space_memory.specs.StackFrames.{StackState}
 use Rattle.pool_list.specs.Blocks.{PoolState, length_at}
-use Rattle.replay_runs.specs.Runs.{Start, OfKey, marks_of, events_with, byte}
-use Rattle.replay_runs.specs.Keys.{key}
+use Rattle.replay_runs.specs.Runs.{Start, marks_of, byte}
 use Rattle.replay_runs.specs.Pool.{blocks}
 use Rattle.replay_runs.specs.Threads.{frames}
 use Rattle.replay_runs.specs.Found.{EndsWhatIsThere}
@@ -42,7 +40,7 @@ module _ (s : Start) (past : List Mark) (memory : SpaceState) (h : StandsFor s p
           let p = cover_parts (record { addr = at; len = (byte s at past).block }) x in' in
           absurd (omega (arith, p.0, p.1, none))
       with_length (Some len) is =
-          let bs = blocks (events_with s (OfKey (key Pool 0)) past) in
+          let bs = blocks s past in
           let there : length_at (by_address bs) at ≡ Some len = sym (ap (λ (q : PoolState). length_at q.blocks at) h.pool) ∙ is in
           let lies = begins_from replay_pool (replay_pool + pool_size) (by_address bs) at len h.sound.laid_out there in
           let block : (byte s at past).block ≡ len = h.begins at own ∙ ap (λ k. unwrap_or k 0) is in

@@ -2,7 +2,6 @@
 use Rattle.std.proofs.Common.{◌≡◌, ℕ, ◌+◌, ◌-◌, ◌<◌, ◌≤◌, true, false, cond, ◌||◌, List, [], ◌∷◌, ◌++◌, length, Option, Some, None, is_some, inl, inr, refl, ap, sym, ◌∙◌, subst, arith}
 use Rattle.std.specs.Prelude.{unwrap_or, option_map, slice_get}
 use Rattle.std.proofs.lemmas.Bool.{cases_lt, cases_eq, cond-true, cond-false, true≢false}
-use Rattle.logical_clock.specs.declared.key.Class.TheVariants.{Pool}
 use Rattle.marks.specs.declared.side.Side.TheVariants.{Replay}
 use Rattle.marks.specs.Places.{thread_count, frame_count, stack, stack_size, replay_pool, pool_size, is_system}
 use Rattle.marks.specs.Ranges.{within, range, in_range, any_range}
@@ -13,15 +12,14 @@ use Rattle.memory_map.specs.declared.range.Range.{Range}
 use Rattle.memory_map.specs.Ranges.{covers, NoneIn}
 use Rattle.space_memory_bytes.specs.Areas.{byte_at, IsDead}
 use Rattle.space_memory_bytes.specs.Numbers.{HasBytes, SameOutside, FillsWith}
-use Rattle.space_memory.specs.StackFrames.{StackState, stack_of, IsFullFor, with_frames}
+use Rattle.space_memory.specs.StackFrames.{StackState, stack_of, IsFullFor}
 use Rattle.space_memory.specs.StackFrames as memory
 use Rattle.pool_list.specs.Blocks.{length_at, LieBetween}
 use Rattle.space_memory_access.specs.declared.holder.Region.{Region}
 use Rattle.space_memory_access.specs.Held.{HeldState, prepared_region, IsPending}
 use Rattle.space_memory_access.specs.declared.refusal.Refusal.{Refusal}
 use Rattle.space_memory_access.specs.declared.refusal.Refusal.TheVariants.{StackFull, Pending}
-use Rattle.replay_runs.specs.Runs.{Start, OfKey, marks_of, events_with, byte}
-use Rattle.replay_runs.specs.Keys.{key}
+use Rattle.replay_runs.specs.Runs.{Start, marks_of, byte}
 use Rattle.replay_runs.specs.Threads.{tail, frames_after, frames, frame_place, HasRoom, OpenCall, act_calls, open_calls}
 use Rattle.replay_runs.specs.Pool.{act_blocks, blocks, act_use}
 use Rattle.space_memory.specs.declared.sides.Sides.{Sides}
@@ -61,7 +59,7 @@ record Restacks (s : Start) (past : List Mark) (old new : SpaceState) (m : Mark)
   unheld : (x : ℕ) → covers (memory_range r) x ≡ true → value_when_held old.held.regions x ≡ None
 
 module _ (s : Start) (past : List Mark) (old new : SpaceState) (m : Mark) (fs : List marks.Range) (r : marks.Range) (h : StandsFor s past old) (k : Restacks s past old new m fs r) where
-  same_blocks : blocks (events_with s (OfKey (key Pool 0)) (m ∷ past)) ≡ blocks (events_with s (OfKey (key Pool 0)) past)
+  same_blocks : blocks s (m ∷ past) ≡ blocks s past
   same_blocks = blocks_stay s m past k.blocks
 
   bound : stack Replay m.thread + stack_size ≤ replay_pool

@@ -2,7 +2,6 @@
 use Rattle.std.proofs.Common.{◌≡◌, ◌⊎◌, ℕ, zero, suc, ◌+◌, ◌<◌, ◌≤◌, true, false, eqb, List, Option, Some, None, is_some, inl, inr, refl, ap, sym, ◌∙◌, subst, arith}
 use Rattle.std.specs.Prelude.{unwrap_or}
 use Rattle.std.proofs.lemmas.Bool.{cases_Bool, true≢false, cond-true, cond-false, eq-eqb, ne_eqb}
-use Rattle.logical_clock.specs.declared.key.Class.TheVariants.{Pool}
 use Rattle.marks.specs.declared.side.Side.TheVariants.{Replay}
 use Rattle.marks.specs.Places.{replay_pool, pool_size, is_system}
 use Rattle.marks.specs.Ranges.{range, in_range}
@@ -16,9 +15,8 @@ use Rattle.pool_list.specs.Blocks.{PoolState, length_at}
 use Rattle.space_memory_access.specs.Held.{IsPending}
 use Rattle.space_memory_access.specs.declared.refusal.Refusal.{Refusal}
 use Rattle.space_memory_access.specs.declared.refusal.Refusal.TheVariants.{NotLive, Pending, OtherSpace}
-use Rattle.replay_runs.specs.Runs.{Start, OfKey, events_with, byte}
+use Rattle.replay_runs.specs.Runs.{Start, byte}
 use Rattle.replay_runs.specs.Interface.{Interface}
-use Rattle.replay_runs.specs.Keys.{key}
 use Rattle.replay_runs.specs.Pool.{blocks}
 use Rattle.replay_runs.specs.Checks.{Finding, Checks, Check, Done, Passes, Finds, Races, freed_range, checks}
 use Rattle.space_memory.specs.Spaces.{SpaceState}
@@ -66,7 +64,7 @@ module _ (i : Interface) (s : Start) (past : List Mark) (memory : SpaceState) (t
   block_of : is_system (suc a) ≡ false → (o : Option ℕ) → length_at memory.sides.replay.pool.blocks (suc a) ≡ o → IsNoBlock s past memory (suc a) ⊎ ((len : ℕ) × IsBlock s past memory (suc a) len)
   block_of own None is = inl (record { none = is; is = h.begins (suc a) own ∙ ap (λ k. unwrap_or k 0) is })
   block_of own (Some len) is =
-      let bs = blocks (events_with s (OfKey (key Pool 0)) past) in
+      let bs = blocks s past in
       let there : length_at (by_address bs) (suc a) ≡ Some len = sym (ap (λ (q : PoolState). length_at q.blocks (suc a)) h.pool) ∙ is in
       let lies = begins_from replay_pool (replay_pool + pool_size) (by_address bs) (suc a) len h.sound.laid_out there in
       inr (

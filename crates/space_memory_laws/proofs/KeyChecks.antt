@@ -2,7 +2,6 @@
 use Rattle.std.proofs.Common.{◌≡◌, ◌⊎◌, ℕ, Bool, true, false, ◌||◌, List, [], ◌∷◌, ◌++◌, None, inl, inr, refl, ap, sym, ◌∙◌, subst, arith}
 use Rattle.std.proofs.lemmas.Bool.{cases_Bool, true≢false}
 use Rattle.std.proofs.lemmas.List.{append-nil, append_assoc, map-append}
-use Rattle.logical_clock.specs.declared.key.Class.TheVariants.{Async}
 use Rattle.marks.specs.declared.side.Side.TheVariants.{Replay}
 use Rattle.marks.specs.declared.breach.BreachKind.TheVariants as breach
 use Rattle.marks.specs.Ranges.{Prepared, in_range, any_range, prepared_ranges}
@@ -13,7 +12,7 @@ use Rattle.memory_map.specs.declared.range.Range.{Range}
 use Rattle.space_memory_access.specs.declared.refusal.Refusal.{Refusal}
 use Rattle.space_memory_access.specs.declared.refusal.Refusal.TheVariants.{NotLive, Pending, OtherSpace, ReadOnly, StackFull, KeyInUse, NoKey, Size}
 use Rattle.space_memory_access.specs.Accesses.{IsRefused}
-use Rattle.replay_runs.specs.Runs.{Start, OfKey, events_with}
+use Rattle.replay_runs.specs.Runs.{Start}
 use Rattle.replay_runs.specs.Keys.{key}
 use Rattle.replay_runs.specs.Interface.{Interface}
 use Rattle.replay_runs.specs.Pool.{prepares_key, in_use}
@@ -103,7 +102,7 @@ module _ (i : Interface) (s : Start) (past : List Mark) (base tested memory : Sp
   range_fine (NoKey x) r = r
   range_fine (Size x) r = r
 
-  is_used : (prepared_none : (prepares_key before p.key ≡ false → in_use p.key (events_with s (OfKey (key Async p.key)) past) ≡ None → ⊥)) → ((in_use p.key (events_with s (OfKey (key Async p.key)) past) ≡ None → ⊥) ⊎ (any_number (piled (keys_of before) []) p.key ≡ true))
+  is_used : (prepared_none : (prepares_key before p.key ≡ false → in_use s p.key past ≡ None → ⊥)) → ((in_use s p.key past ≡ None → ⊥) ⊎ (any_number (piled (keys_of before) []) p.key ≡ true))
   is_used prepared_none = elim (cases_Bool (prepares_key before p.key)) [
     | inl here ↦ inr (piled_key before [] p.key ∙ ap (λ b. b || false) here)
     | inr not ↦ inl (prepared_none not)

@@ -3,7 +3,6 @@ use Rattle.std.proofs.Common.{◌≡◌, ℕ, suc, ◌<◌, ◌≤◌, Bool, tru
 use Rattle.std.specs.Prelude.{◌↔◌, option_map}
 use Rattle.std.specs.List.{list_any}
 use Rattle.std.proofs.lemmas.Bool.{cases_Bool, cases_eq, cases_lt, true≢false, cond-true, cond-false, eq-eqb, ne_eqb, or_cases, and_parts, and_from}
-use Rattle.logical_clock.specs.declared.key.Class.TheVariants.{Async}
 use Rattle.marks.specs.Places.{thread_count, is_system}
 use Rattle.marks.specs.Ranges.{in_range, any_range}
 use Rattle.marks.specs.Ranges as marks
@@ -18,8 +17,7 @@ use Rattle.space_memory_access.specs.declared.holder.Holder.{Holder}
 use Rattle.space_memory_access.specs.declared.holder.Holder.TheVariants.{In, Out, Key}
 use Rattle.space_memory_access.specs.Holders.{is_pending, is_of, is_out_of, is_same_call, has_key}
 use Rattle.space_memory_access.specs.Held.{IsPending, prepared_region}
-use Rattle.replay_runs.specs.Runs.{Start, OfKey, marks_of, events_with, byte}
-use Rattle.replay_runs.specs.Keys.{key}
+use Rattle.replay_runs.specs.Runs.{Start, marks_of, byte}
 use Rattle.replay_runs.specs.Threads.{open_calls}
 use Rattle.replay_runs.specs.Threads as run
 use Rattle.replay_runs.specs.Pool.{in_use}
@@ -146,14 +144,14 @@ module _ (s : Start) (past : List Mark) (memory : SpaceState) (h : StandsFor s p
   ranges_inside : (a b : Range) → ◌≡◌ {A = Option Range} (Some a) (Some b) → a ≡ b
   ranges_inside a b e = cc
 
-  by_range : (o : Option marks.Range) (g : Region) → in_use k (events_with s (OfKey (key Async k)) past) ≡ o → prepared_region memory.held.regions k ≡ Some g → covers g.range x ≡ true → IsPreparedUnder s past k x
+  by_range : (o : Option marks.Range) (g : Region) → in_use s k past ≡ o → prepared_region memory.held.regions k ≡ Some g → covers g.range x ≡ true → IsPreparedUnder s past k x
   by_range None g e there c = absurd (some_none g.range (sym (ap (option_map (λ (r : Region). r.range)) there) ∙ h.keys k ∙ ap (option_map memory_range) e))
   by_range (Some r) g e there c =
       let same : g.range ≡ memory_range r = ranges_inside g.range (memory_range r) (sym (ap (option_map (λ (r : Region). r.range)) there) ∙ h.keys k ∙ ap (option_map memory_range) e) in
       (r, e, ap (λ (q : Range). covers q x) (sym same) ∙ c)
 
   pub region_of_key : (g : Region) → prepared_region memory.held.regions k ≡ Some g → covers g.range x ≡ true → IsPreparedUnder s past k x
-  region_of_key g there c = by_range (in_use k (events_with s (OfKey (key Async k)) past)) g refl there c
+  region_of_key g there c = by_range (in_use s k past) g refl there c
 
   by_region : (o : Option Region) → prepared_region memory.held.regions k ≡ o → IsPreparedUnder s past k x → (g : Region) × (prepared_region memory.held.regions k ≡ Some g) × (covers g.range x ≡ true)
   by_region None e under = absurd (some_none (memory_range under.0) (sym (ap (option_map memory_range) under.1) ∙ sym (h.keys k) ∙ ap (option_map (λ (g : Region). g.range)) e))

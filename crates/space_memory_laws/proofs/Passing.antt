@@ -2,12 +2,11 @@
 use Rattle.std.proofs.Common.{◌≡◌, ℕ, Bool, true, false, eqb, ◌||◌, List, [], ◌∷◌, ◌++◌, map, inl, inr, refl, ap, sym, ◌∙◌, All}
 use Rattle.std.proofs.lemmas.Bool.{cases_Bool, true≢false, eq-eqb, eqb-true}
 use Rattle.std.proofs.lemmas.List.Elements.{All-head, All-tail}
-use Rattle.logical_clock.specs.declared.key.Class.TheVariants.{Async}
 use Rattle.marks.specs.declared.side.Side.TheVariants.{Replay, System}
 use Rattle.marks.specs.Ranges.{Prepared, in_range, any_range, prepared_ranges}
 use Rattle.marks.specs.Ranges as marks
 use Rattle.marks.specs.Marks.{Mark}
-use Rattle.replay_runs.specs.Runs.{Start, OfKey, events_with}
+use Rattle.replay_runs.specs.Runs.{Start}
 use Rattle.replay_runs.specs.Keys.{key}
 use Rattle.replay_runs.specs.Interface.{Interface}
 use Rattle.replay_runs.specs.Pool.{prepares_key, in_use}
@@ -134,7 +133,7 @@ module _ (P : Checks → Type 0) (step : (Bad : ℕ → Type 0) (Found : ℕ →
     past_keys (q ∷ before) rest more cs free distinct away p =
         step _ _ (key_checks s past (q.key ∷ more) (before ++ rest) cs)
         (λ k bad. elim bad.1 [
-          | inl used ↦ used (ap (λ j. in_use j (events_with s (OfKey (key Async j)) past)) bad.0 ∙ free.0)
+          | inl used ↦ used (ap (λ j. in_use s j past) bad.0 ∙ free.0)
           | inr waits ↦ true≢false (sym waits ∙ away k (ap (λ b. b || prepares_key before k) (eq-eqb q.key k (sym bad.0))))
         ])
         (past_keys before rest (q.key ∷ more) cs free.1 distinct.1

@@ -15,13 +15,13 @@ use Rattle.space_memory_bytes.specs.Areas.{byte_at, IsDead}
 use Rattle.space_memory_bytes.specs.Numbers.{FillsWith}
 use Rattle.space_memory.specs.StackFrames.{stack_of}
 use Rattle.pool_list.specs.Blocks.{PoolState, LieBetween, length_at, with_block, without_block}
-use Rattle.pool_list.specs.Places.{Misses, IsLeastPlace}
+use Rattle.pool_list.specs.Places.{IsLeastPlace}
 use Rattle.pool_list.specs.Places as pool
 use Rattle.space_memory_access.specs.declared.holder.Region.{Region}
 use Rattle.space_memory_access.specs.Held.{HeldState, prepared_region, IsPending}
 use Rattle.space_memory_access.specs.declared.refusal.Refusal.{Refusal}
 use Rattle.space_memory_access.specs.declared.refusal.Refusal.TheVariants.{Pending}
-use Rattle.replay_runs.specs.Runs.{Start, OfKey, has, marks_of, events_with, byte}
+use Rattle.replay_runs.specs.Runs.{Start, OfKey, has, marks_of, byte}
 use Rattle.replay_runs.specs.Keys.{key}
 use Rattle.replay_runs.specs.Threads.{frames_after, OpenCall, calls_after, act_calls, open_calls}
 use Rattle.replay_runs.specs.Pool.{without, blocks_after, act_blocks, blocks, use_after, act_use, Fits, IsPlace}
@@ -45,7 +45,7 @@ use Rattle.space_memory_laws.proofs.Blocks.{block_of, lie_with_block, lie_withou
 
 -- a mark that changes the live blocks, and bytes of one range of the pool
 record Repools (s : Start) (past : List Mark) (old new : SpaceState) (m : Mark) (bs : List marks.Range) (r : marks.Range) : Type 0 where
-  own : blocks (events_with s (OfKey (key Pool 0)) (m ∷ past)) ≡ bs
+  own : blocks s (m ∷ past) ≡ bs
   frames : (fs : List marks.Range) → frames_after m.act fs ≡ fs
   calls : (cs : List OpenCall) → act_calls m.act cs ≡ cs
   keys : (k : ℕ) (q : Option marks.Range) → act_use k m.act q ≡ q
@@ -110,7 +110,7 @@ fits_back bs size addr f = record { aligned = f.aligned; from_base = f.low; in_p
 
 -- an Alloc that is to be made
 record Allocs (s : Start) (past : List Mark) (old new : SpaceState) (m : Mark) (e : Event) (size addr : ℕ) (bs : List marks.Range) : Type 0 where
-  were : blocks (events_with s (OfKey (key Pool 0)) past) ≡ bs
+  were : blocks s past ≡ bs
   place : IsLeastPlace (pool_with bs) size addr
   some : 1 ≤ size
   side : new.sides.replay ≡ with_blocks old.sides.replay (by_address (range addr size ∷ bs))
@@ -131,9 +131,9 @@ module _ (s : Start) (past : List Mark) (old new : SpaceState) (m : Mark) (e : E
   granted_all : granted addr size ≡ size
   granted_all = cond-false (eqb addr 0) 0 size (ne_eqb addr 0 (λ z. absurd (omega (arith, z, a.place.is_place.from_base))))
 
-  new_blocks : blocks (events_with s (OfKey (key Pool 0)) (m ∷ past)) ≡ r ∷ bs
+  new_blocks : blocks s (m ∷ past) ≡ r ∷ bs
   new_blocks =
-      let l = blocks (events_with s (OfKey (key Pool 0)) past) in
+      let l = blocks s past in
       blocks_more s m past
       ∙ cond-true (has m (OfKey (key Pool 0))) (act_blocks m.act l) l a.keyed
       ∙ ap (λ z. act_blocks z l) a.is
@@ -218,7 +218,7 @@ module _ (s : Start) (past : List Mark) (old new : SpaceState) (m : Mark) (e : E
 
 pub allocs : (s : Start) (past : List Mark) (old new : SpaceState) (m : Mark) (e : Event) (size addr : ℕ) → StandsFor s past old → IsLeastPlace old.sides.replay.pool size addr → 1 ≤ size → new.sides ≡ with_side old.sides Replay (with_blocks old.sides.replay (with_block old.sides.replay.pool.blocks (record { addr = addr; len = size }))) → FillsWith (record { addr = addr; len = size }) (Some 0) old.bytes new.bytes → new.held ≡ old.held → m.act ≡ Made e → e.kind ≡ Alloc addr size → has m (OfKey (key Pool 0)) ≡ true → IsAlloc s past m size addr new
 allocs s past old new m e size addr h place some side fills held is kind keyed =
-    alloc_made s past old new m e size addr (blocks (events_with s (OfKey (key Pool 0)) past)) h (record {
+    alloc_made s past old new m e size addr (blocks s past) h (record {
       were = refl;
       place = subst (λ q. IsLeastPlace q size addr) h.pool place;
       some = some;
@@ -255,14 +255,14 @@ refused_allocs s past memory m e size h none is kind = record {
     refl,
     λ x f. elim none [
       | inl z ↦ absurd (omega (arith, z, f.some))
-      | inr nowhere ↦ nowhere x (subst (λ q. pool.IsPlace q size x) (sym h.pool) (fits_back (blocks (events_with s (OfKey (key Pool 0)) past)) size x f))
+      | inr nowhere ↦ nowhere x (subst (λ q. pool.IsPlace q size x) (sym h.pool) (fits_back (blocks s past) size x f))
     ],
   );
 }
 
 -- a Free that is to be made
 record Frees (s : Start) (past : List Mark) (old new : SpaceState) (m : Mark) (e : Event) (addr size : ℕ) (bs : List marks.Range) : Type 0 where
-  were : blocks (events_with s (OfKey (key Pool 0)) past) ≡ bs
+  were : blocks s past ≡ bs
   there : length_at (by_address bs) addr ≡ Some size
   side : new.sides.replay ≡ with_blocks old.sides.replay (without_block (by_address bs) addr)
   system : new.sides.system ≡ old.sides.system
@@ -289,9 +289,9 @@ module _ (s : Start) (past : List Mark) (old new : SpaceState) (m : Mark) (e : E
   left_is : by_address left ≡ without_block (by_address bs) addr
   left_is = by_address_without replay_pool (replay_pool + pool_size) bs addr laid_before
 
-  left_blocks : blocks (events_with s (OfKey (key Pool 0)) (m ∷ past)) ≡ left
+  left_blocks : blocks s (m ∷ past) ≡ left
   left_blocks =
-      let l = blocks (events_with s (OfKey (key Pool 0)) past) in
+      let l = blocks s past in
       blocks_more s m past
       ∙ cond-true (has m (OfKey (key Pool 0))) (act_blocks m.act l) l a.keyed
       ∙ ap (λ z. act_blocks z l) a.is
@@ -381,7 +381,7 @@ module _ (s : Start) (past : List Mark) (old new : SpaceState) (m : Mark) (e : E
 
 pub frees : (s : Start) (past : List Mark) (old new : SpaceState) (m : Mark) (e : Event) (addr size : ℕ) → StandsFor s past old → length_at old.sides.replay.pool.blocks addr ≡ Some size → new.sides ≡ with_side old.sides Replay (with_blocks old.sides.replay (without_block old.sides.replay.pool.blocks addr)) → FillsWith (record { addr = addr; len = size }) None old.bytes new.bytes → new.held ≡ old.held → ((r : Refusal) → IsFreeRefused Replay old.sides.replay.pool.blocks old.held.regions addr r → ⊥) → m.act ≡ Made e → e.kind ≡ Free addr size → has m (OfKey (key Pool 0)) ≡ true → IsMark s past m new
 frees s past old new m e addr size h there side fills held free is kind keyed =
-    let bs = blocks (events_with s (OfKey (key Pool 0)) past) in
+    let bs = blocks s past in
     let there' : length_at (by_address bs) addr ≡ Some size = sym (ap (λ (q : PoolState). length_at q.blocks addr) h.pool) ∙ there in
     let lies = begins_from replay_pool (replay_pool + pool_size) (by_address bs) addr size h.sound.laid_out there' in
     let own : covers SYSTEM_MEMORY addr ≡ false = elim (cover_cases SYSTEM_MEMORY addr) [ inl in' ↦ absurd (omega (arith, in'.from, lies.1, lies.2)) | inr out ↦ out.is ] in
@@ -415,8 +415,8 @@ frees_of_null s past memory m e h is kind = record {
       (λ x. refl);
 }
   where
-    either : (b : Bool) → cond b (act_blocks m.act (blocks (events_with s (OfKey (key Pool 0)) past))) (blocks (events_with s (OfKey (key Pool 0)) past)) ≡ blocks (events_with s (OfKey (key Pool 0)) past)
+    either : (b : Bool) → cond b (act_blocks m.act (blocks s past)) (blocks s past) ≡ blocks s past
     either false = refl
     either true =
-        let l = blocks (events_with s (OfKey (key Pool 0)) past) in
+        let l = blocks s past in
         ap (λ z. act_blocks z l) is ∙ ap (λ z. blocks_after z l) kind ∙ nothing_without replay_pool (replay_pool + pool_size) l 0 h.sound.laid_out (omega arith)

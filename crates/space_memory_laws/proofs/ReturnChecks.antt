@@ -1,16 +1,16 @@
 -- What refuses a release is what the checks of a Ret find.
-use Rattle.std.proofs.Common.{◌≡◌, ◌⊎◌, ℕ, zero, suc, ◌+◌, ◌-◌, ◌<◌, ◌≤◌, true, cond, eqb, List, [], ◌∷◌, ◌++◌, length, map, get_or, drop, Option, Some, None, inl, inr, refl, ap, sym, ◌∙◌, subst, arith, All}
+use Rattle.std.proofs.Common.{◌≡◌, ◌⊎◌, ℕ, zero, suc, ◌+◌, ◌-◌, ◌<◌, ◌≤◌, Bool, true, false, not, cond, eqb, List, [], ◌∷◌, ◌++◌, length, map, get_or, drop, Option, Some, None, inl, inr, refl, ap, sym, ◌∙◌, subst, arith, All}
 use Rattle.std.specs.Prelude.{slice_index, option_map}
 use Rattle.std.specs.Option.{option_to_list}
-use Rattle.std.proofs.lemmas.Bool.{cases_eq, cases_lt, cond-true, eq-eqb}
+use Rattle.std.proofs.lemmas.Bool.{cases_eq, cases_lt, cond-true, eq-eqb, true≢false}
 use Rattle.std.proofs.lemmas.List.{append-nil, map-append, get_or-drop, length-drop}
 use Rattle.std.proofs.lemmas.List.Elements.{All-head, All-tail}
-use Rattle.logical_clock.specs.declared.key.Class.TheVariants.{Async}
 use Rattle.marks.specs.declared.breach.BreachKind.TheVariants as breach
 use Rattle.marks.specs.Places.{thread_count}
 use Rattle.marks.specs.Ranges.{in_range}
 use Rattle.marks.specs.Ranges as marks
 use Rattle.marks.specs.Marks.{Mark}
+use Rattle.marks.specs.Wants.{same_origin}
 use Rattle.memory_map.specs.declared.range.Range.{Range}
 use Rattle.space_memory_bytes.specs.Areas.{byte_at}
 use Rattle.space_memory_access.specs.declared.holder.OpenCall.{OpenCall}
@@ -18,19 +18,20 @@ use Rattle.space_memory_access.specs.declared.holder.Region.{Region}
 use Rattle.space_memory_access.specs.Held.{innermost, prepared_region}
 use Rattle.space_memory_access.specs.declared.refusal.Refusal.{Refusal}
 use Rattle.space_memory_access.specs.declared.refusal.Refusal.TheVariants.{NotLive, Pending, OtherSpace, ReadOnly, StackFull, KeyInUse, NoKey, Size}
-use Rattle.replay_runs.specs.Runs.{Start, OfKey, marks_of, events_with}
+use Rattle.replay_runs.specs.Runs.{Start, marks_of}
 use Rattle.replay_runs.specs.Keys.{key}
 use Rattle.replay_runs.specs.Interface.{Interface, Committing}
 use Rattle.replay_runs.specs.Threads.{open_calls}
 use Rattle.replay_runs.specs.Pool.{in_use}
 use Rattle.replay_runs.specs.Rules.{Closes}
-use Rattle.replay_runs.specs.Checks.{Finding, BreachFound, Checks, Check, Done, Passes, Finds, is_breach_found, size_check, size_checks, commit_size_check}
+use Rattle.replay_runs.proofs.Replies.{same_origin_true}
+use Rattle.replay_runs.specs.Checks.{Finding, BreachFound, Checks, Check, Done, Passes, Finds, is_breach_found, IsSpoiled, size_check, size_checks, commit_size_check}
 use Rattle.space_memory.specs.Spaces.{SpaceState}
 use Rattle.space_memory.specs.Releases.{outs_of, used_of, IsFilled, AllFilled, FirstUnfilled, committed, HasKey, IsReleaseRefused}
 use Rattle.space_memory_laws.specs.Shown.{memory_range, value_when_held, ranges_at}
 use Rattle.space_memory_laws.specs.StandsFor.{StandsFor}
 use Rattle.space_memory_laws.specs.Refusals.{finding_of}
-use Rattle.space_memory_laws.specs.Returns.{used_at, WasChanged, AreUsedSizes, IsCommitted, ReturnsFind}
+use Rattle.space_memory_laws.specs.Returns.{used_at, was_changed, AreUsedSizes, IsCommitted, ReturnsFind}
 use Rattle.space_memory_laws.proofs.Cells.{cover_parts, covered}
 use Rattle.space_memory_laws.proofs.Regions.{some_none}
 use Rattle.space_memory_laws.proofs.Gone.{IsWaiting, gone_waiting}
@@ -56,16 +57,30 @@ search f g (suc n) = elim (search f g n) [
   ]
 ]
 
+is_origin : (o : Option ℕ) → same_origin o o ≡ true
+is_origin None = refl
+is_origin (Some x) = eq-eqb x x refl
+
+differs : (o p : Option ℕ) → (o ≡ p → ⊥) → not (same_origin o p) ≡ true
+differs o p ne = go (same_origin o p) refl
+  where
+    go : (b : Bool) → same_origin o p ≡ b → not b ≡ true
+    go true e = absurd (ne (same_origin_true o p e))
+    go false e = refl
+
+unlike : (o p : Option ℕ) → not (same_origin o p) ≡ true → o ≡ p → ⊥
+unlike o p h e = true≢false (sym h ∙ ap not (sym (ap (same_origin o) e) ∙ is_origin o))
+
 module _ (memory : SpaceState) where
   abbrev rs : List Region
   rs = memory.held.regions
 
-  abbrev Changed : ℕ → Type 0
-  Changed y = byte_at memory.bytes y ≡ value_when_held rs y → ⊥
+  abbrev changed : ℕ → Bool
+  changed y = was_changed memory y
 
   -- what the check of a region's size says is bad
   abbrev IsBad : marks.Range → ℕ → ℕ → Type 0
-  IsBad r n x = (x ≡ r.at) × ((r.size < n) ⊎ ((y : ℕ) × (in_range r y ≡ true) × (r.at + n ≤ y) × Changed y))
+  IsBad r n x = (x ≡ r.at) × IsSpoiled changed 0 r n
 
   module _ (g : Region) (r : marks.Range) (used n : ℕ) (same : g.range ≡ memory_range r) (is : n ≡ used_at r used) (waits : IsWaiting rs g) where
     from : g.range.addr ≡ r.at
@@ -87,28 +102,34 @@ module _ (memory : SpaceState) where
 
     filled_or_bad : IsFilled memory.bytes used g ⊎ IsBad r n r.at
     filled_or_bad = elim (cases_lt r.size n) [
-      | inl more ↦ inr (refl, inl more)
+      | inl more ↦ inr (refl, inr (inl more))
       | inr fits ↦
           let fits' : used_of g used ≤ g.range.len = omega (arith, used_is, len, fits) in
           elim (search (λ i. byte_at memory.bytes (g.range.addr + used_of g used + i)) (λ i. Some (slice_index (drop (used_of g used) g.before) i)) (length (drop (used_of g used) g.before))) [
             | inl all ↦ inl (record { fits = fits'; rest = all })
             | inr found ↦
                 let k : used_of g used + found.0 < g.range.len = omega (arith, found.1, length-drop (used_of g used) g.before, waits.whole, fits') in
-                inr (refl, inr (g.range.addr + used_of g used + found.0, covered (memory_range r) (g.range.addr + used_of g used + found.0) (omega (arith, from)) (omega (arith, from, k, len)), omega (arith, from, used_is), λ e. found.2 (e ∙ was found.0 found.1 fits')))
+                inr (refl, inr (inr (g.range.addr + used_of g used + found.0, covered (memory_range r) (g.range.addr + used_of g used + found.0) (omega (arith, from)) (omega (arith, from, k, len)), omega (arith, from, used_is), differs (byte_at memory.bytes (g.range.addr + used_of g used + found.0)) (value_when_held rs (g.range.addr + used_of g used + found.0)) (λ e. found.2 (e ∙ was found.0 found.1 fits')))))
           ]
+    ]
+
+    past_used : IsFilled memory.bytes used g → ((r.size < n) ⊎ ((y : ℕ) × (in_range r y ≡ true) × (r.at + n ≤ y) × (changed y ≡ true))) → ⊥
+    past_used filled spoiled = elim spoiled [
+      | inl more ↦ omega (arith, more, filled.fits, used_is, len)
+      | inr spoilt ↦
+          let y = spoilt.0 in
+          let c = cover_parts (memory_range r) y spoilt.1 in
+          let low : g.range.addr + used_of g used ≤ y = omega (arith, from, used_is, spoilt.2) in
+          let i = y - (g.range.addr + used_of g used) in
+          let at : g.range.addr + used_of g used + i ≡ y = omega (arith, low) in
+          let lt : i < length (drop (used_of g used) g.before) = omega (arith, length-drop (used_of g used) g.before, waits.whole, low, c.1, from, len, filled.fits) in
+          unlike (byte_at memory.bytes y) (value_when_held rs y) spoilt.3 (ap (byte_at memory.bytes) (sym at) ∙ filled.rest i lt ∙ sym (was i lt filled.fits) ∙ ap (value_when_held rs) at)
     ]
 
     not_both : IsFilled memory.bytes used g → (x : ℕ) → IsBad r n x → ⊥
     not_both filled x bad = elim bad.1 [
-      | inl more ↦ omega (arith, more, filled.fits, used_is, len)
-      | inr changed ↦
-          let y = changed.0 in
-          let c = cover_parts (memory_range r) y changed.1 in
-          let low : g.range.addr + used_of g used ≤ y = omega (arith, from, used_is, changed.2) in
-          let i = y - (g.range.addr + used_of g used) in
-          let at : g.range.addr + used_of g used + i ≡ y = omega (arith, low) in
-          let lt : i < length (drop (used_of g used) g.before) = omega (arith, length-drop (used_of g used) g.before, waits.whole, low, c.1, from, len, filled.fits) in
-          changed.3 (ap (byte_at memory.bytes) (sym at) ∙ filled.rest i lt ∙ sym (was i lt filled.fits) ∙ ap (value_when_held rs) at)
+      | inl none ↦ omega (arith, none)
+      | inr spoiled ↦ past_used filled spoiled
     ]
 
   heads : (a b : Range) (as' bs : List Range) → ◌≡◌ {A = List Range} (a ∷ as') (b ∷ bs) → a ≡ b
@@ -129,14 +150,14 @@ module _ (memory : SpaceState) where
   head_is : (g : Region) (gs : List Region) (r : marks.Range) (ro : List marks.Range) (used ns : List ℕ) → AreReturned (g ∷ gs) (r ∷ ro) used ns → g.range ≡ memory_range r
   head_is g gs r ro used ns a = heads g.range (memory_range r) (map (λ (g : Region). g.range) gs) (map memory_range ro) a.ranges
 
-  sizes_refused : (gs : List Region) (ro : List marks.Range) (used ns : List ℕ) (x : ℕ) → AreReturned gs ro used ns → FirstUnfilled memory.bytes gs used x → Finds (size_checks Changed ro ns Done) (BreachFound breach.Size x None)
+  sizes_refused : (gs : List Region) (ro : List marks.Range) (used ns : List ℕ) (x : ℕ) → AreReturned gs ro used ns → FirstUnfilled memory.bytes gs used x → Finds (size_checks changed [] ro ns Done) (BreachFound breach.Size x None)
   sizes_refused (g ∷ gs) (r ∷ ro) (u ∷ used) (n ∷ ns) x a first =
       let same = head_is g gs r ro (u ∷ used) (n ∷ ns) a in
       let waits = All-head (IsWaiting rs) g gs a.waits in
       elim first [
         | inl here ↦ elim (filled_or_bad g r u n same a.sizes.0 waits) [
           | inl filled ↦ absurd (here.0 filled)
-          | inr bad ↦ subst (λ y. Finds (size_checks Changed (r ∷ ro) (n ∷ ns) Done) (BreachFound breach.Size y None)) (sym (here.1 ∙ ap (λ (q : Range). q.addr) same)) (inl (r.at, (bad, λ y b. omega (arith, b.0)), refl))
+          | inr bad ↦ subst (λ y. Finds (size_checks changed [] (r ∷ ro) (n ∷ ns) Done) (BreachFound breach.Size y None)) (sym (here.1 ∙ ap (λ (q : Range). q.addr) same)) (inl (r.at, (bad, λ y b. omega (arith, b.0)), refl))
         ]
         | inr more ↦ inr (not_both g r u n same a.sizes.0 waits more.0, sizes_refused gs ro used ns x (later g gs r ro u used n ns a) more.1)
       ]
@@ -145,7 +166,7 @@ module _ (memory : SpaceState) where
   sizes_refused (g ∷ gs) (r ∷ ro) [] ns x a first = absurd first
   sizes_refused (g ∷ gs) (r ∷ ro) (u ∷ used) [] x a first = absurd a.sizes
 
-  sizes_found : (gs : List Region) (ro : List marks.Range) (used ns : List ℕ) (f : Finding) → AreReturned gs ro used ns → Finds (size_checks Changed ro ns Done) f → (x : ℕ) × FirstUnfilled memory.bytes gs used x × (f ≡ BreachFound breach.Size x None)
+  sizes_found : (gs : List Region) (ro : List marks.Range) (used ns : List ℕ) (f : Finding) → AreReturned gs ro used ns → Finds (size_checks changed [] ro ns Done) f → (x : ℕ) × FirstUnfilled memory.bytes gs used x × (f ≡ BreachFound breach.Size x None)
   sizes_found (g ∷ gs) (r ∷ ro) (u ∷ used) (n ∷ ns) f a found =
       let same = head_is g gs r ro (u ∷ used) (n ∷ ns) a in
       let waits = All-head (IsWaiting rs) g gs a.waits in
@@ -158,7 +179,7 @@ module _ (memory : SpaceState) where
       ]
   sizes_found [] [] used ns f a found = absurd (done used ns a.sizes found)
     where
-      done : (used ns : List ℕ) → AreUsedSizes [] used ns → Finds (size_checks Changed [] ns Done) f → ⊥
+      done : (used ns : List ℕ) → AreUsedSizes [] used ns → Finds (size_checks changed [] [] ns Done) f → ⊥
       done [] [] sizes found = found
       done [] (n ∷ ns) sizes found = sizes
       done (u ∷ used) ns sizes found = sizes
@@ -167,7 +188,7 @@ module _ (memory : SpaceState) where
   sizes_found (g ∷ gs) (r ∷ ro) [] ns f a found = absurd a.sizes
   sizes_found (g ∷ gs) (r ∷ ro) (u ∷ used) [] f a found = absurd a.sizes
 
-  sizes_pass : (gs : List Region) (ro : List marks.Range) (used ns : List ℕ) → AreReturned gs ro used ns → AllFilled memory.bytes gs used → Passes (size_checks Changed ro ns Done)
+  sizes_pass : (gs : List Region) (ro : List marks.Range) (used ns : List ℕ) → AreReturned gs ro used ns → AllFilled memory.bytes gs used → Passes (size_checks changed [] ro ns Done)
   sizes_pass (g ∷ gs) (r ∷ ro) (u ∷ used) (n ∷ ns) a filled =
       (not_both g r u n (head_is g gs r ro (u ∷ used) (n ∷ ns) a) a.sizes.0 (All-head (IsWaiting rs) g gs a.waits) filled.0, sizes_pass gs ro used ns (later g gs r ro u used n ns a) filled.1)
   sizes_pass [] [] used [] a filled = tt
@@ -177,7 +198,7 @@ module _ (memory : SpaceState) where
   sizes_pass (g ∷ gs) (r ∷ ro) [] ns a filled = absurd a.sizes
   sizes_pass (g ∷ gs) (r ∷ ro) (u ∷ used) [] a filled = absurd a.sizes
 
-  sizes_passed : (gs : List Region) (ro : List marks.Range) (used ns : List ℕ) → AreReturned gs ro used ns → Passes (size_checks Changed ro ns Done) → AllFilled memory.bytes gs used
+  sizes_passed : (gs : List Region) (ro : List marks.Range) (used ns : List ℕ) → AreReturned gs ro used ns → Passes (size_checks changed [] ro ns Done) → AllFilled memory.bytes gs used
   sizes_passed (g ∷ gs) (r ∷ ro) (u ∷ used) (n ∷ ns) a p = elim (filled_or_bad g r u n (head_is g gs r ro (u ∷ used) (n ∷ ns) a) a.sizes.0 (All-head (IsWaiting rs) g gs a.waits)) [
     | inl filled ↦ (filled, sizes_passed gs ro used ns (later g gs r ro u used n ns a) p.1)
     | inr bad ↦ absurd (p.0 r.at bad)
@@ -188,9 +209,9 @@ module _ (memory : SpaceState) where
   sizes_passed (g ∷ gs) (r ∷ ro) (u ∷ used) [] a p = absurd a.sizes
 
   -- the committed region comes last
-  sizes_more : (ro : List marks.Range) (used ns : List ℕ) (r : marks.Range) (n : ℕ) → AreUsedSizes ro used ns → size_checks Changed ro ns (size_check Changed r n Done) ≡ size_checks Changed (ro ++ r ∷ []) (ns ++ n ∷ []) Done
+  sizes_more : (ro : List marks.Range) (used ns : List ℕ) (r : marks.Range) (n : ℕ) → AreUsedSizes ro used ns → size_checks changed [] ro ns (size_check changed 0 r n Done) ≡ size_checks changed [] (ro ++ r ∷ []) (ns ++ n ∷ []) Done
   sizes_more [] [] [] r n h = refl
-  sizes_more (q ∷ ro) (u ∷ used) (k ∷ ns) r n h = ap (λ cs. size_check Changed q k cs) (sizes_more ro used ns r n h.1)
+  sizes_more (q ∷ ro) (u ∷ used) (k ∷ ns) r n h = ap (λ cs. size_check changed 0 q k cs) (sizes_more ro used ns r n h.1)
   sizes_more [] [] (k ∷ ns) r n h = absurd h
   sizes_more [] (u ∷ used) ns r n h = absurd h
   sizes_more (q ∷ ro) [] ns r n h = absurd h
@@ -253,7 +274,7 @@ module _ (i : Interface) (s : Start) (past : List Mark) (memory : SpaceState) (t
     waits = waiting None;
   }
 
-  none_refused : (f : Refusal) → IsReleaseRefused memory.bytes regions call used None f → Finds (size_checks (WasChanged memory) outs ns Done) (finding_of f)
+  none_refused : (f : Refusal) → IsReleaseRefused memory.bytes regions call used None f → Finds (size_checks (was_changed memory) [] outs ns Done) (finding_of f)
   none_refused (NotLive x) p = absurd p
   none_refused (Pending x) p = absurd p
   none_refused (OtherSpace x) p = absurd p
@@ -263,7 +284,7 @@ module _ (i : Interface) (s : Start) (past : List Mark) (memory : SpaceState) (t
   none_refused (NoKey x) p = absurd p
   none_refused (Size x) p = sizes_refused memory (outs_of call regions ++ []) outs (used ++ []) ns x no_commit p.1
 
-  none_found : (f : Finding) → Finds (size_checks (WasChanged memory) outs ns Done) f → (r : Refusal) × IsReleaseRefused memory.bytes regions call used None r × (f ≡ finding_of r)
+  none_found : (f : Finding) → Finds (size_checks (was_changed memory) [] outs ns Done) f → (r : Refusal) × IsReleaseRefused memory.bytes regions call used None r × (f ≡ finding_of r)
   none_found f found = let k = sizes_found memory (outs_of call regions ++ []) outs (used ++ []) ns f no_commit found in (Size k.0, ((λ j lacks. lacks), k.1), k.2)
 
   pub returns_none : ReturnsFind (interface None) s past memory t func args result used None
@@ -283,10 +304,10 @@ module _ (i : Interface) (s : Start) (past : List Mark) (memory : SpaceState) (t
   -- the region of a key is committed
   module _ (k n : ℕ) where
     abbrev now : Option marks.Range
-    now = in_use k (events_with s (OfKey (key Async k)) past)
+    now = in_use s k past
 
     abbrev later_checks : Checks
-    later_checks = size_checks (WasChanged memory) outs ns (commit_size_check (WasChanged memory) now n Done)
+    later_checks = size_checks (was_changed memory) [] outs ns (commit_size_check (was_changed memory) 0 now n Done)
 
     abbrev key_checks : Checks
     key_checks = Check (λ x. (x ≡ k) × (now ≡ None)) (is_breach_found breach.NoKey) later_checks
@@ -338,8 +359,8 @@ module _ (i : Interface) (s : Start) (past : List Mark) (memory : SpaceState) (t
       abbrev gone : List Region
       gone = outs_of call regions ++ committed regions commit
 
-      checks_are : later_checks ≡ size_checks (WasChanged memory) all_outs all_ns Done
-      checks_are = ap (λ o. size_checks (WasChanged memory) outs ns (commit_size_check (WasChanged memory) o n Done)) u.is ∙ sizes_more memory outs used ns u.range (used_at u.range n) sizes
+      checks_are : later_checks ≡ size_checks (was_changed memory) [] all_outs all_ns Done
+      checks_are = ap (λ o. size_checks (was_changed memory) [] outs ns (commit_size_check (was_changed memory) 0 o n Done)) u.is ∙ sizes_more memory outs used ns u.range (used_at u.range n) sizes
 
       returned : AreReturned memory gone all_outs (used ++ n ∷ []) all_ns
       returned = record {

@@ -5,7 +5,7 @@ use Rattle.std.specs.List.{list_any}
 use Rattle.std.specs.Option.{option_to_list}
 use Rattle.std.proofs.lemmas.Bool.{cases_Bool, cases_eq, true≢false, cond-true, cond-false, eq-eqb, ne_eqb, eqb-true, and_left, and_right}
 use Rattle.std.proofs.lemmas.List.{map-append, length-set}
-use Rattle.logical_clock.specs.declared.key.Class.TheVariants.{Pool, Async}
+use Rattle.logical_clock.specs.declared.key.Class.TheVariants.{Async}
 use Rattle.marks.specs.declared.side.Side.TheVariants.{Replay}
 use Rattle.marks.specs.Places.{thread_count, stack, replay_pool, pool_size, is_system}
 use Rattle.marks.specs.Ranges.{Piece, range, any_range, piece_ranges}
@@ -23,12 +23,13 @@ use Rattle.space_memory_access.specs.declared.holder.Holder.{Holder}
 use Rattle.space_memory_access.specs.declared.holder.Holder.TheVariants.{In, Out, Key}
 use Rattle.space_memory_access.specs.Holders.{is_same_call, has_key, outlives}
 use Rattle.space_memory_access.specs.Held.{HeldState, innermost, prepared_region, without_closed}
-use Rattle.replay_runs.specs.Runs.{Start, OfKey, has, marks_of, events_with, byte}
+use Rattle.replay_runs.specs.Runs.{Start, OfKey, has, marks_of, byte}
 use Rattle.replay_runs.specs.Keys.{key}
 use Rattle.replay_runs.specs.Threads.{tail, frames_after, calls_after, act_calls, open_calls}
 use Rattle.replay_runs.specs.Threads as run
 use Rattle.replay_runs.specs.Pool.{blocks, act_blocks, blocks_after, commit_leaves, use_after, act_use, in_use}
 use Rattle.replay_runs.specs.Rules.{Closes}
+use Rattle.replay_runs.specs.Returns.{ReleasesInUse}
 use Rattle.space_memory.specs.Sides.{SideState}
 use Rattle.space_memory.specs.Spaces.{SpaceState, IsWhole}
 use Rattle.space_memory.specs.Releases.{outs_of, committed, committed_key, committed_size, AllReturned, HasKey}
@@ -36,7 +37,7 @@ use Rattle.space_memory_laws.specs.Shown.{memory_range, value_when_held, cell_of
 use Rattle.space_memory_laws.specs.Held.{AreApart, HaveOwnKeys, has_region, AreHeld}
 use Rattle.space_memory_laws.specs.Sound.{AreStacked, IsBelow, IsSound}
 use Rattle.space_memory_laws.specs.StandsFor.{HoldsFor, StandsFor}
-use Rattle.space_memory_laws.specs.Returns.{ShowUsed, CommitsAs, CommitsInUse, IsRet}
+use Rattle.space_memory_laws.specs.Returns.{ShowUsed, CommitsAs, IsRet}
 use Rattle.space_memory_laws.proofs.Backs.{frames_stay, blocks_stay, calls_own, calls_other, keys_more, stay}
 use Rattle.space_memory_laws.proofs.Regions.{some_none}
 use Rattle.space_memory_laws.proofs.Calls.{ranges_past}
@@ -71,9 +72,9 @@ some_range (Some q) r e = ap (λ z. Some z) (same_range q r (inside (memory_rang
     inside a b e = cc
 
 -- a region that is committed is that of its piece
-committed_ranges : (s : Start) (past : List Mark) (m : Mark) (held : HeldState) (c : Option (ℕ × ℕ)) (commit : Commit) → CommitsAs s past m held c commit → map (λ (r : Region). r.range) (committed held.regions c) ≡ map memory_range (piece_ranges (released commit))
-committed_ranges s past m held None commit h = sym (ap (λ ps. map memory_range (piece_ranges ps)) h)
-committed_ranges s past m held (Some c) (Released p) h = one (prepared_region held.regions c.0) h.0
+committed_ranges : (m : Mark) (held : HeldState) (c : Option (ℕ × ℕ)) (commit : Commit) → CommitsAs m held c commit → map (λ (r : Region). r.range) (committed held.regions c) ≡ map memory_range (piece_ranges (released commit))
+committed_ranges m held None commit h = sym (ap (λ ps. map memory_range (piece_ranges ps)) h)
+committed_ranges m held (Some c) (Released j p) h = one (prepared_region held.regions c.0) (ap (λ z. option_map (λ (r : Region). r.range) (prepared_region held.regions z)) (sym h.1) ∙ h.0)
   where
     one : (o : Option Region) → option_map (λ (r : Region). r.range) o ≡ Some (memory_range p.range) → map (λ (r : Region). r.range) (option_to_list o) ≡ memory_range p.range ∷ []
     one None e = absurd (some_none (memory_range p.range) (sym e))
@@ -81,8 +82,8 @@ committed_ranges s past m held (Some c) (Released p) h = one (prepared_region he
       where
         inside : (a b : Range) → ◌≡◌ {A = Option Range} (Some a) (Some b) → a ≡ b
         inside a b e = cc
-committed_ranges s past m held (Some c) NoRegion h = absurd h
-committed_ranges s past m held (Some c) Withheld h = absurd h
+committed_ranges m held (Some c) NoRegion h = absurd h
+committed_ranges m held (Some c) Withheld h = absurd h
 
 piece_ranges_append : (ps qs : List Piece) → piece_ranges (ps ++ qs) ≡ piece_ranges ps ++ piece_ranges qs
 piece_ranges_append ps qs = map-append (λ (p : Piece). p.range) ps qs
@@ -97,7 +98,7 @@ pub record Returning (s : Start) (past : List Mark) (old new : SpaceState) (m : 
   pub is : m.act ≡ Made e
   pub kind : e.kind ≡ Ret func args result same pieces commit
   pub closes : IsClosed (open_calls (marks_of s m.thread past)) (piece_ranges pieces)
-  pub commits : CommitsAs s past m old.held c commit
+  pub commits : CommitsAs m old.held c commit
   pub shows : ShowUsed old.bytes (pieces ++ released commit) (used ++ committed_size c)
 
 module _ (s : Start) (past : List Mark) (old new : SpaceState) (m : Mark) (e : Event) (func : ℕ) (args : List ℕ) (result : ℕ) (same : Bool) (pieces : List Piece) (commit : Commit) (used : List ℕ) (c : Option (ℕ × ℕ)) (k : Returning s past old new m e func args result same pieces commit used c) where
@@ -134,7 +135,7 @@ module _ (s : Start) (past : List Mark) (old new : SpaceState) (m : Mark) (e : E
   gone_ranges =
       map-append (λ (r : Region). r.range) (outs_of call old.held.regions) (committed old.held.regions c)
       ∙ ap (λ qs. qs ++ map (λ (r : Region). r.range) (committed old.held.regions c)) out_ranges
-      ∙ ap (λ qs. map memory_range (piece_ranges pieces) ++ qs) (committed_ranges s past m old.held c commit k.commits)
+      ∙ ap (λ qs. map memory_range (piece_ranges pieces) ++ qs) (committed_ranges m old.held c commit k.commits)
       ∙ sym (map-append memory_range (piece_ranges pieces) (piece_ranges (released commit)))
       ∙ ap (map memory_range) (sym (piece_ranges_append pieces (released commit)))
 
@@ -211,42 +212,40 @@ module _ (s : Start) (past : List Mark) (old new : SpaceState) (m : Mark) (e : E
 
   -- the keys
   abbrev use_before : ℕ → Option marks.Range
-  use_before j = in_use j (events_with s (OfKey (key Async j)) past)
+  use_before j = in_use s j past
 
-  use_is : (j : ℕ) (o : Option marks.Range) → act_use j m.act o ≡ commit_leaves commit o
+  use_is : (j : ℕ) (o : Option marks.Range) → act_use j m.act o ≡ commit_leaves j commit o
   use_is j o = ap (λ a. act_use j a o) k.is ∙ ap (λ q. use_after j q o) k.kind
 
   abbrev shown_range : List Region → ℕ → Option Range
   shown_range rs j = option_map (λ (r : Region). r.range) (prepared_region rs j)
 
-  keys_from : (committing : Option (ℕ × ℕ)) (was : Commit) → CommitsAs s past m old.held committing was → (j : ℕ) → shown_range (without_closed call (committed_key committing) old.held.regions) j ≡ option_map memory_range (cond (has m (OfKey (key Async j))) (commit_leaves was (use_before j)) (use_before j))
+  keys_from : (committing : Option (ℕ × ℕ)) (was : Commit) → CommitsAs m old.held committing was → (j : ℕ) → shown_range (without_closed call (committed_key committing) old.held.regions) j ≡ option_map memory_range (cond (has m (OfKey (key Async j))) (commit_leaves j was (use_before j)) (use_before j))
   keys_from None was as' j =
       key_kept call None j none_dies old.held.regions
       ∙ k.h.keys j
-      ∙ ap (option_map memory_range) (sym (stay s m past (has m (OfKey (key Async j))) (commit_leaves was (use_before j)) (use_before j) (nothing was as')))
+      ∙ ap (option_map memory_range) (sym (stay s m past (has m (OfKey (key Async j))) (commit_leaves j was (use_before j)) (use_before j) (nothing was as')))
     where
       none_dies : (h : Holder) → has_key j h ≡ true → outlives call None h ≡ true
       none_dies (In o) is = absurd (true≢false (sym is))
       none_dies (Out o) is = absurd (true≢false (sym is))
       none_dies (Key q by) is = refl
 
-      nothing : (was : Commit) → released was ≡ [] → commit_leaves was (use_before j) ≡ use_before j
+      nothing : (was : Commit) → released was ≡ [] → commit_leaves j was (use_before j) ≡ use_before j
       nothing NoRegion e = refl
       nothing Withheld e = refl
-      nothing (Released p) e = absurd cc
+      nothing (Released i p) e = absurd cc
   keys_from (Some q) NoRegion as' j = absurd as'
   keys_from (Some q) Withheld as' j = absurd as'
-  keys_from (Some q) (Released p) as' j = elim (cases_eq j q.0) [
+  keys_from (Some q) (Released i p) as' j = elim (cases_eq j q.0) [
     | inl e ↦
+        let same : i ≡ j = as'.1 ∙ sym e in
         ap (option_map (λ (r : Region). r.range)) (key_gone call (Some q.0) j (dies e) old.held.regions)
-        ∙ ap (option_map memory_range) (sym (cond-true (has m (OfKey (key Async j))) None (use_before j) (ap (λ i. has m (OfKey (key Async i))) e ∙ as'.1)))
+        ∙ ap (option_map memory_range) (sym (cond-true (has m (OfKey (key Async j))) (cond (eqb i j) None (use_before j)) (use_before j) (ap (λ z. has m (OfKey (key Async z))) (sym same) ∙ as'.2) ∙ cond-true (eqb i j) None (use_before j) (eq-eqb i j same)))
     | inr ne ↦
         key_kept call (Some q.0) j (lives ne) old.held.regions
         ∙ k.h.keys j
-        ∙ ap (option_map memory_range) (sym (elim (cases_Bool (has m (OfKey (key Async j)))) [
-          | inl listed ↦ cond-true (has m (OfKey (key Async j))) None (use_before j) listed ∙ elim (as'.2 j listed) [ inl e ↦ absurd (ne e) | inr none ↦ sym none ]
-          | inr not ↦ cond-false (has m (OfKey (key Async j))) None (use_before j) not
-        ]))
+        ∙ ap (option_map memory_range) (sym (stay s m past (has m (OfKey (key Async j))) (cond (eqb i j) None (use_before j)) (use_before j) (cond-false (eqb i j) None (use_before j) (ne_eqb i j (λ z. ne (sym z ∙ as'.1))))))
   ]
     where
       dies : j ≡ q.0 → (h : Holder) → has_key j h ≡ true → outlives call (Some q.0) h ≡ false
@@ -259,7 +258,7 @@ module _ (s : Start) (past : List Mark) (old new : SpaceState) (m : Mark) (e : E
       lives ne (Out o) is = absurd (true≢false (sym is))
       lives ne (Key i by) is = ap not (ne_eqb q.0 i (λ e. ne (sym (eqb-true i j is) ∙ sym e)))
 
-  keys_are : (j : ℕ) → shown_range new.held.regions j ≡ option_map memory_range (in_use j (events_with s (OfKey (key Async j)) (m ∷ past)))
+  keys_are : (j : ℕ) → shown_range new.held.regions j ≡ option_map memory_range (in_use s j (m ∷ past))
   keys_are j =
       ap (λ rs. shown_range rs j) k.regions
       ∙ keys_from c commit k.commits j
@@ -301,7 +300,7 @@ module _ (s : Start) (past : List Mark) (old new : SpaceState) (m : Mark) (e : E
   same_frames : (t : ℕ) → run.frames (marks_of s t (m ∷ past)) ≡ run.frames (marks_of s t past)
   same_frames t = frames_stay s m past (λ fs. ap (λ a. frames_after a fs) k.is) t
 
-  same_blocks : blocks (events_with s (OfKey (key Pool 0)) (m ∷ past)) ≡ blocks (events_with s (OfKey (key Pool 0)) past)
+  same_blocks : blocks s (m ∷ past) ≡ blocks s past
   same_blocks = blocks_stay s m past (λ bs. ap (λ a. act_blocks a bs) k.is ∙ ap (λ q. blocks_after q bs) k.kind)
 
   same_side : new.sides.replay ≡ old.sides.replay
@@ -337,11 +336,11 @@ module _ (s : Start) (past : List Mark) (old new : SpaceState) (m : Mark) (e : E
     sound = ret_sound;
   }
 
-  used_key : (committing : Option (ℕ × ℕ)) (was : Commit) → CommitsAs s past m old.held committing was → CommitsInUse s past committing was
-  used_key None was as' = tt
-  used_key (Some q) NoRegion as' = tt
-  used_key (Some q) Withheld as' = tt
-  used_key (Some q) (Released p) as' = some_range (use_before q.0) p.range (sym (k.h.keys q.0) ∙ as'.0)
+  used_key : (committing : Option (ℕ × ℕ)) (was : Commit) → CommitsAs m old.held committing was → ReleasesInUse s past was
+  used_key committing NoRegion as' = tt
+  used_key committing Withheld as' = tt
+  used_key None (Released j p) as' = absurd cc
+  used_key (Some q) (Released j p) as' = some_range (use_before j) p.range (sym (k.h.keys j) ∙ as'.0)
 
   pub ret_made : IsRet s past m pieces c commit new
   ret_made = record {
@@ -353,7 +352,7 @@ module _ (s : Start) (past : List Mark) (old new : SpaceState) (m : Mark) (e : E
     in_use = used_key c commit k.commits;
   }
 
-pub returns : (s : Start) (past : List Mark) (old new : SpaceState) (m : Mark) (e : Event) (func : ℕ) (args : List ℕ) (result : ℕ) (same : Bool) (pieces : List Piece) (commit : Commit) (used : List ℕ) (c : Option (ℕ × ℕ)) → StandsFor s past old → m.thread < thread_count → new.held.regions ≡ without_closed (innermost old.held m.thread) (committed_key c) old.held.regions → new.held.depths ≡ slice_set old.held.depths m.thread (slice_index old.held.depths m.thread - 1) → new ≡ record old { held = new.held } → HasKey old.held.regions c → AllReturned old.bytes old.held.regions (innermost old.held m.thread) used c → m.act ≡ Made e → e.kind ≡ Ret func args result same pieces commit → Closes (open_calls (marks_of s m.thread past)) func args (piece_ranges pieces) → CommitsAs s past m old.held c commit → ShowUsed old.bytes (pieces ++ released commit) (used ++ committed_size c) → IsRet s past m pieces c commit new
+pub returns : (s : Start) (past : List Mark) (old new : SpaceState) (m : Mark) (e : Event) (func : ℕ) (args : List ℕ) (result : ℕ) (same : Bool) (pieces : List Piece) (commit : Commit) (used : List ℕ) (c : Option (ℕ × ℕ)) → StandsFor s past old → m.thread < thread_count → new.held.regions ≡ without_closed (innermost old.held m.thread) (committed_key c) old.held.regions → new.held.depths ≡ slice_set old.held.depths m.thread (slice_index old.held.depths m.thread - 1) → new ≡ record old { held = new.held } → HasKey old.held.regions c → AllReturned old.bytes old.held.regions (innermost old.held m.thread) used c → m.act ≡ Made e → e.kind ≡ Ret func args result same pieces commit → Closes (open_calls (marks_of s m.thread past)) func args (piece_ranges pieces) → CommitsAs m old.held c commit → ShowUsed old.bytes (pieces ++ released commit) (used ++ committed_size c) → IsRet s past m pieces c commit new
 returns s past old new m e func args result same pieces commit used c h lt regions depths rest has_key filled is kind closes commits shows =
     ret_made s past old new m e func args result same pieces commit used c (record {
       h = h;

@@ -2,7 +2,6 @@
 use Rattle.std.proofs.Common.{◌≡◌, ℕ, zero, suc, ◌+◌, ◌-◌, ◌<◌, ◌≤◌, ◌↔◌, true, false, cond, ◌||◌, eqb, List, [], ◌∷◌, length, Option, Some, None, is_some, inl, inr, refl, ap, sym, ◌∙◌, subst, arith}
 use Rattle.std.specs.Prelude.{unwrap_or, slice_get}
 use Rattle.std.proofs.lemmas.Bool.{cases_lt, true≢false, cond-true, cond-false, eq-eqb, ne_eqb}
-use Rattle.logical_clock.specs.declared.key.Class.TheVariants.{Pool}
 use Rattle.marks.specs.declared.side.Side.TheVariants.{Replay}
 use Rattle.marks.specs.Places.{thread_count, frame_count, stack, stack_size, replay_pool, pool_size, is_system}
 use Rattle.marks.specs.Ranges.{range, in_range, any_range}
@@ -21,9 +20,8 @@ use Rattle.space_memory_access.specs.Held.{IsPending}
 use Rattle.space_memory_access.specs.declared.refusal.Refusal.{Refusal}
 use Rattle.space_memory_access.specs.declared.refusal.Refusal.TheVariants.{NotLive, Pending, OtherSpace, ReadOnly, StackFull, KeyInUse, NoKey, Size}
 use Rattle.space_memory_access.specs.Accesses.{IsRefused}
-use Rattle.replay_runs.specs.Runs.{Start, OfKey, marks_of, events_with, byte}
+use Rattle.replay_runs.specs.Runs.{Start, marks_of, byte}
 use Rattle.replay_runs.specs.Interface.{Interface}
-use Rattle.replay_runs.specs.Keys.{key}
 use Rattle.replay_runs.specs.Threads.{frames, frame_place, HasRoom}
 use Rattle.replay_runs.specs.Pool.{blocks}
 use Rattle.replay_runs.specs.Checks.{Finds, Races, freed_range, checks}
@@ -159,7 +157,7 @@ module _ (i : Interface) (s : Start) (past : List Mark) (memory : SpaceState) (t
   pending_block : covers SYSTEM_MEMORY (suc a) ≡ false → (len x : ℕ) → length_at memory.sides.replay.pool.blocks (suc a) ≡ Some len → IsLeastIn (record { addr = suc a; len = len }) (IsPending memory.held.regions) x → Finds (checks i s past t (Frees (suc a))) (finding_of (Pending x))
   pending_block own len x is least =
       let n : (byte s (suc a) past).block ≡ len = begins own (Some len) is in
-      let bs = blocks (events_with s (OfKey (key Pool 0)) past) in
+      let bs = blocks s past in
       let there : length_at (by_address bs) (suc a) ≡ Some len = sym (ap (λ (q : PoolState). length_at q.blocks (suc a)) h.pool) ∙ is in
       let lies = begins_from replay_pool (replay_pool + pool_size) (by_address bs) (suc a) len h.sound.laid_out there in
       let some : cond (eqb (byte s (suc a) past).block 0) 1 (byte s (suc a) past).block ≡ len = cond-false (eqb (byte s (suc a) past).block 0) 1 _ (ne_eqb (byte s (suc a) past).block 0 (λ e. absurd (omega (arith, e, n, lies.1)))) ∙ n in

@@ -9,7 +9,7 @@ use Rattle.pool_list.specs.Blocks.{length_at, with_block, without_block}
 use Rattle.pool_list.specs.Places.{IsLeastPlace}
 use Rattle.pool_list.specs.Places as pool
 use Rattle.space_memory_access.specs.declared.refusal.Refusal.{Refusal}
-use Rattle.replay_runs.specs.Runs.{Start, OfKey, has, events_with}
+use Rattle.replay_runs.specs.Runs.{Start, OfKey, has}
 use Rattle.replay_runs.specs.Keys.{key}
 use Rattle.replay_runs.specs.Pool.{blocks, IsPlace}
 use Rattle.space_memory.specs.Sides.{with_blocks}
@@ -21,7 +21,7 @@ use Rattle.space_memory_laws.specs.Marks.{IsMark}
 -- an Alloc that the rules of the pool allow
 pub record IsAlloc (s : Start) (past : List Mark) (m : Mark) (size addr : ℕ) (new : SpaceState) : Type 0 where
   pub mark : IsMark s past m new
-  pub place : IsPlace replay_pool (blocks (events_with s (OfKey (key Pool 0)) past)) size addr
+  pub place : IsPlace replay_pool (blocks s past) size addr
 
 -- a block that is given is an Alloc at its address
 abbrev pub AllocsAreMarks : Type 0

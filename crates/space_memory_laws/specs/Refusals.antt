@@ -6,7 +6,7 @@ use Rattle.marks.specs.declared.breach.BreachKind.TheVariants as breach
 use Rattle.marks.specs.Places.{thread_count}
 use Rattle.marks.specs.Ranges.{range}
 use Rattle.marks.specs.Marks.{Mark}
-use Rattle.marks.specs.Wants.{Want, Frees}
+use Rattle.marks.specs.Wants.{Frees}
 use Rattle.memory_map.specs.declared.range.Range.{Range}
 use Rattle.space_memory.specs.StackFrames.{stack_of}
 use Rattle.space_memory_access.specs.declared.access.Access.{Access}
@@ -97,7 +97,3 @@ pub record FreesFind (i : Interface) (s : Start) (past : List Mark) (memory : Sp
 abbrev pub FoundFreesAreRefused : Type 0
 FoundFreesAreRefused =
     (i : Interface) (s : Start) (past : List Mark) (memory : SpaceState) (t addr : ℕ) → StandsFor s past memory → 1 ≤ addr → Unraced past t true (freed_range addr (byte s addr past).block) → FreesFind i s past memory t addr
-
--- the checks of a step find one thing at most: so of what is refused and found, nothing else is found
-abbrev pub ChecksFindOneThing : Type 0
-ChecksFindOneThing = (i : Interface) (s : Start) (past : List Mark) (t : ℕ) (want : Want) (f g : Finding) → Finds (checks i s past t want) f → Finds (checks i s past t want) g → f ≡ g

@@ -1,21 +1,23 @@
 -- Rets: the marks that `release` is, and what the checks of a run find where it refuses one.
-use Rattle.std.specs.Prelude.{◌≡◌, ◌≢◌, ◌⊎◌, ◌↔◌, ℕ, ◌-◌, ◌<◌, ◌≤◌, ◌==◌, Bool, true, if◌then◌else◌, List, [], ◌∷◌, ◌++◌, length, Option, Some, None, option_map, slice_index, slice_set, All}
+use Rattle.std.specs.Prelude.{if◌then◌else◌, ◌≡◌, ◌↔◌, ℕ, ◌-◌, ◌<◌, ◌≤◌, ◌==◌, Bool, true, not, List, [], ◌∷◌, ◌++◌, length, Option, Some, None, option_map, slice_index, slice_set, All}
 use Rattle.logical_clock.specs.declared.key.Class.TheVariants.{Async}
 use Rattle.marks.specs.Places.{thread_count}
 use Rattle.marks.specs.Ranges.{Piece, piece_ranges}
 use Rattle.marks.specs.Ranges as marks
-use Rattle.marks.specs.Marks.{Commit, Released, released, Ret, Event, Made, Mark}
+use Rattle.marks.specs.Wants.{same_origin}
+use Rattle.marks.specs.Marks.{Commit, NoRegion, Withheld, Released, released, Ret, Event, Made, Mark}
 use Rattle.space_memory_bytes.specs.Areas.{AreaState, byte_at}
 use Rattle.space_memory_bytes.specs.Numbers.{HasBytes}
 use Rattle.space_memory_access.specs.Held.{HeldState, innermost, prepared_region, without_closed}
 use Rattle.space_memory_access.specs.declared.refusal.Refusal.{Refusal}
-use Rattle.replay_runs.specs.Runs.{Start, OfKey, has, marks_of, events_with}
+use Rattle.replay_runs.specs.Runs.{Start, OfKey, has, marks_of}
 use Rattle.replay_runs.specs.Keys.{key}
 use Rattle.replay_runs.specs.Interface.{Interface, Committing}
 use Rattle.replay_runs.specs.Threads.{open_calls}
 use Rattle.replay_runs.specs.Pool.{in_use}
 use Rattle.replay_runs.specs.Rules.{Closes}
-use Rattle.replay_runs.specs.Checks.{Finding, Passes, Finds, return_checks}
+use Rattle.replay_runs.specs.Checks.{Finding, Answered, Passes, Finds, return_checks}
+use Rattle.replay_runs.specs.Returns.{ReleasesInUse}
 use Rattle.space_memory.specs.Spaces.{SpaceState}
 use Rattle.space_memory.specs.Releases.{committed_size, committed_key, AllReturned, HasKey, IsReleaseRefused}
 use Rattle.space_memory_laws.specs.Shown.{memory_range, value_when_held}
@@ -33,30 +35,23 @@ ShowUsed bytes [] [] = Unit {0}
 ShowUsed bytes (p ∷ ps) (n ∷ ns) = (length p.bytes ≡ used_at p.range n) × HasBytes bytes p.range.at p.bytes × ShowUsed bytes ps ns
 ShowUsed bytes _ _ = ⊥
 
--- what `release` is told to commit is what the Ret commits: nothing, or the region of a key. The Ret has that key, and no
--- other that is in use
-abbrev pub CommitsAs : Start → List Mark → Mark → HeldState → Option (ℕ × ℕ) → Commit → Type 0
-CommitsAs s past m held None commit = released commit ≡ []
-CommitsAs s past m held (Some c) (Released p) =
-    (option_map (λ r. r.range) (prepared_region held.regions c.0) ≡ Some (memory_range p.range))
-    × (has m (OfKey (key Async c.0)) ≡ true)
-    × ((k : ℕ) → has m (OfKey (key Async k)) ≡ true → (k ≡ c.0) ⊎ (in_use k (events_with s (OfKey (key Async k)) past) ≡ None))
-CommitsAs s past m held (Some c) _ = ⊥
+-- what `release` is told to commit is what the Ret commits: nothing, or the region of a key that it has
+abbrev pub CommitsAs : Mark → HeldState → Option (ℕ × ℕ) → Commit → Type 0
+CommitsAs m held None commit = released commit ≡ []
+CommitsAs m held (Some c) NoRegion = ⊥
+CommitsAs m held (Some c) Withheld = ⊥
+CommitsAs m held (Some c) (Released k p) =
+    (option_map (λ r. r.range) (prepared_region held.regions k) ≡ Some (memory_range p.range)) × (k ≡ c.0) × (has m (OfKey (key Async k)) ≡ true)
 
 -- a piece has no more bytes than its range
 abbrev pub FitsIn : Piece → Type 0
 FitsIn p = length p.bytes ≤ p.range.size
 
--- the Ret commits the region of a key in use
-abbrev pub CommitsInUse : Start → List Mark → Option (ℕ × ℕ) → Commit → Type 0
-CommitsInUse s past (Some c) (Released p) = in_use c.0 (events_with s (OfKey (key Async c.0)) past) ≡ Some p.range
-CommitsInUse s past _ _ = Unit {0}
-
 -- a Ret that the rules of runs allow
 pub record IsRet (s : Start) (past : List Mark) (m : Mark) (pieces : List Piece) (committing : Option (ℕ × ℕ)) (commit : Commit) (new : SpaceState) : Type 0 where
   pub mark : IsMark s past m new
   pub fits : All FitsIn (pieces ++ released commit)
-  pub in_use : CommitsInUse s past committing commit
+  pub in_use : ReleasesInUse s past commit
 
 -- a release is a Ret with the bytes of the regions, over the ranges of the call that it closes
 abbrev pub ReturnsAreMarks : Type 0
@@ -72,13 +67,17 @@ ReturnsAreMarks =
     m.act ≡ Made e →
     e.kind ≡ Ret func args result same pieces commit →
     Closes (open_calls (marks_of s m.thread past)) func args (piece_ranges pieces) →
-    CommitsAs s past m old.held committing commit →
+    CommitsAs m old.held committing commit →
     ShowUsed old.bytes (pieces ++ released commit) (used ++ committed_size committing) →
     IsRet s past m pieces committing commit new
 
 -- the byte isn't what it was when it was held
-abbrev pub WasChanged : SpaceState → ℕ → Type 0
-WasChanged memory x = byte_at memory.bytes x ≢ value_when_held memory.held.regions x
+abbrev pub was_changed : SpaceState → ℕ → Bool
+was_changed memory x = not (same_origin (byte_at memory.bytes x) (value_when_held memory.held.regions x))
+
+-- what comes from below where code wrote all bytes itself
+abbrev pub filled : SpaceState → Answered
+filled memory = record { pieces = []; committed = 0; changed = was_changed memory }
 
 -- the used sizes of a run are those of memory, and 0 at NULL
 abbrev pub AreUsedSizes : List marks.Range → List ℕ → List ℕ → Type 0
@@ -93,9 +92,9 @@ IsCommitted (Some c) committing = committing ≡ option_map (λ used. (c.key, us
 
 -- the checks of a Ret find what memory refuses, and nothing else
 pub record ReturnsFind (i : Interface) (s : Start) (past : List Mark) (memory : SpaceState) (t func : ℕ) (args : List ℕ) (result : ℕ) (used : List ℕ) (committing : Option (ℕ × ℕ)) : Type 0 where
-  pub refused : (r : Refusal) → IsReleaseRefused memory.bytes memory.held.regions (innermost memory.held t) used committing r → Finds (return_checks i s past (WasChanged memory) func args result) (finding_of r)
-  pub found : (f : Finding) → Finds (return_checks i s past (WasChanged memory) func args result) f → (r : Refusal) × IsReleaseRefused memory.bytes memory.held.regions (innermost memory.held t) used committing r × (f ≡ finding_of r)
-  pub passes : Passes (return_checks i s past (WasChanged memory) func args result) ↔ (HasKey memory.held.regions committing × AllReturned memory.bytes memory.held.regions (innermost memory.held t) used committing)
+  pub refused : (r : Refusal) → IsReleaseRefused memory.bytes memory.held.regions (innermost memory.held t) used committing r → Finds (return_checks i s past (filled memory) func args result) (finding_of r)
+  pub found : (f : Finding) → Finds (return_checks i s past (filled memory) func args result) f → (r : Refusal) × IsReleaseRefused memory.bytes memory.held.regions (innermost memory.held t) used committing r × (f ≡ finding_of r)
+  pub passes : Passes (return_checks i s past (filled memory) func args result) ↔ (HasKey memory.held.regions committing × AllReturned memory.bytes memory.held.regions (innermost memory.held t) used committing)
 
 -- a Ret of the innermost open call isn't made for a cause exactly where its release is refused for it
 abbrev pub RefusedReturnsAreFindings : Type 0

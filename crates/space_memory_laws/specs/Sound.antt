@@ -1,6 +1,5 @@
 -- What memory keeps through a run: where frames and blocks lie, and that in stacks and pool just their bytes live.
 use Rattle.std.specs.Prelude.{◌≡◌, ℕ, suc, ◌+◌, ◌^◌, ◌<◌, ◌≤◌, true, false, List, [], ◌∷◌, length, None, is_some}
-use Rattle.logical_clock.specs.declared.key.Class.TheVariants.{Pool}
 use Rattle.marks.specs.declared.side.Side.TheVariants.{Replay, System}
 use Rattle.marks.specs.Places.{thread_count, stack, stack_size, replay_pool, system_pool, pool_size, is_constant, is_replay, is_system}
 use Rattle.marks.specs.Ranges.{Range, range, in_range, any_range}
@@ -8,8 +7,7 @@ use Rattle.marks.specs.Marks.{Mark}
 use Rattle.space_memory_bytes.specs.Areas.{AreaState, IsDead, byte_at}
 use Rattle.space_memory.specs.StackFrames.{stack_of, LieInStack}
 use Rattle.pool_list.specs.Blocks.{LieBetween, IsLaidOut}
-use Rattle.replay_runs.specs.Runs.{Start, OfKey, marks_of, events_with}
-use Rattle.replay_runs.specs.Keys.{key}
+use Rattle.replay_runs.specs.Runs.{Start, marks_of}
 use Rattle.replay_runs.specs.Threads.{frames, end_of}
 use Rattle.replay_runs.specs.Pool.{blocks}
 use Rattle.space_memory.specs.Sides.{SideState}
@@ -48,5 +46,5 @@ pub record IsSound (s : Start) (past : List Mark) (memory : SpaceState) : Type 0
   pub held : AreHeld memory.held
   pub stacked : (t : ℕ) → t < thread_count → AreStacked (stack Replay t) (frames (marks_of s t past))
   pub frames_live : (t : ℕ) → t < thread_count → JustTheseLive (range (stack Replay t) stack_size) (frames (marks_of s t past)) memory.bytes
-  pub laid_out : LieBetween replay_pool (replay_pool + pool_size) (by_address (blocks (events_with s (OfKey (key Pool 0)) past)))
-  pub blocks_live : JustTheseLive (range replay_pool pool_size) (blocks (events_with s (OfKey (key Pool 0)) past)) memory.bytes
+  pub laid_out : LieBetween replay_pool (replay_pool + pool_size) (by_address (blocks s past))
+  pub blocks_live : JustTheseLive (range replay_pool pool_size) (blocks s past) memory.bytes

@@ -1,6 +1,5 @@
 -- Which runs a state of memory stands for.
 use Rattle.std.specs.Prelude.{◌≡◌, ℕ, ◌<◌, false, List, length, map, option_map, unwrap_or, slice_index}
-use Rattle.logical_clock.specs.declared.key.Class.TheVariants.{Pool, Async}
 use Rattle.marks.specs.Places.{thread_count, is_system}
 use Rattle.marks.specs.Marks.{Mark}
 use Rattle.space_memory_bytes.specs.Areas.{byte_at}
@@ -9,8 +8,7 @@ use Rattle.pool_list.specs.Blocks.{length_at}
 use Rattle.space_memory_access.specs.Held.{HeldState, prepared_region}
 use Rattle.space_memory.specs.Spaces.{SpaceState}
 use Rattle.space_memory.specs.Releases.{outs_of}
-use Rattle.replay_runs.specs.Runs.{Start, OfKey, marks_of, events_with, byte}
-use Rattle.replay_runs.specs.Keys.{key}
+use Rattle.replay_runs.specs.Runs.{Start, marks_of, byte}
 use Rattle.replay_runs.specs.Threads.{OpenCall, frames, open_calls}
 use Rattle.replay_runs.specs.Pool.{blocks, in_use}
 use Rattle.space_memory_laws.specs.Shown.{memory_range, value_when_held, cell_of, stack_with, pool_with, ranges_at, ins_of}
@@ -31,10 +29,10 @@ pub record StandsFor (s : Start) (past : List Mark) (memory : SpaceState) : Type
   -- each thread's stack above the cut: the frames that are open
   pub stacks : (t : ℕ) → t < thread_count → stack_of memory.sides.replay.stacks t ≡ stack_with t (frames (marks_of s t past))
   -- the pool above the cut: the live blocks
-  pub pool : memory.sides.replay.pool ≡ pool_with (blocks (events_with s (OfKey (key Pool 0)) past))
+  pub pool : memory.sides.replay.pool ≡ pool_with (blocks s past)
   -- each thread's open Calls, with what they read and hold
   pub calls : (t : ℕ) → t < thread_count → HoldsFor memory.held t (open_calls (marks_of s t past))
   -- the region of each key in use
-  pub keys : (k : ℕ) → option_map (λ r. r.range) (prepared_region memory.held.regions k) ≡ option_map memory_range (in_use k (events_with s (OfKey (key Async k)) past))
+  pub keys : (k : ℕ) → option_map (λ r. r.range) (prepared_region memory.held.regions k) ≡ option_map memory_range (in_use s k past)
   -- where all this lies
   pub sound : IsSound s past memory

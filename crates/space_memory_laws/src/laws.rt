@@ -2,11 +2,12 @@
 
 ghost use Rattle.std.specs.Prelude.{List, ℕ};
 ghost use Rattle.marks.specs.Ranges.{Prepared, Range};
+ghost use Rattle.space_memory_laws.specs.Rearranged.{RearrangedRunsShareMemory};
 ghost use Rattle.space_memory_laws.specs.Starts.{NewMemoryStandsForTheStart};
 ghost use Rattle.space_memory_laws.specs.Numbers.{AreBytesOf};
 ghost use Rattle.space_memory_laws.specs.Marks.{LoadsAreMarks, QuietMarksLeaveMemory, StoresAreMarks};
 ghost use Rattle.space_memory_laws.specs.FrameMarks.{ArgumentsAreBytes, EntersAreMarks, LeavesAreMarks};
-ghost use Rattle.space_memory_laws.specs.Refusals.{ChecksFindOneThing, FoundFreesAreRefused, FullStacksAreFound, LeavesAreRefusedAsWrites, OtherSpaceComesFirst, RefusalsAreFindings, RefusedFreesAreFound};
+ghost use Rattle.space_memory_laws.specs.Refusals.{FoundFreesAreRefused, FullStacksAreFound, LeavesAreRefusedAsWrites, OtherSpaceComesFirst, RefusalsAreFindings, RefusedFreesAreFound};
 ghost use Rattle.space_memory_laws.specs.Calls.{CallsAreMarks, HeldRangesAreParts, OpenedCallsHaveNoParts, PreparedRangesAreParts, UndoneCallsLeaveMemory};
 ghost use Rattle.space_memory_laws.specs.Returns.{RefusedReturnsAreFindings, ReturnsAreMarks};
 ghost use Rattle.space_memory_laws.specs.CallChecks.{HoldRefusalsAreFindings, MadeCallsPass, PartsGrow, RacesOfHoldsAreFound, RacesOfReadsAreFound, ReadRefusalsAreFindings, RefusedHoldsAreFound, RefusedKeysAreFound, RefusedReadsAreFound};
@@ -19,6 +20,11 @@ ghost use Rattle.space_memory_laws.specs.PoolMarks.{AllocsAreMarks, FreesAreMark
 /// Memory before a run stands for the run in which nothing was done yet.
 pub fn new_memory_stands_for_the_start()
     ensures { NewMemoryStandsForTheStart }
+{}
+
+/// Memory that stands for a run stands for each with the same marks in another order.
+pub fn rearranged_runs_share_memory()
+    ensures { RearrangedRunsShareMemory }
 {}
 
 /// The bytes of a mark's number are as many as its width, and are that number.
@@ -192,11 +198,6 @@ pub fn made_calls_pass()
 /// The checks of a Ret find exactly what memory refuses of it, and pass exactly where memory takes it.
 pub fn refused_returns_are_findings()
     ensures { RefusedReturnsAreFindings }
-{}
-
-/// The checks of a step find one thing at most.
-pub fn checks_find_one_thing()
-    ensures { ChecksFindOneThing }
 {}
 
 /// Code of a thread below the cut has the right to a byte above it exactly where an open call of the thread, or a key in
