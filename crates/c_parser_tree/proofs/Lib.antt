@@ -1,3 +1,4 @@
+pub mod Newest
 pub mod Grow
 pub mod Ends
 pub mod Likewise

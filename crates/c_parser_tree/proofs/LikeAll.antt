@@ -1,7 +1,7 @@
 -- Each action does to pieces with numbers what it does to trees.
 use Rattle.c_parser_actions.specs.declared.action.Action.{Action}
 use Rattle.c_parser_actions.specs.declared.action.Action.TheVariants as acts
-use Rattle.c_parser_tree.specs.Made.{made_leaf, made_part, made_several, made_exprs, made_declr, made_decl, made_list, made_annot, made_item, made_value, made_entry, made_stmt, made_control}
+use Rattle.c_parser_tree.specs.Made.{made_leaf, made_part, made_pair, made_mixed, made_exprs, made_declr, made_decl, made_list, made_annot, made_item, made_value, made_entry, made_stmt, made_control}
 use Rattle.c_parser_tree.proofs.Likewise.{Likewise}
 use Rattle.c_parser_tree.proofs.LikeExpr.{like_name, like_number, like_char, like_text, like_prefix, like_postfix, like_sizeof_expr, like_sizeof_type, like_member, like_arrow, like_binary, like_assign, like_cond, like_cast, like_index, like_call, like_no_exprs, like_add_expr, like_no_expr, like_one_expr}
 use Rattle.c_parser_tree.proofs.LikeDecl.{like_named, like_nameless, like_pointer, like_array, like_params, like_specs, like_declare, like_declare_value, like_declare_body, like_end_specs, like_drop_specs, like_no_decls, like_add_name, like_tag, like_struct}
@@ -14,7 +14,7 @@ IsOther (acts.Braces f) = ⊥
 IsOther _ = Unit {0}
 
 pub like_all : (a : Action) → IsOther a → Likewise (made_leaf a) a
-unfolding made_leaf made_part made_several made_exprs made_declr made_decl made_list made_annot made_item made_value made_entry made_stmt made_control
+unfolding made_leaf made_part made_pair made_mixed made_exprs made_declr made_decl made_list made_annot made_item made_value made_entry made_stmt made_control
 like_all (acts.Name f n) o = like_name f n
 like_all (acts.Number f v u d) o = like_number f v u d
 like_all (acts.Char f c) o = like_char f c

@@ -15,6 +15,7 @@ use Rattle.c_parser_tree.specs.Built.{Built}
 use Rattle.c_parser_tree.specs.IsMade.{IsMade}
 use Rattle.c_parser_tree.specs.Made.{made_leaf}
 use Rattle.c_parser_tree.specs.Seen.{nodes_seen, stack_seen}
+use Rattle.c_parser_tree.specs.Stacks.{no_pieces}
 use Rattle.c_parser_tree.specs.Stacked.{Holding, Follows, Steps, IsFinished}
 use Rattle.c_parser_tree.specs.Stacked as s
 use Rattle.c_parser_tree.specs.Unfit.{IsUnfit}
@@ -30,7 +31,7 @@ acted_first (b ∷ out) a P = ap (act b) (acted_first out a P)
 pub acted_next : (rest : List Action) (a : Action) (P : List Tree) → acted (reverse (a ∷ rest)) P ≡ acted (reverse rest) (act a P)
 acted_next rest a P = ap (λ v. acted v P) (reverse-append (a ∷ []) rest) ∙ acted_first (reverse rest) a P
 
-pub holds_nothing : (b : Builder) → stack_seen b ≡ [] → Holding b []
+pub holds_nothing : (b : Builder) → stack_seen b ≡ no_pieces → Holding b []
 holds_nothing b e = rw e s.none
 
 pub nothing_left : {X : Type 0} (l : List X) → length l ≡ 0 → l ≡ []

@@ -2,54 +2,111 @@
 use Rattle.std.specs.Prelude.{ℕ, List, [], ◌∷◌, ◌++◌, length, reverse, Option, Some, None}
 use Rattle.c_syntax.specs.declared.expression.ExprKind.{ExprKind}
 use Rattle.c_syntax.specs.declared.statement.StmtKind.{StmtKind}
+use Rattle.c_syntax.specs.declared.statement.Entry.{Entry}
+use Rattle.c_syntax.specs.declared.declaration.Annot.{Annot}
+use Rattle.c_syntax.specs.declared.declaration.Item.{Item}
 use Rattle.c_syntax.specs.declared.declaration.PartKind.{PartKind}
+use Rattle.c_syntax.specs.declared.declaration.Value.{Value}
 use Rattle.c_syntax.specs.declared.id.DeclId.{DeclId}
+use Rattle.c_syntax.specs.declared.id.ExprId.{ExprId}
 use Rattle.c_syntax.specs.declared.declaration.Base.TheVariants as bases
 use Rattle.c_syntax.specs.declared.declaration.Rest.{Rest}
 use Rattle.c_syntax.specs.declared.declaration.Rest.TheVariants as rests
+use Rattle.c_syntax.specs.declared.declaration.Decl.{Decl}
 use Rattle.c_syntax.specs.Nodes.{Nodes}
 use Rattle.c_parser_tree.specs.declared.piece.Declarator.{Declarator}
 use Rattle.c_parser_tree.specs.declared.piece.Shared.{Shared}
 use Rattle.c_parser_tree.specs.declared.piece.Tag.{Tag}
-use Rattle.c_parser_tree.specs.declared.piece.Piece.{Piece}
-use Rattle.c_parser_tree.specs.declared.piece.Piece.TheVariants as pieces
 use Rattle.c_parser_tree.specs.Nodes.{with_decl, with_stmt, with_expr}
-use Rattle.c_parser_tree.specs.Takes.{declarator_in, shared_in}
+use Rattle.c_parser_tree.specs.Stacks.{Stacks, push_expr, push_exprs, push_declarator, push_shared, push_decl, push_decls, push_annots, push_annot, push_values, push_entries, push_stmt}
+use Rattle.c_parser_tree.specs.Takes.{exprs_in, declarator_in, shared_in, decls_in, annots_in, annot_in, values_in, entries_in}
 
 pub record Built : Type 0 where
   pub nodes : Nodes
-  pub stack : List Piece
+  pub stack : Stacks
 
 -- what is made of what is taken, if it is there
-abbrev pub taking : {A : Type 0} → Option (A × List Piece) → (A → List Piece → Option Built) → Option Built
+abbrev pub taking : {A : Type 0} → Option (A × Stacks) → (A → Stacks → Option Built) → Option Built
 taking None k = None
 taking (Some (a, R)) k = k a R
 
--- a piece comes on top
-abbrev pub puts : Nodes → Piece → List Piece → Option Built
-puts N p R = Some (record { nodes = N; stack = p ∷ R })
+-- the pieces become these
+abbrev pub puts : Nodes → Stacks → Option Built
+puts N R = Some (record { nodes = N; stack = R })
 
 -- a new expression comes on top
-abbrev pub put_expr : Nodes → ℕ → ExprKind → List Piece → Option Built
-put_expr N f k R = puts (with_expr N (record { from = f; kind = k })) (pieces.Expr (record { 0 = length N.exprs })) R
+abbrev pub put_expr : Nodes → ℕ → ExprKind → Stacks → Option Built
+put_expr N f k R =
+    puts (with_expr N (record { from = f; kind = k })) (push_expr (record { 0 = length N.exprs }) R)
 
 -- a new statement comes on top
-abbrev pub put_stmt : Nodes → ℕ → StmtKind → List Piece → Option Built
-put_stmt N f k R = puts (with_stmt N (record { from = f; kind = k })) (pieces.Stmt (record { 0 = length N.stmts })) R
+abbrev pub put_stmt : Nodes → ℕ → StmtKind → Stacks → Option Built
+put_stmt N f k R =
+    puts (with_stmt N (record { from = f; kind = k })) (push_stmt (record { 0 = length N.stmts }) R)
+
+-- a declaration of this declarator
+abbrev pub decl_of : Declarator → Shared → Rest → Decl
+decl_of d s q = record {
+  from = d.from;
+  annots = s.annots;
+  base = s.base;
+  parts = reverse d.parts;
+  name = d.name;
+  rest = q;
+}
 
 -- a new declaration comes on top, above what it shares with others
-abbrev pub put_decl : Nodes → Declarator → Shared → Rest → List Piece → Option Built
+abbrev pub put_decl : Nodes → Declarator → Shared → Rest → Stacks → Option Built
 put_decl N d s q R =
-    puts (with_decl N (record { from = d.from; annots = s.annots; base = s.base; parts = reverse d.parts; name = d.name; rest = q })) (pieces.Decl (record { 0 = length N.decls })) (pieces.Shared s ∷ R)
+    puts (with_decl N (decl_of d s q)) (push_decl (record { 0 = length N.decls }) (push_shared s R))
 
 -- the declarator on top gets one more part
-abbrev pub add_part : Nodes → ℕ → PartKind → List Piece → Option Built
-add_part N f k R = taking (declarator_in R) (λ d R. puts N (pieces.Declarator (record { parts = d.parts ++ record { from = f; kind = k } ∷ []; name = d.name; from = d.from })) R)
+abbrev pub with_part : Declarator → ℕ → PartKind → Declarator
+with_part d f k =
+    record { parts = d.parts ++ record { from = f; kind = k } ∷ []; name = d.name; from = d.from }
 
--- the declarator on top is declared, with what the piece below it shares
-abbrev pub declare : Nodes → Rest → List Piece → Option Built
+abbrev pub add_part : Nodes → ℕ → PartKind → Stacks → Option Built
+add_part N f k R = taking (declarator_in R) (λ d R. puts N (push_declarator (with_part d f k) R))
+
+-- the declarator on top is declared, with what the declarations share
+abbrev pub declare : Nodes → Rest → Stacks → Option Built
 declare N q R = taking (declarator_in R) (λ d R. taking (shared_in R) (λ s R. put_decl N d s q R))
 
--- the nodes with a definition of a struct
+-- a definition of a struct
+abbrev pub struct_of : Tag → List DeclId → Decl
+struct_of t ms = record {
+  from = t.from;
+  annots = [];
+  base = bases.Struct t.name;
+  parts = [];
+  name = None;
+  rest = rests.Members ms;
+}
+
+-- the nodes with it
 abbrev pub with_struct : Nodes → Tag → List DeclId → Nodes
-with_struct N t ms = with_decl N (record { from = t.from; annots = []; base = bases.Struct t.name; parts = []; name = None; rest = rests.Members ms })
+with_struct N t ms = with_decl N (struct_of t ms)
+
+-- lists on top with one more
+
+abbrev pub add_expr : Nodes → ExprId → Stacks → Option Built
+add_expr N x R = taking (exprs_in R) (λ xs R. puts N (push_exprs (xs ++ x ∷ []) R))
+
+abbrev pub add_decl : Nodes → DeclId → Stacks → Option Built
+add_decl N d R = taking (decls_in R) (λ ds R. puts N (push_decls (ds ++ d ∷ []) R))
+
+abbrev pub add_annot : Nodes → Annot → Stacks → Option Built
+add_annot N a R = taking (annots_in R) (λ an R. puts N (push_annots (an ++ a ∷ []) R))
+
+-- the annotation with one more item
+abbrev pub with_item : Annot → Item → Annot
+with_item a x = record { from = a.from; name = a.name; items = a.items ++ x ∷ [] }
+
+abbrev pub add_item : Nodes → Item → Stacks → Option Built
+add_item N x R = taking (annot_in R) (λ a R. puts N (push_annot (with_item a x) R))
+
+abbrev pub add_value : Nodes → Value → Stacks → Option Built
+add_value N v R = taking (values_in R) (λ vs R. puts N (push_values (vs ++ v ∷ []) R))
+
+abbrev pub add_entry : Nodes → Entry → Stacks → Option Built
+add_entry N e R = taking (entries_in R) (λ es R. puts N (push_entries (es ++ e ∷ []) R))

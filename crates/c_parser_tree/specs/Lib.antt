@@ -1,4 +1,5 @@
 pub mod Nodes
+pub mod Stacks
 pub mod Seen
 pub mod Takes
 pub mod Built

@@ -1,13 +1,14 @@
 // The nodes so far, and the pieces that wait.
 
-ghost use Rattle.std.specs.Prelude.{◌≡◌, ◌∷◌, ◌++◌, [], length, IfOk, IfErr, OnOk, MatchOption, reverse};
-ghost use Rattle.c_parser_tree.specs.IsMade.{IsMade};
-ghost use Rattle.c_parser_tree.specs.Built.{puts, put_expr, put_stmt, put_decl};
+ghost use Rattle.std.specs.Prelude.{◌≡◌, ◌∷◌, ◌++◌, [], length, IfOk, IfErr, OnOk, reverse};
+ghost use Rattle.c_parser_tree.specs.IsMade.{Makes, IsNewest};
+ghost use Rattle.c_parser_tree.specs.Built.{put_expr, put_stmt, put_decl};
 ghost use Rattle.c_parser_tree.specs.Seen.{nodes_seen, stack_seen};
+ghost use Rattle.c_parser_tree.specs.Stacks.{no_pieces};
 ghost use Rattle.c_parser_tree.specs.Nodes.{with_decl, with_stmt, with_expr, no_nodes};
 
 use crate::copy::{copy_annots, copy_base};
-use crate::piece::{Declarator, Piece, Shared};
+use crate::piece::{Declarator, Pieces, Shared};
 use c_syntax::{Decl, DeclId, Expr, ExprId, ExprKind, Rest, Seq, Stmt, StmtId, StmtKind};
 use std::alloc::{AllocError, Global};
 
@@ -31,23 +32,33 @@ impl From<AllocError> for BuildError {
     }
 }
 
-/// The nodes so far, and the pieces that wait, the newest last.
+/// The nodes so far, and the pieces that wait.
 #[derive(Drop)]
 pub struct Builder {
     pub alloc: Global,
     pub decls: Vec<Decl>,
     pub stmts: Vec<Stmt>,
     pub exprs: Vec<Expr>,
-    pub stack: Vec<Piece>,
+    pub pieces: Pieces,
 }
 
 /// Puts an item at the end.
-fn append<T: Drop>(items: &mut Vec<T>, item: T) -> Result<(), BuildError>
+pub fn append<T: Drop>(items: &mut Vec<T>, item: T) -> Result<(), BuildError>
     ensures items { OnOk result (items.new.items ≡ items.old.items ++ item ∷ []) }
     ensures memory { IfErr result (λ e. e ≡ BuildError.Memory) }
 {
     items.push(item).map_err(AllocError::from)?;
     Ok(())
+}
+
+/// The last item, taken off.
+pub fn take_newest<T: Drop>(items: &mut Vec<T>) -> Result<T, BuildError>
+    ensures { IsNewest result items.old.items items.new.items }
+{
+    match items.pop() {
+        Some(item) => Ok(item),
+        None => Err(BuildError::Unfit),
+    }
 }
 
 /// The list with one more at its end.
@@ -92,38 +103,20 @@ impl Builder {
     #[tactic(auto, unfolding(crate::specs::Seen::nodes_seen, crate::specs::Seen::stack_seen))]
     pub fn new(alloc: Global) -> Builder
         ensures nodes { nodes_seen result ≡ no_nodes }
-        ensures stack { stack_seen result ≡ [] }
+        ensures stack { stack_seen result ≡ no_pieces }
     {
         Builder {
             alloc,
             decls: Vec::new(alloc),
             stmts: Vec::new(alloc),
             exprs: Vec::new(alloc),
-            stack: Vec::new(alloc),
+            pieces: Pieces::new(alloc),
         }
-    }
-
-    /// Puts a piece on top.
-    pub fn put(&mut self, piece: Piece) -> Result<(), BuildError>
-        ensures made { IsMade result self.new (puts (nodes_seen self.old) piece (stack_seen self.old)) }
-        ensures stack { OnOk result (stack_seen self.new ≡ piece ∷ stack_seen self.old) }
-        ensures nodes { nodes_seen self.new ≡ nodes_seen self.old }
-        ensures memory { IfErr result (λ e. e ≡ BuildError.Memory) }
-    {
-        append(&mut self.stack, piece)
-    }
-
-    /// Takes the piece on top.
-    pub fn pop(&mut self) -> Option<Piece>
-        ensures stack { MatchOption result (stack_seen self.old ≡ []) (λ p. stack_seen self.old ≡ p ∷ stack_seen self.new) }
-        ensures nodes { nodes_seen self.new ≡ nodes_seen self.old }
-    {
-        self.stack.pop()
     }
 
     /// A new expression.
     #[tactic(auto, unfolding(crate::specs::Seen::nodes_seen, crate::specs::Seen::stack_seen))]
-    fn add_expr(&mut self, expr: Expr) -> Result<ExprId, BuildError>
+    fn new_expr(&mut self, expr: Expr) -> Result<ExprId, BuildError>
         ensures number { IfOk result (λ i. i ≡ record { 0 = length (nodes_seen self.old).exprs }) }
         ensures nodes { OnOk result (nodes_seen self.new ≡ with_expr (nodes_seen self.old) expr) }
         ensures stack { OnOk result (stack_seen self.new ≡ stack_seen self.old) }
@@ -136,7 +129,7 @@ impl Builder {
 
     /// A new statement.
     #[tactic(auto, unfolding(crate::specs::Seen::nodes_seen, crate::specs::Seen::stack_seen))]
-    fn add_stmt(&mut self, stmt: Stmt) -> Result<StmtId, BuildError>
+    fn new_stmt(&mut self, stmt: Stmt) -> Result<StmtId, BuildError>
         ensures number { IfOk result (λ i. i ≡ record { 0 = length (nodes_seen self.old).stmts }) }
         ensures nodes { OnOk result (nodes_seen self.new ≡ with_stmt (nodes_seen self.old) stmt) }
         ensures stack { OnOk result (stack_seen self.new ≡ stack_seen self.old) }
@@ -149,7 +142,7 @@ impl Builder {
 
     /// A new declaration.
     #[tactic(auto, unfolding(crate::specs::Seen::nodes_seen, crate::specs::Seen::stack_seen))]
-    pub fn add_decl(&mut self, decl: Decl) -> Result<DeclId, BuildError>
+    pub fn new_decl(&mut self, decl: Decl) -> Result<DeclId, BuildError>
         ensures number { IfOk result (λ i. i ≡ record { 0 = length (nodes_seen self.old).decls }) }
         ensures nodes { OnOk result (nodes_seen self.new ≡ with_decl (nodes_seen self.old) decl) }
         ensures stack { OnOk result (stack_seen self.new ≡ stack_seen self.old) }
@@ -162,33 +155,33 @@ impl Builder {
 
     /// Puts a new expression on top.
     pub fn put_expr(&mut self, from: u32, kind: ExprKind) -> Result<(), BuildError>
-        ensures { IsMade result self.new (put_expr (nodes_seen self.old) from kind (stack_seen self.old)) }
+        ensures { Makes result self.old self.new (λ N. put_expr N from kind) }
     {
-        let id = self.add_expr(Expr { from, kind })?;
-        self.put(Piece::Expr(id))
+        let id = self.new_expr(Expr { from, kind })?;
+        self.put_expr_id(id)
     }
 
     /// Puts a new statement on top.
     pub fn put_stmt(&mut self, from: u32, kind: StmtKind) -> Result<(), BuildError>
-        ensures { IsMade result self.new (put_stmt (nodes_seen self.old) from kind (stack_seen self.old)) }
+        ensures { Makes result self.old self.new (λ N. put_stmt N from kind) }
     {
-        let id = self.add_stmt(Stmt { from, kind })?;
-        self.put(Piece::Stmt(id))
+        let id = self.new_stmt(Stmt { from, kind })?;
+        self.put_stmt_id(id)
     }
 
-    /// Puts back what a declaration's names share, and on top of it a new declaration with a copy of that.
+    /// Puts back what a declaration's names share, and on top a new declaration with a copy of that.
     pub fn put_decl(
         &mut self,
         declarator: Declarator,
         shared: Shared,
         rest: Rest,
     ) -> Result<(), BuildError>
-        ensures { IsMade result self.new (put_decl (nodes_seen self.old) declarator shared rest (stack_seen self.old)) }
+        ensures { Makes result self.old self.new (λ N. put_decl N declarator shared rest) }
     {
         let annots = copy_annots(self.alloc, shared.annots.as_slice())?;
         let base = copy_base(self.alloc, &shared.base)?;
-        self.put(Piece::Shared(shared))?;
-        let id = self.add_decl(Decl {
+        self.put_shared(shared)?;
+        let id = self.new_decl(Decl {
             from: declarator.from,
             annots,
             base,
@@ -196,6 +189,6 @@ impl Builder {
             name: declarator.name,
             rest,
         })?;
-        self.put(Piece::Decl(id))
+        self.put_decl_id(id)
     }
 }

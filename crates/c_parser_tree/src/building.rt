@@ -10,7 +10,6 @@ ghost use Rattle.c_parser_tree.specs.Stacked.{Steps, IsFinished};
 ghost use Rattle.c_parser_tree.specs.Unfit.{IsUnfit};
 
 use crate::builder::{BuildError, Builder};
-use crate::piece::Piece;
 use c_parser_actions::Action;
 use c_syntax::{Tree, Value};
 use std::alloc::Global;
@@ -21,7 +20,7 @@ impl Builder {
         ensures { IsBraced from (nodes_seen self.old) (stack_seen self.old) result self.new }
     {
         let values = self.pop_values()?.into_vec();
-        self.put(Piece::Value(Value::Braces { from, values }))
+        self.put_value(Value::Braces { from, values })
     }
 
     /// Does an action.
@@ -34,15 +33,12 @@ impl Builder {
         }
     }
 
-    /// The tree, where nothing but the list of its declarations waits.
+    /// The tree, whose declarations are the list that waits.
     fn finish(mut self) -> Result<Tree, BuildError>
         ensures { IsFinished result self }
     {
         match self.pop_decls() {
-            Ok(tops) => match self.pop() {
-                None => Ok(Tree::new(self.decls, self.stmts, self.exprs, tops.into_vec())),
-                Some(_) => Err(BuildError::Unfit),
-            },
+            Ok(tops) => Ok(Tree::new(self.decls, self.stmts, self.exprs, tops.into_vec())),
             Err(error) => Err(error),
         }
     }
@@ -50,8 +46,8 @@ impl Builder {
 
 /// The tree that these actions build.
 ///
-/// `Memory` is also the answer where a tree would have more than 2^32 - 1 nodes of a kind, which the numbers of nodes
-/// can't tell apart.
+/// `Memory` is also the answer where a tree would have more than 2^32 - 1 nodes of a kind, which the numbers
+/// of nodes can't tell apart.
 pub fn build(alloc: Global, actions: Vec<Action>) -> Result<Tree, BuildError>
     // The tree holds each source that they build.
     ensures built { IfOk result (λ t. (ds : Decls) → Builds actions.items ds → Holds t ds) }

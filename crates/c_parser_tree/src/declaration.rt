@@ -1,33 +1,33 @@
 // Actions that make declarations.
 
 ghost use Rattle.std.specs.Prelude.{◌≡◌, length, IfOk, IfErr, OnOk};
-ghost use Rattle.c_parser_tree.specs.IsMade.{IsMade};
+ghost use Rattle.c_parser_tree.specs.IsMade.{Makes};
 ghost use Rattle.c_parser_tree.specs.Built.{add_part, declare, with_struct};
 ghost use Rattle.c_parser_tree.specs.Made.{made_declr, made_decl, made_list};
 ghost use Rattle.c_parser_tree.specs.Seen.{nodes_seen, stack_seen};
 
 use crate::builder::{BuildError, Builder, empty, with_last};
-use crate::piece::{Declarator, Piece, Shared, Tag};
+use crate::piece::{Declarator, Shared, Tag};
 use c_parser_actions::Action;
 use c_syntax::{Base, Decl, DeclId, Part, PartKind, Rest, Seq};
 
 impl Builder {
     /// Gives the declarator on top one more part.
     fn add_part(&mut self, from: u32, kind: PartKind) -> Result<(), BuildError>
-        ensures { IsMade result self.new (add_part (nodes_seen self.old) from kind (stack_seen self.old)) }
+        ensures { Makes result self.old self.new (λ N. add_part N from kind) }
     {
         let declarator = self.pop_declarator()?;
         let parts = with_last(declarator.parts, Part { from, kind })?;
-        self.put(Piece::Declarator(Declarator {
+        self.put_declarator(Declarator {
             parts,
             name: declarator.name,
             from: declarator.from,
-        }))
+        })
     }
 
-    /// Declares the declarator on top, with what the piece below it shares.
+    /// Declares the declarator on top, with what the names of its declaration share.
     fn declare(&mut self, rest: Rest) -> Result<(), BuildError>
-        ensures { IsMade result self.new (declare (nodes_seen self.old) rest (stack_seen self.old)) }
+        ensures { Makes result self.old self.new (λ N. declare N rest) }
     {
         let declarator = self.pop_declarator()?;
         let shared = self.pop_shared()?;
@@ -43,7 +43,7 @@ impl Builder {
     {
         let annots = empty(self.alloc);
         let parts = empty(self.alloc);
-        self.add_decl(Decl {
+        self.new_decl(Decl {
             from: tag.from,
             annots,
             base: Base::Struct(tag.name),
@@ -56,19 +56,19 @@ impl Builder {
     /// Makes a declarator, or what the next kinds of action make.
     #[tactic(auto, unfolding(crate::specs::Made::made_declr))]
     pub fn make_declarator(&mut self, action: Action) -> Result<(), BuildError>
-        ensures { IsMade result self.new (made_declr action (nodes_seen self.old) (stack_seen self.old)) }
+        ensures { Makes result self.old self.new (made_declr action) }
     {
         match action {
-            Action::Named(from, name) => self.put(Piece::Declarator(Declarator {
+            Action::Named(from, name) => self.put_declarator(Declarator {
                 parts: empty(self.alloc),
                 name: Some(name),
                 from,
-            })),
-            Action::Nameless(from) => self.put(Piece::Declarator(Declarator {
+            }),
+            Action::Nameless(from) => self.put_declarator(Declarator {
                 parts: empty(self.alloc),
                 name: None,
                 from,
-            })),
+            }),
             Action::Pointer(from) => self.add_part(from, PartKind::Pointer),
             Action::Array(from) => {
                 let length = self.pop_expr()?;
@@ -85,12 +85,12 @@ impl Builder {
     /// Makes a declaration, or what its names share, or what the next kinds of action make.
     #[tactic(auto, unfolding(crate::specs::Made::made_decl))]
     pub fn make_decl(&mut self, action: Action) -> Result<(), BuildError>
-        ensures { IsMade result self.new (made_decl action (nodes_seen self.old) (stack_seen self.old)) }
+        ensures { Makes result self.old self.new (made_decl action) }
     {
         match action {
             Action::Specs(base) => {
                 let annots = self.pop_annots()?;
-                self.put(Piece::Shared(Shared { annots, base }))
+                self.put_shared(Shared { annots, base })
             }
             Action::Declare => self.declare(Rest::None),
             Action::DeclareValue => {
@@ -101,14 +101,9 @@ impl Builder {
                 let body = self.pop_stmt()?;
                 self.declare(Rest::Body(body))
             }
-            Action::EndSpecs => {
+            Action::EndSpecs | Action::DropSpecs => {
                 let _ = self.pop_shared()?;
                 Ok(())
-            }
-            Action::DropSpecs => {
-                let decl = self.pop_decl()?;
-                let _ = self.pop_shared()?;
-                self.put(Piece::Decl(decl))
             }
             other => self.make_list(other),
         }
@@ -117,24 +112,20 @@ impl Builder {
     /// Makes a list of declarations, or the definition of a struct, or what the next kinds of action make.
     #[tactic(auto, unfolding(crate::specs::Made::made_list))]
     pub fn make_list(&mut self, action: Action) -> Result<(), BuildError>
-        ensures { IsMade result self.new (made_list action (nodes_seen self.old) (stack_seen self.old)) }
+        ensures { Makes result self.old self.new (made_list action) }
     {
         match action {
-            Action::NoDecls => self.put(Piece::Decls(empty(self.alloc))),
+            Action::NoDecls => self.put_decls(empty(self.alloc)),
             Action::AddName => {
                 let last = self.pop_decl()?;
-                let shared = self.pop_shared()?;
-                let decls = self.pop_decls()?;
-                self.put(Piece::Decls(with_last(decls, last)?))?;
-                self.put(Piece::Shared(shared))
+                self.add_decl(last)
             }
-            Action::Tag(from, name) => self.put(Piece::Tag(Tag { from, name })),
+            Action::Tag(from, name) => self.put_tag(Tag { from, name }),
             Action::Struct => {
                 let members = self.pop_decls()?;
                 let tag = self.pop_tag()?;
-                let decls = self.pop_decls()?;
                 let last = self.add_struct(tag, members)?;
-                self.put(Piece::Decls(with_last(decls, last)?))
+                self.add_decl(last)
             }
             other => self.make_annot(other),
         }

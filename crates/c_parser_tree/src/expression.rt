@@ -1,11 +1,9 @@
 // Actions that make expressions.
 
-ghost use Rattle.c_parser_tree.specs.IsMade.{IsMade};
-ghost use Rattle.c_parser_tree.specs.Made.{made_leaf, made_part, made_several, made_exprs};
-ghost use Rattle.c_parser_tree.specs.Seen.{nodes_seen, stack_seen};
+ghost use Rattle.c_parser_tree.specs.IsMade.{Makes};
+ghost use Rattle.c_parser_tree.specs.Made.{made_leaf, made_part, made_pair, made_mixed, made_exprs};
 
-use crate::builder::{BuildError, Builder, empty, with_last};
-use crate::piece::Piece;
+use crate::builder::{BuildError, Builder, empty};
 use c_parser_actions::Action;
 use c_syntax::ExprKind;
 
@@ -13,7 +11,7 @@ impl Builder {
     /// Makes an expression without parts, or what the next kinds of action make.
     #[tactic(auto, unfolding(crate::specs::Made::made_leaf))]
     pub fn make_leaf(&mut self, action: Action) -> Result<(), BuildError>
-        ensures { IsMade result self.new (made_leaf action (nodes_seen self.old) (stack_seen self.old)) }
+        ensures { Makes result self.old self.new (made_leaf action) }
     {
         match action {
             Action::Name(from, name) => self.put_expr(from, ExprKind::Name(name)),
@@ -36,10 +34,10 @@ impl Builder {
         }
     }
 
-    /// Makes an expression of one part, or what the next kinds of action make.
+    /// Makes an expression of one, or what the next kinds of action make.
     #[tactic(auto, unfolding(crate::specs::Made::made_part))]
     pub fn make_part(&mut self, action: Action) -> Result<(), BuildError>
-        ensures { IsMade result self.new (made_part action (nodes_seen self.old) (stack_seen self.old)) }
+        ensures { Makes result self.old self.new (made_part action) }
     {
         match action {
             Action::Prefix(from, sign) => {
@@ -54,10 +52,6 @@ impl Builder {
                 let operand = self.pop_expr()?;
                 self.put_expr(from, ExprKind::SizeofExpr(operand))
             }
-            Action::SizeofType(from) => {
-                let type_name = self.pop_decl()?;
-                self.put_expr(from, ExprKind::SizeofType(type_name))
-            }
             Action::Member(from, name) => {
                 let object = self.pop_expr()?;
                 self.put_expr(from, ExprKind::Member(object, name))
@@ -66,41 +60,51 @@ impl Builder {
                 let pointer = self.pop_expr()?;
                 self.put_expr(from, ExprKind::Arrow(pointer, name))
             }
-            other => self.make_several(other),
+            other => self.make_pair(other),
         }
     }
 
-    /// Makes an expression of several parts, or what the next kinds of action make.
-    #[tactic(auto, unfolding(crate::specs::Made::made_several))]
-    pub fn make_several(&mut self, action: Action) -> Result<(), BuildError>
-        ensures { IsMade result self.new (made_several action (nodes_seen self.old) (stack_seen self.old)) }
+    /// Makes an expression of two, or what the next kinds of action make.
+    #[tactic(auto, unfolding(crate::specs::Made::made_pair))]
+    pub fn make_pair(&mut self, action: Action) -> Result<(), BuildError>
+        ensures { Makes result self.old self.new (made_pair action) }
     {
         match action {
             Action::Binary(from, sign) => {
-                let right = self.pop_expr()?;
-                let left = self.pop_expr()?;
+                let (left, right) = self.pop_two_exprs()?;
                 self.put_expr(from, ExprKind::Binary(sign, left, right))
             }
             Action::Assign(from, sign) => {
-                let value = self.pop_expr()?;
-                let target = self.pop_expr()?;
+                let (target, value) = self.pop_two_exprs()?;
                 self.put_expr(from, ExprKind::Assign(sign, target, value))
             }
+            Action::Index(from) => {
+                let (array, index) = self.pop_two_exprs()?;
+                self.put_expr(from, ExprKind::Index(array, index))
+            }
+            other => self.make_mixed(other),
+        }
+    }
+
+    /// Makes an expression of three, of a type or of a list, or what the next kinds of action make.
+    #[tactic(auto, unfolding(crate::specs::Made::made_mixed))]
+    pub fn make_mixed(&mut self, action: Action) -> Result<(), BuildError>
+        ensures { Makes result self.old self.new (made_mixed action) }
+    {
+        match action {
             Action::Cond(from) => {
                 let last = self.pop_expr()?;
-                let middle = self.pop_expr()?;
-                let test = self.pop_expr()?;
+                let (test, middle) = self.pop_two_exprs()?;
                 self.put_expr(from, ExprKind::Cond(test, middle, last))
+            }
+            Action::SizeofType(from) => {
+                let type_name = self.pop_decl()?;
+                self.put_expr(from, ExprKind::SizeofType(type_name))
             }
             Action::Cast(from) => {
                 let operand = self.pop_expr()?;
                 let type_name = self.pop_decl()?;
                 self.put_expr(from, ExprKind::Cast(type_name, operand))
-            }
-            Action::Index(from) => {
-                let index = self.pop_expr()?;
-                let array = self.pop_expr()?;
-                self.put_expr(from, ExprKind::Index(array, index))
             }
             Action::Call(from) => {
                 let arguments = self.pop_exprs()?;
@@ -114,19 +118,18 @@ impl Builder {
     /// Makes a list of expressions, or an expression that may lack, or what the next kinds of action make.
     #[tactic(auto, unfolding(crate::specs::Made::made_exprs))]
     pub fn make_exprs(&mut self, action: Action) -> Result<(), BuildError>
-        ensures { IsMade result self.new (made_exprs action (nodes_seen self.old) (stack_seen self.old)) }
+        ensures { Makes result self.old self.new (made_exprs action) }
     {
         match action {
-            Action::NoExprs => self.put(Piece::Exprs(empty(self.alloc))),
+            Action::NoExprs => self.put_exprs(empty(self.alloc)),
             Action::AddExpr => {
                 let last = self.pop_expr()?;
-                let exprs = self.pop_exprs()?;
-                self.put(Piece::Exprs(with_last(exprs, last)?))
+                self.add_expr(last)
             }
-            Action::NoExpr => self.put(Piece::Maybe(None)),
+            Action::NoExpr => self.put_maybe(None),
             Action::OneExpr => {
                 let expr = self.pop_expr()?;
-                self.put(Piece::Maybe(Some(expr)))
+                self.put_maybe(Some(expr))
             }
             other => self.make_declarator(other),
         }

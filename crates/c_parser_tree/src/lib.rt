@@ -8,6 +8,7 @@ mod copy;
 mod declaration;
 mod expression;
 mod piece;
+mod puts;
 mod statement;
 mod takes;
 

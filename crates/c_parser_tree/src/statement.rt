@@ -1,11 +1,9 @@
 // Actions that make statements.
 
-ghost use Rattle.c_parser_tree.specs.IsMade.{IsMade};
+ghost use Rattle.c_parser_tree.specs.IsMade.{Makes};
 ghost use Rattle.c_parser_tree.specs.Made.{made_entry, made_stmt, made_control};
-ghost use Rattle.c_parser_tree.specs.Seen.{nodes_seen, stack_seen};
 
-use crate::builder::{BuildError, Builder, empty, with_last};
-use crate::piece::Piece;
+use crate::builder::{BuildError, Builder, empty};
 use c_parser_actions::Action;
 use c_syntax::{Entry, First, StmtKind};
 
@@ -13,28 +11,26 @@ impl Builder {
     /// Makes what a block or a `for` holds besides statements, or what the next kinds of action make.
     #[tactic(auto, unfolding(crate::specs::Made::made_entry))]
     pub fn make_entry(&mut self, action: Action) -> Result<(), BuildError>
-        ensures { IsMade result self.new (made_entry action (nodes_seen self.old) (stack_seen self.old)) }
+        ensures { Makes result self.old self.new (made_entry action) }
     {
         match action {
-            Action::NoEntries => self.put(Piece::Entries(empty(self.alloc))),
+            Action::NoEntries => self.put_entries(empty(self.alloc)),
             Action::AddLocal => {
                 let decls = self.pop_decls()?;
-                let entries = self.pop_entries()?;
-                self.put(Piece::Entries(with_last(entries, Entry::Local(decls))?))
+                self.add_entry(Entry::Local(decls))
             }
             Action::AddStmt => {
                 let stmt = self.pop_stmt()?;
-                let entries = self.pop_entries()?;
-                self.put(Piece::Entries(with_last(entries, Entry::Stmt(stmt))?))
+                self.add_entry(Entry::Stmt(stmt))
             }
-            Action::NoFirst => self.put(Piece::First(First::None)),
+            Action::NoFirst => self.put_first(First::None),
             Action::LocalFirst => {
                 let decls = self.pop_decls()?;
-                self.put(Piece::First(First::Local(decls)))
+                self.put_first(First::Local(decls))
             }
             Action::ExprFirst => {
                 let expr = self.pop_expr()?;
-                self.put(Piece::First(First::Expr(expr)))
+                self.put_first(First::Expr(expr))
             }
             other => self.make_stmt(other),
         }
@@ -43,7 +39,7 @@ impl Builder {
     /// Makes a statement without statements of its own, or a block, or what the next kinds of action make.
     #[tactic(auto, unfolding(crate::specs::Made::made_stmt))]
     pub fn make_stmt(&mut self, action: Action) -> Result<(), BuildError>
-        ensures { IsMade result self.new (made_stmt action (nodes_seen self.old) (stack_seen self.old)) }
+        ensures { Makes result self.old self.new (made_stmt action) }
     {
         match action {
             Action::Block(from) => {
@@ -67,23 +63,20 @@ impl Builder {
     /// Makes a statement with statements of its own.
     #[tactic(auto, unfolding(crate::specs::Made::made_control))]
     pub fn make_control(&mut self, action: Action) -> Result<(), BuildError>
-        ensures { IsMade result self.new (made_control action (nodes_seen self.old) (stack_seen self.old)) }
+        ensures { Makes result self.old self.new (made_control action) }
     {
         match action {
             Action::If(from) => {
-                let then = self.pop_stmt()?;
-                let test = self.pop_expr()?;
+                let (test, then) = self.pop_tested()?;
                 self.put_stmt(from, StmtKind::If(test, then, None))
             }
             Action::IfElse(from) => {
                 let other = self.pop_stmt()?;
-                let then = self.pop_stmt()?;
-                let test = self.pop_expr()?;
+                let (test, then) = self.pop_tested()?;
                 self.put_stmt(from, StmtKind::If(test, then, Some(other)))
             }
             Action::While(from) => {
-                let body = self.pop_stmt()?;
-                let test = self.pop_expr()?;
+                let (test, body) = self.pop_tested()?;
                 self.put_stmt(from, StmtKind::While(test, body))
             }
             Action::Do(from) => {
