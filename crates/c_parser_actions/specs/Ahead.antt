@@ -8,7 +8,8 @@ use Rattle.c_parser_actions.specs.declared.mark.Punctuator.TheVariants as marks
 use Rattle.c_parser_actions.specs.Marks.{mark_of}
 use Rattle.c_parser_actions.specs.Words.{lists}
 
--- at each token, by how many are left after it, the table has whether a square bracket there is that of annotations
+-- at each token, by how many are left after it, the table has whether a square bracket there is that of
+-- annotations
 abbrev pub Foretells : List Bool → List Token → Type 0
 Foretells table [] = Unit {0}
 Foretells table (t ∷ ts) = (slice_get table (length ts) ≡ Some (lists ts)) × Foretells table ts
@@ -18,7 +19,8 @@ abbrev pub nearest : List Bool → Bool
 nearest [] = false
 nearest (b ∷ bs) = b
 
--- the square brackets that close and are still open to the left, the nearest first, after one more token before which they stand
+-- the square brackets that close and are still open to the left, the nearest first, after one more token
+-- before which they stand
 abbrev pub met : Punctuator → Bool → List Bool → List Bool
 met marks.CloseBracket b bs = b ∷ bs
 met marks.OpenBracket b [] = []

@@ -3,6 +3,7 @@ pub mod Words
 pub mod Ahead
 pub mod Machine
 pub mod Seen
+pub mod Plans
 pub mod Pieces
 pub mod Weight
 pub mod Builds

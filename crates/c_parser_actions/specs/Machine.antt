@@ -1,4 +1,6 @@
--- The moves of the parser, over lists: what comes next, the actions of the move with the newest first, the tokens that are left and the open constructs with the newest first.
+-- No promise: the parser's own moves over lists, which the proofs compare with the grammar. A move has what
+-- comes next, its actions with the newest first, the tokens that are left and the open constructs with the
+-- newest first.
 use Rattle.std.specs.Prelude.{ℕ, ◌+◌, Bool, true, false, ◌&&◌, List, [], ◌∷◌, ◌++◌, Option, Some, None, nat_le, if◌then◌else◌}
 use Rattle.c_lexer.specs.declared.token.Sign.{Sign}
 use Rattle.c_lexer.specs.declared.token.Sign.TheVariants as signs
@@ -105,16 +107,27 @@ close m k ts K = if nat_le m k then move nexts.Value [] ts K else fail ts K
 
 -- whether an expression of level m that began at f goes on after an operand of level k
 unfoldable pub climb : After → ℕ → ℕ → ℕ → List Token → List Token → List Frame → Move
-climb (afters.Binary l s) m f k all ts K = if nat_le m l && nat_le l k then begin (l + 1) [] ts (frames.Binary l f s ∷ frames.Climb m f ∷ K) else close m k all K
-climb (afters.Assign s) m f k all ts K = if nat_le m 2 && nat_le 14 k then begin 2 [] ts (frames.Assign f s ∷ frames.Climb m f ∷ K) else close m k all K
-climb afters.Question m f k all ts K = if nat_le m 3 && nat_le 4 k then begin 1 [] ts (frames.Middle f ∷ frames.Climb m f ∷ K) else close m k all K
+climb (afters.Binary l s) m f k all ts K =
+    if nat_le m l && nat_le l k
+    then begin (l + 1) [] ts (frames.Binary l f s ∷ frames.Climb m f ∷ K)
+    else close m k all K
+climb (afters.Assign s) m f k all ts K =
+    if nat_le m 2 && nat_le 14 k
+    then begin 2 [] ts (frames.Assign f s ∷ frames.Climb m f ∷ K)
+    else close m k all K
+climb afters.Question m f k all ts K =
+    if nat_le m 3 && nat_le 4 k
+    then begin 1 [] ts (frames.Middle f ∷ frames.Climb m f ∷ K)
+    else close m k all K
 climb _ m f k all ts K = close m k all K
 
 -- the construct has its operand of level k
 unfoldable pub give : Frame → ℕ → List Token → List Frame → Move
 give (frames.Climb m f) k ts K = climb (after_at ts) m f k ts (tail ts) K
-give (frames.Prefix f s) k ts K = if nat_le 14 k then move (nexts.Done 14) (acts.Prefix f s ∷ []) ts K else fail ts K
-give (frames.Sizeof f) k ts K = if nat_le 14 k then move (nexts.Done 14) (acts.SizeofExpr f ∷ []) ts K else fail ts K
+give (frames.Prefix f s) k ts K =
+    if nat_le 14 k then move (nexts.Done 14) (acts.Prefix f s ∷ []) ts K else fail ts K
+give (frames.Sizeof f) k ts K =
+    if nat_le 14 k then move (nexts.Done 14) (acts.SizeofExpr f ∷ []) ts K else fail ts K
 give (frames.Cast f) k ts K = if nat_le 14 k then move (nexts.Done 14) (acts.Cast f ∷ []) ts K else fail ts K
 give _ k ts K = fail ts K
 
@@ -207,7 +220,8 @@ give_name _ f g n all ts K = move nexts.Direct (acts.Named g n ∷ []) ts K
 -- the first token of a declarator, all from it on, and what is after it
 unfoldable pub declr : Kind → Naming → ℕ → ℕ → List Token → List Token → List Frame → Move
 declr (kinds.Name n) g f from all ts K = give_name g f from n all ts K
-declr (kinds.Sign signs.Star) g f from all ts K = move (nexts.Declr g f) [] (skip_consts ts) (frames.Pointer from ∷ K)
+declr (kinds.Sign signs.Star) g f from all ts K =
+    move (nexts.Declr g f) [] (skip_consts ts) (frames.Pointer from ∷ K)
 declr (kinds.Sign signs.OpenParenthesis) g f from all ts K = in_group (groups g ts) g f all ts K
 declr _ g f from all ts K = unnamed g f all K
 
@@ -244,22 +258,28 @@ with_body _ _ ts K = fail ts K
 -- what follows a declarator of names, before and after the token
 unfoldable pub named : Punctuator → DeclaredIn → Bool → List Token → List Token → List Frame → Move
 named marks.Assign p first all ts K = with_value p ts K
-named marks.Comma p first all ts K = move (nexts.Declr namings.Always 0) (acts.AddName ∷ acts.Declare ∷ []) ts (frames.Names p false ∷ K)
+named marks.Comma p first all ts K =
+    move (nexts.Declr namings.Always 0) (acts.AddName ∷ acts.Declare ∷ []) ts (frames.Names p false ∷ K)
 named marks.Semicolon p first all ts K = move (end_next p) (end_acts p (acts.Declare ∷ [])) ts K
 named marks.OpenBrace p first all ts K = with_body p first all K
 named _ p first all ts K = fail all K
 
 unfoldable pub param_end : Punctuator → ℕ → List Token → List Frame → Move
-param_end marks.Comma f ts K = move nexts.Param (acts.EndSpecs ∷ acts.AddName ∷ acts.Declare ∷ []) ts (frames.Params f ∷ K)
-param_end marks.Close f ts K = move nexts.Direct (acts.Params f ∷ acts.EndSpecs ∷ acts.AddName ∷ acts.Declare ∷ []) ts K
+param_end marks.Comma f ts K =
+    move nexts.Param (acts.EndSpecs ∷ acts.AddName ∷ acts.Declare ∷ []) ts (frames.Params f ∷ K)
+param_end marks.Close f ts K =
+    move nexts.Direct (acts.Params f ∷ acts.EndSpecs ∷ acts.AddName ∷ acts.Declare ∷ []) ts K
 param_end _ f ts K = fail ts K
 
 -- the construct has its declarator, and a bracket follows
 unfoldable pub type_end : Frame → List Token → List Frame → Move
 type_end frames.Grouped ts K = move nexts.Direct [] ts K
-type_end (frames.CastType f) ts K = move nexts.Operand (acts.DropSpecs ∷ acts.Declare ∷ []) ts (frames.Cast f ∷ K)
-type_end (frames.SizeofType f) ts K = move (nexts.Done 14) (acts.SizeofType f ∷ acts.DropSpecs ∷ acts.Declare ∷ []) ts K
-type_end frames.SizeofAtom ts K = move nexts.AtomDone (acts.SizeofAtom ∷ acts.DropSpecs ∷ acts.Declare ∷ []) ts K
+type_end (frames.CastType f) ts K =
+    move nexts.Operand (acts.DropSpecs ∷ acts.Declare ∷ []) ts (frames.Cast f ∷ K)
+type_end (frames.SizeofType f) ts K =
+    move (nexts.Done 14) (acts.SizeofType f ∷ acts.DropSpecs ∷ acts.Declare ∷ []) ts K
+type_end frames.SizeofAtom ts K =
+    move nexts.AtomDone (acts.SizeofAtom ∷ acts.DropSpecs ∷ acts.Declare ∷ []) ts K
 type_end _ ts K = fail ts K
 
 unfoldable pub type_closes : Punctuator → Frame → List Token → List Frame → Move
@@ -281,7 +301,8 @@ typed (Some (b, ts)) f K = move (nexts.Declr namings.Never f) (acts.Specs b ∷ 
 
 unfoldable pub targeted : Option (Base × List Token) → Target → List Frame → Move
 targeted None g K = fail [] K
-targeted (Some (b, ts)) targets.Top K = move (nexts.Declr namings.Always 0) (acts.Specs b ∷ []) ts (frames.Names places.Top true ∷ K)
+targeted (Some (b, ts)) targets.Top K =
+    move (nexts.Declr namings.Always 0) (acts.Specs b ∷ []) ts (frames.Names places.Top true ∷ K)
 targeted (Some (b, ts)) (targets.Param f) K = move (nexts.Declr namings.Either f) (acts.Specs b ∷ []) ts K
 
 abbrev pub is_top : Target → Bool
@@ -367,7 +388,8 @@ braces_end marks.Comma f ts K = braces_on (mark_at ts) f ts (tail ts) K
 braces_end _ f ts K = fail ts K
 
 unfoldable pub init_end : Punctuator → DeclaredIn → List Token → List Frame → Move
-init_end marks.Comma p ts K = move (nexts.Declr namings.Always 0) (acts.AddName ∷ acts.DeclareValue ∷ []) ts (frames.Names p false ∷ K)
+init_end marks.Comma p ts K =
+    move (nexts.Declr namings.Always 0) (acts.AddName ∷ acts.DeclareValue ∷ []) ts (frames.Names p false ∷ K)
 init_end marks.Semicolon p ts K = move (end_next p) (end_acts p (acts.DeclareValue ∷ [])) ts K
 init_end _ p ts K = fail ts K
 
@@ -418,7 +440,10 @@ do_while f (t ∷ ts) K = do_on t.kind f ts K
 -- the construct has its statement
 unfoldable pub done : Frame → List Token → List Frame → Move
 done (frames.Block f) ts K = move nexts.Entry (acts.AddStmt ∷ []) ts (frames.Block f ∷ K)
-done (frames.IfThen f) ts K = if begins_else ts then move nexts.Stmt [] (tail ts) (frames.IfElse f ∷ K) else move nexts.StmtDone (acts.If f ∷ []) ts K
+done (frames.IfThen f) ts K =
+    if begins_else ts
+    then move nexts.Stmt [] (tail ts) (frames.IfElse f ∷ K)
+    else move nexts.StmtDone (acts.If f ∷ []) ts K
 done (frames.IfElse f) ts K = move nexts.StmtDone (acts.IfElse f ∷ []) ts K
 done (frames.WhileBody f) ts K = move nexts.StmtDone (acts.While f ∷ []) ts K
 done (frames.DoBody f) ts K = do_while f ts K
@@ -470,7 +495,8 @@ defines (t ∷ u ∷ v ∷ ts) = defines_kinds t.kind u.kind v.kind ts
 defines _ = None
 
 unfoldable pub top : Option (List ℕ × List Token) → List Token → List Frame → Move
-top (Some (n, ts)) all K = move (nexts.Names places.Member) (acts.NoDecls ∷ acts.Tag (from_of all) n ∷ []) ts (frames.Struct ∷ K)
+top (Some (n, ts)) all K =
+    move (nexts.Names places.Member) (acts.NoDecls ∷ acts.Tag (from_of all) n ∷ []) ts (frames.Struct ∷ K)
 top None all K = annotated (mark_at all) targets.Top all (tail all) K
 
 unfoldable pub tops : List Token → List Frame → Move

@@ -6,7 +6,8 @@ use Rattle.c_syntax.specs.Syntax.{Expr, Exprs, MaybeExpr, Decl, Decls, Annots, I
 use Rattle.c_parser_actions.specs.declared.action.Action.{Action}
 use Rattle.c_parser_actions.specs.declared.action.Action.TheVariants as acts
 
--- a declarator has the offset of its name, or of its declaration, beside its parts; a type has the annotations before it
+-- a declarator has the offset of its name, or of its declaration, beside its parts; a type has the
+-- annotations before it
 pub data Piece : Type 0 where
   PExpr : Expr → Piece
   PExprs : Exprs → Piece
@@ -58,8 +59,10 @@ act (acts.Params f) (PDecls ds ∷ PDeclr ps n g ∷ P) = PDeclr (Params f ds ps
 act acts.NoDecls P = PDecls NoDecls ∷ P
 act (acts.Specs b) (PAnnots an ∷ P) = PSpecs an b ∷ P
 act acts.Declare (PDeclr ps n g ∷ PSpecs an b ∷ P) = PDecl (Declare g an b ps n NoRest) ∷ PSpecs an b ∷ P
-act acts.DeclareValue (PValue v ∷ PDeclr ps n g ∷ PSpecs an b ∷ P) = PDecl (Declare g an b ps n (Initial v)) ∷ PSpecs an b ∷ P
-act acts.DeclareBody (PStmt s ∷ PDeclr ps n g ∷ PSpecs an b ∷ P) = PDecl (Declare g an b ps n (Body s)) ∷ PSpecs an b ∷ P
+act acts.DeclareValue (PValue v ∷ PDeclr ps n g ∷ PSpecs an b ∷ P) =
+    PDecl (Declare g an b ps n (Initial v)) ∷ PSpecs an b ∷ P
+act acts.DeclareBody (PStmt s ∷ PDeclr ps n g ∷ PSpecs an b ∷ P) =
+    PDecl (Declare g an b ps n (Body s)) ∷ PSpecs an b ∷ P
 act acts.AddName (PDecl d ∷ PSpecs an b ∷ PDecls ds ∷ P) = PSpecs an b ∷ PDecls (decls_then ds d) ∷ P
 act acts.EndSpecs (PSpecs an b ∷ P) = P
 act acts.DropSpecs (PDecl d ∷ PSpecs an b ∷ P) = PDecl d ∷ P
@@ -94,7 +97,8 @@ act (acts.Break f) P = PStmt (Break f) ∷ P
 act (acts.Continue f) P = PStmt (Continue f) ∷ P
 act (acts.Return f) (PMaybe x ∷ P) = PStmt (Return f x) ∷ P
 act (acts.Tag f n) P = PTag f n ∷ P
-act acts.Struct (PDecls ms ∷ PTag f n ∷ PDecls ds ∷ P) = PDecls (decls_then ds (Declare f NoAnnots (bases.Struct n) NoParts None (Members ms))) ∷ P
+act acts.Struct (PDecls ms ∷ PTag f n ∷ PDecls ds ∷ P) =
+    PDecls (decls_then ds (Declare f NoAnnots (bases.Struct n) NoParts None (Members ms))) ∷ P
 act _ P = PBroken ∷ []
 
 -- the stack after the actions, the newest of which comes first, from another

@@ -15,7 +15,8 @@ use Rattle.c_parser_actions.specs.Marks.{mark_of}
 use Rattle.c_parser_actions.specs.declared.words.Took.{Took}
 use Rattle.c_parser_actions.specs.declared.words.Took.TheVariants as tooks
 
--- what one more token does to the words of a type: no type has them, or it is none of them, or they go on, where the flag says that struct wants its name
+-- what one more token does to the words of a type: no type has them, or it is none of them, or they go on,
+-- where the flag says that struct wants its name
 pub data Step : Type 0 where
   Refused : Step
   Ended : Specifiers → Step

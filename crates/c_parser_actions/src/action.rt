@@ -3,8 +3,8 @@
 use c_lexer::{Sign, Suffix, Text};
 use c_syntax::Base;
 
-/// A step of building a tree: it takes what the steps before it made from a stack, and puts what it makes there.
-/// A number is the offset of the node's first token.
+/// A step of building a tree: it takes what the steps before it made from a stack, and puts what it makes
+/// there. A number is the offset of the node's first token.
 #[derive(Drop)]
 pub enum Action {
     Name(u32, Text),

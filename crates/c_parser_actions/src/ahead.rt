@@ -32,8 +32,8 @@ fn meet(closers: &mut Vec<bool>, mark: Punctuator, typed: bool) -> Result<(), Al
     Ok(())
 }
 
-/// At each token, by how many are left after it, whether a square bracket there is that of annotations: a type
-/// follows the one that closes it.
+/// At each token, by how many are left after it, whether a square bracket there is that of annotations: a
+/// type follows the one that closes it.
 ///
 /// One pass from the end, over which the square brackets that close wait for those that they close.
 pub fn look_ahead(alloc: Global, tokens: &[Token]) -> Result<Vec<bool>, AllocError>

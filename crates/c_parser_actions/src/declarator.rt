@@ -1,21 +1,22 @@
-// The moves over declarators, specifiers and annotations.
+// The moves over declarators, specifiers and the annotations before them.
 
-ghost use Rattle.std.specs.Prelude.{◌≡◌, ◌++◌, ◌∷◌, [], IfOk, Option, false};
-ghost use Rattle.c_parser_actions.specs.Machine.{moved, groups, unnamed, in_group, give_name, declr, params, direct, end_acts, end_next, with_value, with_body, named, param_end, type_end, type_closes, declared, annotated, typed, targeted, placed, move, named_group, is_top};
-ghost use Rattle.c_parser_actions.specs.Seen.{acts_seen, opens_seen, seen};
-ghost use Rattle.c_parser_actions.specs.Words.{lists, skip_consts, take_specs};
+ghost use Rattle.std.specs.Prelude.{◌≡◌, ◌∷◌, [], IfOk, Some, false};
+ghost use Rattle.c_parser_actions.specs.Machine.{groups, unnamed, in_group, give_name, declr, params, direct, end_acts, end_next, with_value, with_body, named, param_end, type_end, type_closes, declared, annotated, typed, targeted, placed, move, named_group, is_top};
+ghost use Rattle.c_parser_actions.specs.Plans.{Plans};
+ghost use Rattle.c_parser_actions.specs.Words.{take_specs};
 ghost use Rattle.c_parser_actions.specs.Ahead.{Foretells};
-ghost use Rattle.c_parser_actions.specs.Marks.{mark_at};
 ghost use Rattle.c_syntax.specs.Levels.{lone_void, from_of};
 
 use crate::action::Action;
 use crate::ahead::annots_follow;
 use crate::frame::{DeclaredIn, Frame, Naming, Next, Target};
 use crate::mark::{Punctuator, from_first, mark_first, void_first};
-use crate::parser::{Parser, Went, copy, skip_one};
+use crate::parser::{Parser, copy, skip_one};
+use crate::plan::{Acts, Plan};
 use crate::words::{after_consts, specs};
 use c_lexer::{Kind, Sign, Text, Token};
-use std::alloc::Global;
+use c_syntax::Base;
+use std::alloc::{AllocError, Global};
 
 fn names_group(naming: Naming) -> bool
     ensures { result ≡ named_group naming }
@@ -57,21 +58,18 @@ pub fn at_top(target: Target) -> bool
 
 impl Parser {
     #[tactic(auto, unfolding(crate::specs::Machine::unnamed))]
-    fn without_name<'a>(&mut self, naming: Naming, from: u32, rest: &'a [Token]) -> Went<'a>
-        ensures { IfOk result (λ x. seen x.0 x.1.now self.new ≡ moved (unnamed naming from rest.now (opens_seen self.old)) (acts_seen self.old)) }
+    fn without_name<'a>(&self, naming: Naming, from: u32, rest: &'a [Token]) -> Plan<'a>
+        ensures { Plans result self.now (unnamed naming from rest.now) }
     {
         match naming {
-            Naming::Always => Ok((Next::Fail, rest)),
-            _ => {
-                self.emit(Action::Nameless(from))?;
-                Ok((Next::Direct, rest))
-            }
+            Naming::Always => self.refuse(rest),
+            _ => self.plan(Acts::One(Action::Nameless(from)), Next::Direct, rest),
         }
     }
 
     #[tactic(auto, unfolding(crate::specs::Machine::give_name))]
     fn with_name<'a>(
-        &mut self,
+        &self,
         alloc: Global,
         naming: Naming,
         from: u32,
@@ -79,33 +77,32 @@ impl Parser {
         name: &Text,
         whole: &'a [Token],
         rest: &'a [Token],
-    ) -> Went<'a>
-        ensures { IfOk result (λ x. seen x.0 x.1.now self.new ≡ moved (give_name naming from at name.now whole.now rest.now (opens_seen self.old)) (acts_seen self.old)) }
+    ) -> Result<Plan<'a>, AllocError>
+        ensures { IfOk result (λ p. Plans p self.now (give_name naming from at name.now whole.now rest.now)) }
     {
         match naming {
-            Naming::Never => self.without_name(naming, from, whole),
+            Naming::Never => Ok(self.without_name(naming, from, whole)),
             _ => {
-                self.emit(Action::Named(at, copy(alloc, name)?))?;
-                Ok((Next::Direct, rest))
+                let name = copy(alloc, name)?;
+                Ok(self.plan(Acts::One(Action::Named(at, name)), Next::Direct, rest))
             }
         }
     }
 
     #[tactic(auto, unfolding(crate::specs::Machine::in_group))]
     fn in_brackets<'a>(
-        &mut self,
+        &self,
         ahead: &[bool],
         naming: Naming,
         from: u32,
         whole: &'a [Token],
         rest: &'a [Token],
-    ) -> Went<'a>
+    ) -> Plan<'a>
         requires { Foretells ahead.now rest.now }
-        ensures { IfOk result (λ x. seen x.0 x.1.now self.new ≡ moved (in_group (groups naming rest.now) naming from whole.now rest.now (opens_seen self.old)) (acts_seen self.old)) }
+        ensures { Plans result self.now (in_group (groups naming rest.now) naming from whole.now rest.now) }
     {
         if opens_group(ahead, naming, rest) {
-            self.open(Frame::Grouped)?;
-            Ok((Next::Declr(naming, from), rest))
+            self.plan_open(Acts::None, Frame::Grouped, Next::Declr(naming, from), rest)
         } else {
             self.without_name(naming, from, whole)
         }
@@ -113,7 +110,7 @@ impl Parser {
 
     #[tactic(auto, unfolding(crate::specs::Machine::declr))]
     pub fn start_declr<'a>(
-        &mut self,
+        &self,
         alloc: Global,
         ahead: &[bool],
         naming: Naming,
@@ -121,279 +118,289 @@ impl Parser {
         first: &'a Token,
         whole: &'a [Token],
         rest: &'a [Token],
-    ) -> Went<'a>
+    ) -> Result<Plan<'a>, AllocError>
         requires { Foretells ahead.now rest.now }
-        ensures { IfOk result (λ x. seen x.0 x.1.now self.new ≡ moved (declr first.now.kind naming from first.now.from whole.now rest.now (opens_seen self.old)) (acts_seen self.old)) }
+        ensures { IfOk result
+            (λ p. Plans p self.now (declr first.now.kind naming from first.now.from whole.now rest.now)) }
     {
         match &first.kind {
             Kind::Name(name) => self.with_name(alloc, naming, from, first.from, name, whole, rest),
             Kind::Sign(Sign::Star) => {
-                self.open(Frame::Pointer(first.from))?;
-                Ok((Next::Declr(naming, from), after_consts(rest)))
+                let next = Next::Declr(naming, from);
+                Ok(self.plan_open(
+                    Acts::None,
+                    Frame::Pointer(first.from),
+                    next,
+                    after_consts(rest),
+                ))
             }
-            Kind::Sign(Sign::OpenParenthesis) => self.in_brackets(ahead, naming, from, whole, rest),
-            _ => self.without_name(naming, from, whole),
+            Kind::Sign(Sign::OpenParenthesis) => Ok(self.in_brackets(
+                ahead, naming, from, whole, rest,
+            )),
+            _ => Ok(self.without_name(naming, from, whole)),
         }
     }
 
     #[tactic(auto, unfolding(crate::specs::Machine::params))]
-    fn start_params<'a>(&mut self, from: u32, rest: &'a [Token]) -> Went<'a>
-        ensures { IfOk result (λ x. seen x.0 x.1.now self.new ≡ moved (params (lone_void rest.now) from rest.now (opens_seen self.old)) (acts_seen self.old)) }
+    fn start_params<'a>(&self, from: u32, rest: &'a [Token]) -> Plan<'a>
+        ensures { Plans result self.now (params (lone_void rest.now) from rest.now) }
     {
-        self.emit(Action::NoDecls)?;
         if void_first(rest) {
-            self.emit(Action::Params(from))?;
-            Ok((Next::Direct, skip_one(skip_one(rest))))
+            let acts = Acts::Two(Action::NoDecls, Action::Params(from));
+            self.plan(acts, Next::Direct, skip_one(skip_one(rest)))
         } else {
-            self.open(Frame::Params(from))?;
-            Ok((Next::Param, rest))
+            let acts = Acts::One(Action::NoDecls);
+            self.plan_open(acts, Frame::Params(from), Next::Param, rest)
         }
     }
 
     #[tactic(auto, unfolding(crate::specs::Machine::direct))]
     pub fn after_direct<'a>(
-        &mut self,
+        &self,
         what: Punctuator,
         from: u32,
         whole: &'a [Token],
         rest: &'a [Token],
-    ) -> Went<'a>
-        ensures { IfOk result (λ x. seen x.0 x.1.now self.new ≡ moved (direct what from whole.now rest.now (opens_seen self.old)) (acts_seen self.old)) }
+    ) -> Plan<'a>
+        ensures { Plans result self.now (direct what from whole.now rest.now) }
     {
         match what {
-            Punctuator::OpenBracket => {
-                self.open(Frame::Length(from))?;
-                self.begin(3, rest)
-            }
+            Punctuator::OpenBracket => self.plan_begin(Acts::None, Frame::Length(from), 3, rest),
             Punctuator::Open => self.start_params(from, rest),
-            _ => Ok((Next::DeclrDone, whole)),
+            _ => self.plan(Acts::None, Next::DeclrDone, whole),
         }
     }
 
-    pub fn end_names<'a>(&mut self, place: DeclaredIn, last: Action, rest: &'a [Token]) -> Went<'a>
-        ensures { IfOk result (λ x. seen x.0 x.1.now self.new ≡ moved (move (end_next place) (end_acts place (last ∷ [])) rest.now (opens_seen self.old)) (acts_seen self.old)) }
+    /// The last of the names is declared by this action, and they end.
+    pub fn end_names<'a>(&self, place: DeclaredIn, last: Action, rest: &'a [Token]) -> Plan<'a>
+        ensures { Plans result self.now (move (end_next place) (end_acts place (last ∷ [])) rest.now) }
     {
-        self.emit(last)?;
-        self.emit(Action::AddName)?;
-        self.emit(Action::EndSpecs)?;
+        let name = Action::AddName;
+        let end = Action::EndSpecs;
         match place {
-            DeclaredIn::Top => Ok((Next::Top, rest)),
+            DeclaredIn::Top => self.plan(Acts::Three(last, name, end), Next::Top, rest),
             DeclaredIn::Local => {
-                self.emit(Action::AddLocal)?;
-                Ok((Next::Entry, rest))
+                self.plan(
+                    Acts::Four(last, name, end, Action::AddLocal),
+                    Next::Entry,
+                    rest,
+                )
             }
             DeclaredIn::For(from) => {
-                self.emit(Action::LocalFirst)?;
-                Ok((Next::ForTest(from), rest))
+                let acts = Acts::Four(last, name, end, Action::LocalFirst);
+                self.plan(acts, Next::ForTest(from), rest)
             }
-            DeclaredIn::Member => Ok((Next::MemberEnd, rest)),
+            DeclaredIn::Member => self.plan(Acts::Three(last, name, end), Next::MemberEnd, rest),
         }
     }
 
     #[tactic(auto, unfolding(crate::specs::Machine::with_value))]
-    fn start_value<'a>(&mut self, place: DeclaredIn, rest: &'a [Token]) -> Went<'a>
-        ensures { IfOk result (λ x. seen x.0 x.1.now self.new ≡ moved (with_value place rest.now (opens_seen self.old)) (acts_seen self.old)) }
+    fn start_value<'a>(&self, place: DeclaredIn, rest: &'a [Token]) -> Plan<'a>
+        ensures { Plans result self.now (with_value place rest.now) }
     {
         match place {
-            DeclaredIn::Member => Ok((Next::Fail, rest)),
-            _ => {
-                self.open(Frame::Init(place))?;
-                Ok((Next::Initial, rest))
-            }
+            DeclaredIn::Member => self.refuse(rest),
+            _ => self.plan_open(Acts::None, Frame::Init(place), Next::Initial, rest),
         }
     }
 
     #[tactic(auto, unfolding(crate::specs::Machine::with_body))]
-    fn start_body<'a>(&mut self, place: DeclaredIn, first: bool, rest: &'a [Token]) -> Went<'a>
-        ensures { IfOk result (λ x. seen x.0 x.1.now self.new ≡ moved (with_body place first rest.now (opens_seen self.old)) (acts_seen self.old)) }
+    fn start_body<'a>(&self, place: DeclaredIn, first: bool, rest: &'a [Token]) -> Plan<'a>
+        ensures { Plans result self.now (with_body place first rest.now) }
     {
         match (place, first) {
-            (DeclaredIn::Top, true) => {
-                self.open(Frame::Body)?;
-                Ok((Next::Stmt, rest))
-            }
-            _ => Ok((Next::Fail, rest)),
+            (DeclaredIn::Top, true) => self.plan_open(Acts::None, Frame::Body, Next::Stmt, rest),
+            _ => self.refuse(rest),
         }
     }
 
     #[tactic(auto, unfolding(crate::specs::Machine::named))]
     fn after_name<'a>(
-        &mut self,
+        &self,
         what: Punctuator,
         place: DeclaredIn,
         first: bool,
         whole: &'a [Token],
         rest: &'a [Token],
-    ) -> Went<'a>
-        ensures { IfOk result (λ x. seen x.0 x.1.now self.new ≡ moved (named what place first whole.now rest.now (opens_seen self.old)) (acts_seen self.old)) }
+    ) -> Plan<'a>
+        ensures { Plans result self.now (named what place first whole.now rest.now) }
     {
         match what {
             Punctuator::Assign => self.start_value(place, rest),
             Punctuator::Comma => {
-                self.emit(Action::Declare)?;
-                self.emit(Action::AddName)?;
-                self.open(Frame::Names(place, false))?;
-                Ok((Next::Declr(Naming::Always, 0), rest))
+                let acts = Acts::Two(Action::Declare, Action::AddName);
+                let next = Next::Declr(Naming::Always, 0);
+                self.plan_open(acts, Frame::Names(place, false), next, rest)
             }
             Punctuator::Semicolon => self.end_names(place, Action::Declare, rest),
             Punctuator::OpenBrace => self.start_body(place, first, whole),
-            _ => Ok((Next::Fail, whole)),
+            _ => self.refuse(whole),
         }
     }
 
     #[tactic(auto, unfolding(crate::specs::Machine::param_end))]
-    fn after_param<'a>(&mut self, what: Punctuator, from: u32, rest: &'a [Token]) -> Went<'a>
-        ensures { IfOk result (λ x. seen x.0 x.1.now self.new ≡ moved (param_end what from rest.now (opens_seen self.old)) (acts_seen self.old)) }
+    fn after_param<'a>(&self, what: Punctuator, from: u32, rest: &'a [Token]) -> Plan<'a>
+        ensures { Plans result self.now (param_end what from rest.now) }
     {
+        let declare = Action::Declare;
+        let name = Action::AddName;
+        let end = Action::EndSpecs;
         match what {
             Punctuator::Comma => {
-                self.emit(Action::Declare)?;
-                self.emit(Action::AddName)?;
-                self.emit(Action::EndSpecs)?;
-                self.open(Frame::Params(from))?;
-                Ok((Next::Param, rest))
+                let acts = Acts::Three(declare, name, end);
+                self.plan_open(acts, Frame::Params(from), Next::Param, rest)
             }
             Punctuator::Close => {
-                self.emit(Action::Declare)?;
-                self.emit(Action::AddName)?;
-                self.emit(Action::EndSpecs)?;
-                self.emit(Action::Params(from))?;
-                Ok((Next::Direct, rest))
+                let acts = Acts::Four(declare, name, end, Action::Params(from));
+                self.plan(acts, Next::Direct, rest)
             }
-            _ => Ok((Next::Fail, rest)),
+            _ => self.refuse(rest),
         }
     }
 
     #[tactic(auto, unfolding(crate::specs::Machine::type_end))]
-    fn end_type<'a>(&mut self, frame: Frame, rest: &'a [Token]) -> Went<'a>
-        ensures { IfOk result (λ x. seen x.0 x.1.now self.new ≡ moved (type_end frame rest.now (opens_seen self.old)) (acts_seen self.old)) }
+    fn end_type<'a>(&self, frame: Frame, rest: &'a [Token]) -> Plan<'a>
+        ensures { Plans result self.now (type_end frame rest.now) }
     {
         match frame {
-            Frame::Grouped => Ok((Next::Direct, rest)),
+            Frame::Grouped => self.plan(Acts::None, Next::Direct, rest),
             Frame::CastType(from) => {
-                self.emit(Action::Declare)?;
-                self.emit(Action::DropSpecs)?;
-                self.open(Frame::Cast(from))?;
-                Ok((Next::Operand, rest))
+                let acts = Acts::Two(Action::Declare, Action::DropSpecs);
+                self.plan_open(acts, Frame::Cast(from), Next::Operand, rest)
             }
             Frame::SizeofType(from) => {
-                self.emit(Action::Declare)?;
-                self.emit(Action::DropSpecs)?;
-                self.emit(Action::SizeofType(from))?;
-                Ok((Next::Done(14), rest))
+                let size = Action::SizeofType(from);
+                let acts = Acts::Three(Action::Declare, Action::DropSpecs, size);
+                self.plan(acts, Next::Done(14), rest)
             }
             Frame::SizeofAtom => {
-                self.emit(Action::Declare)?;
-                self.emit(Action::DropSpecs)?;
-                self.emit(Action::SizeofAtom)?;
-                Ok((Next::AtomDone, rest))
+                let acts = Acts::Three(Action::Declare, Action::DropSpecs, Action::SizeofAtom);
+                self.plan(acts, Next::AtomDone, rest)
             }
-            _ => Ok((Next::Fail, rest)),
+            _ => self.refuse(rest),
         }
     }
 
     #[tactic(auto, unfolding(crate::specs::Machine::type_closes))]
-    fn close_type<'a>(&mut self, what: Punctuator, frame: Frame, rest: &'a [Token]) -> Went<'a>
-        ensures { IfOk result (λ x. seen x.0 x.1.now self.new ≡ moved (type_closes what frame rest.now (opens_seen self.old)) (acts_seen self.old)) }
+    fn close_type<'a>(&self, what: Punctuator, frame: Frame, rest: &'a [Token]) -> Plan<'a>
+        ensures { Plans result self.now (type_closes what frame rest.now) }
     {
         match what {
             Punctuator::Close => self.end_type(frame, rest),
-            _ => Ok((Next::Fail, rest)),
+            _ => self.refuse(rest),
         }
     }
 
     #[tactic(auto, unfolding(crate::specs::Machine::declared))]
-    pub fn give_declr<'a>(&mut self, frame: Frame, rest: &'a [Token]) -> Went<'a>
-        ensures { IfOk result (λ x. seen x.0 x.1.now self.new ≡ moved (declared frame rest.now (opens_seen self.old)) (acts_seen self.old)) }
+    pub fn give_declr<'a>(&self, frame: Frame, rest: &'a [Token]) -> Plan<'a>
+        ensures { Plans result self.now (declared frame rest.now) }
     {
+        let mark = mark_first(rest);
+        let others = skip_one(rest);
         match frame {
             Frame::Pointer(from) => {
-                self.emit(Action::Pointer(from))?;
-                Ok((Next::DeclrDone, rest))
+                self.plan(Acts::One(Action::Pointer(from)), Next::DeclrDone, rest)
             }
-            Frame::Names(place, first) => {
-                self.after_name(mark_first(rest), place, first, rest, skip_one(rest))
-            }
-            Frame::Params(from) => self.after_param(mark_first(rest), from, skip_one(rest)),
-            _ => self.close_type(mark_first(rest), frame, skip_one(rest)),
+            Frame::Names(place, first) => self.after_name(mark, place, first, rest, others),
+            Frame::Params(from) => self.after_param(mark, from, others),
+            _ => self.close_type(mark, frame, others),
         }
     }
 
     #[tactic(auto, unfolding(crate::specs::Machine::typed))]
-    pub fn start_type<'a>(&mut self, alloc: Global, rest: &'a [Token]) -> Went<'a>
-        ensures { IfOk result (λ x. seen x.0 x.1.now self.new ≡ moved (typed (take_specs false rest.now) (from_of rest.now) (opens_seen self.old)) (acts_seen self.old)) }
+    pub fn start_type<'a>(&self, alloc: Global, rest: &'a [Token]) -> Result<Plan<'a>, AllocError>
+        ensures { IfOk result (λ p. Plans p self.now (typed (take_specs false rest.now) (from_of rest.now))) }
     {
         let from = from_first(rest);
         match specs(alloc, false, rest)? {
-            None => Ok((Next::Fail, &rest[rest.len()..])),
+            None => Ok(self.refuse(&rest[rest.len()..])),
             Some((base, others)) => {
-                self.emit(Action::NoAnnots)?;
-                self.emit(Action::Specs(base))?;
-                Ok((Next::Declr(Naming::Never, from), others))
+                let acts = Acts::Two(Action::NoAnnots, Action::Specs(base));
+                Ok(self.plan(acts, Next::Declr(Naming::Never, from), others))
             }
         }
     }
 
     #[tactic(auto, unfolding(crate::specs::Machine::targeted))]
-    pub fn start_target<'a>(&mut self, alloc: Global, target: Target, rest: &'a [Token]) -> Went<'a>
-        ensures { IfOk result (λ x. seen x.0 x.1.now self.new ≡ moved (targeted (take_specs (is_top target) rest.now) target (opens_seen self.old)) (acts_seen self.old)) }
+    fn begin_target<'a>(&self, base: Base, target: Target, rest: &'a [Token]) -> Plan<'a>
+        ensures { Plans result self.now (targeted (Some (base, rest.now)) target) }
+    {
+        let acts = Acts::One(Action::Specs(base));
+        match target {
+            Target::Top => {
+                let next = Next::Declr(Naming::Always, 0);
+                self.plan_open(acts, Frame::Names(DeclaredIn::Top, true), next, rest)
+            }
+            Target::Param(from) => self.plan(acts, Next::Declr(Naming::Either, from), rest),
+        }
+    }
+
+    #[tactic(auto, unfolding(crate::specs::Machine::targeted))]
+    pub fn start_target<'a>(
+        &self,
+        alloc: Global,
+        target: Target,
+        rest: &'a [Token],
+    ) -> Result<Plan<'a>, AllocError>
+        ensures { IfOk result
+            (λ p. Plans p self.now (targeted (take_specs (is_top target) rest.now) target)) }
     {
         match specs(alloc, at_top(target), rest)? {
-            None => Ok((Next::Fail, &rest[rest.len()..])),
-            Some((base, others)) => {
-                self.emit(Action::Specs(base))?;
-                match target {
-                    Target::Top => {
-                        self.open(Frame::Names(DeclaredIn::Top, true))?;
-                        Ok((Next::Declr(Naming::Always, 0), others))
-                    }
-                    Target::Param(from) => Ok((Next::Declr(Naming::Either, from), others)),
-                }
+            None => Ok(self.refuse(&rest[rest.len()..])),
+            Some((base, others)) => Ok(self.begin_target(base, target, others)),
+        }
+    }
+
+    /// Names are to be read that share this type.
+    #[tactic(auto, unfolding(crate::specs::Machine::placed))]
+    fn begin_names<'a>(&self, base: Base, place: DeclaredIn, rest: &'a [Token]) -> Plan<'a>
+        ensures { Plans result self.now (placed (Some (base, rest.now)) place) }
+    {
+        let specs = Action::Specs(base);
+        let next = Next::Declr(Naming::Always, 0);
+        match place {
+            DeclaredIn::Member => {
+                let acts = Acts::Two(Action::NoAnnots, specs);
+                self.plan_open(acts, Frame::Names(place, true), next, rest)
+            }
+            _ => {
+                let acts = Acts::Three(Action::NoDecls, Action::NoAnnots, specs);
+                self.plan_open(acts, Frame::Names(place, true), next, rest)
             }
         }
     }
 
     #[tactic(auto, unfolding(crate::specs::Machine::placed))]
     pub fn start_names<'a>(
-        &mut self,
+        &self,
         alloc: Global,
         place: DeclaredIn,
         rest: &'a [Token],
-    ) -> Went<'a>
-        ensures { IfOk result (λ x. seen x.0 x.1.now self.new ≡ moved (placed (take_specs false rest.now) place (opens_seen self.old)) (acts_seen self.old)) }
+    ) -> Result<Plan<'a>, AllocError>
+        ensures { IfOk result (λ p. Plans p self.now (placed (take_specs false rest.now) place)) }
     {
         match specs(alloc, false, rest)? {
-            None => Ok((Next::Fail, &rest[rest.len()..])),
-            Some((base, others)) => {
-                match place {
-                    DeclaredIn::Member => {}
-                    _ => self.emit(Action::NoDecls)?,
-                }
-                self.emit(Action::NoAnnots)?;
-                self.emit(Action::Specs(base))?;
-                self.open(Frame::Names(place, true))?;
-                Ok((Next::Declr(Naming::Always, 0), others))
-            }
+            None => Ok(self.refuse(&rest[rest.len()..])),
+            Some((base, others)) => Ok(self.begin_names(base, place, others)),
         }
     }
 
     #[tactic(auto, unfolding(crate::specs::Machine::annotated))]
     pub fn start_annotated<'a>(
-        &mut self,
+        &self,
         what: Punctuator,
         target: Target,
         whole: &'a [Token],
         rest: &'a [Token],
-    ) -> Went<'a>
-        ensures { IfOk result (λ x. seen x.0 x.1.now self.new ≡ moved (annotated what target whole.now rest.now (opens_seen self.old)) (acts_seen self.old)) }
+    ) -> Plan<'a>
+        ensures { Plans result self.now (annotated what target whole.now rest.now) }
     {
-        self.emit(Action::NoAnnots)?;
+        let acts = Acts::One(Action::NoAnnots);
         match what {
             Punctuator::OpenBracket => {
-                self.open(Frame::Annots(target))?;
-                Ok((Next::Annot, rest))
+                self.plan_open(acts, Frame::Annots(target), Next::Annot, rest)
             }
-            _ => Ok((Next::Specs(target), whole)),
+            _ => self.plan(acts, Next::Specs(target), whole),
         }
     }
 }

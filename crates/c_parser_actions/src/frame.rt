@@ -28,7 +28,8 @@ pub enum DeclaredIn {
     Member,
 }
 
-/// A construct that is open. A number is the offset of its first token, or of the sign that it is named after.
+/// A construct that is open. A number is the offset of its first token, or of the sign that it is named
+/// after.
 #[derive(Clone, Copy)]
 pub enum Frame {
     /// An expression of this level or a tighter one, which began there.

@@ -11,6 +11,7 @@ mod initial;
 mod law;
 mod mark;
 mod parser;
+mod plan;
 mod postfix;
 mod refusal;
 mod statement;

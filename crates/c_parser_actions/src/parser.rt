@@ -1,12 +1,13 @@
 // The state of the parser.
 
-ghost use Rattle.std.specs.Prelude.{◌≡◌, ◌++◌, ◌∷◌, [], OnOk, IfOk, MatchOption, reverse};
-ghost use Rattle.c_parser_actions.specs.Machine.{begin, moved, tail, fail};
-ghost use Rattle.c_parser_actions.specs.Seen.{acts_seen, opens_seen, seen};
+ghost use Rattle.std.specs.Prelude.{◌≡◌, ◌++◌, ◌∷◌, [], OnOk, IfOk, reverse};
+ghost use Rattle.c_parser_actions.specs.Machine.{tail};
+ghost use Rattle.c_parser_actions.specs.Plans.{acts_of, opens_of, planned};
+ghost use Rattle.c_parser_actions.specs.Seen.{Goes, IsTop, acts_seen, opens_seen};
 
 use crate::action::Action;
 use crate::frame::{Frame, Next};
-use crate::mark::from_first;
+use crate::plan::{Acts, Opens, Plan};
 use c_lexer::{Text, Token};
 use std::alloc::{AllocError, Global};
 
@@ -32,7 +33,7 @@ impl Parser {
 
     /// The construct that was opened last.
     pub fn pop(&mut self) -> Option<Frame>
-        ensures opens { MatchOption result ((opens_seen self.old ≡ []) × (opens_seen self.new ≡ [])) (λ f. opens_seen self.old ≡ f ∷ opens_seen self.new) }
+        ensures opens { IsTop result (opens_seen self.old) (opens_seen self.new) }
         ensures acts { acts_seen self.new ≡ acts_seen self.old }
     {
         self.frames.pop()
@@ -51,6 +52,68 @@ impl Parser {
         Ok(())
     }
 
+    fn emit_two(&mut self, first: Action, second: Action) -> Result<(), AllocError>
+        ensures acts { OnOk result (acts_seen self.new ≡ second ∷ first ∷ acts_seen self.old) }
+        ensures opens { OnOk result (opens_seen self.new ≡ opens_seen self.old) }
+    {
+        self.emit(first)?;
+        self.emit(second)
+    }
+
+    fn emit_three(&mut self, first: Action, second: Action, third: Action) -> Result<(), AllocError>
+        ensures acts { OnOk result (acts_seen self.new ≡ third ∷ second ∷ first ∷ acts_seen self.old) }
+        ensures opens { OnOk result (opens_seen self.new ≡ opens_seen self.old) }
+    {
+        self.emit_two(first, second)?;
+        self.emit(third)
+    }
+
+    fn emit_all(&mut self, acts: Acts) -> Result<(), AllocError>
+        ensures acts { OnOk result (acts_seen self.new ≡ acts_of acts ++ acts_seen self.old) }
+        ensures opens { OnOk result (opens_seen self.new ≡ opens_seen self.old) }
+    {
+        match acts {
+            Acts::None => Ok(()),
+            Acts::One(first) => self.emit(first),
+            Acts::Two(first, second) => self.emit_two(first, second),
+            Acts::Three(first, second, third) => self.emit_three(first, second, third),
+            Acts::Four(first, second, third, fourth) => {
+                self.emit_three(first, second, third)?;
+                self.emit(fourth)
+            }
+        }
+    }
+
+    #[tactic(auto, unfolding(crate::specs::Plans::opens_of))]
+    fn open_all(&mut self, opens: Opens) -> Result<(), AllocError>
+        ensures opens { OnOk result (opens_seen self.new ≡ opens_of opens (opens_seen self.old)) }
+        ensures acts { OnOk result (acts_seen self.new ≡ acts_seen self.old) }
+    {
+        match opens {
+            Opens::None => Ok(()),
+            Opens::One(first) => self.open(first),
+            Opens::Two(first, second) => {
+                self.open(first)?;
+                self.open(second)
+            }
+            Opens::Three(first, second, third) => {
+                self.open(first)?;
+                self.open(second)?;
+                self.open(third)
+            }
+        }
+    }
+
+    /// Does what is to be done.
+    #[tactic(auto, unfolding(crate::specs::Plans::planned))]
+    pub fn go<'a>(&mut self, plan: Plan<'a>) -> Went<'a>
+        ensures { Goes result self.old self.new (planned plan.entry) }
+    {
+        self.emit_all(plan.acts)?;
+        self.open_all(plan.opens)?;
+        Ok((plan.next, plan.rest))
+    }
+
     /// The actions, in order.
     #[tactic(auto, unfolding(crate::specs::Seen::acts_seen))]
     pub fn into_actions(self) -> Vec<Action>
@@ -58,14 +121,6 @@ impl Parser {
     {
         let Parser { actions, frames: _ } = self;
         actions
-    }
-
-    /// An expression of this level is to be read.
-    pub fn begin<'a>(&mut self, level: u8, rest: &'a [Token]) -> Went<'a>
-        ensures { IfOk result (λ x. seen x.0 x.1.now self.new ≡ moved (begin level [] rest.now (opens_seen self.old)) (acts_seen self.old)) }
-    {
-        self.open(Frame::Climb(level, from_first(rest)))?;
-        Ok((Next::Operand, rest))
     }
 }
 

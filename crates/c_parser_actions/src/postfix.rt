@@ -15,8 +15,8 @@ use std::alloc::{AllocError, Global};
 /// Why tokens have no postfix form.
 #[derive(Drop)]
 pub enum PostfixError {
-    /// No source of the grammar has these tokens. The offset is that of the first token that can't go on, or of the
-    /// end of the last one.
+    /// No source of the grammar has these tokens. The offset is that of the first token that can't go on, or
+    /// of the end of the last one.
     Token(u32),
     Memory,
 }

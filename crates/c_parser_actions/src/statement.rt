@@ -1,183 +1,212 @@
 // The moves over statements.
 
-ghost use Rattle.std.specs.Prelude.{◌≡◌, ◌++◌, ◌∷◌, [], IfOk};
-ghost use Rattle.c_parser_actions.specs.Machine.{moved, condition, for_head, leaf, returned, stmt, do_on, do_while, done, block_end, entry, for_first, for_test, for_step};
-ghost use Rattle.c_parser_actions.specs.Seen.{acts_seen, opens_seen, seen};
+ghost use Rattle.c_parser_actions.specs.Machine.{condition, for_head, leaf, returned, stmt, do_while, done, block_end, entry, for_first, for_test, for_step};
+ghost use Rattle.c_parser_actions.specs.Plans.{Plans};
+ghost use Rattle.c_parser_actions.specs.Seen.{Goes};
 
 use crate::action::Action;
 use crate::frame::{DeclaredIn, Frame, Next};
 use crate::mark::{Begin, Punctuator, else_first, mark_first};
 use crate::parser::{Parser, Went, skip_one};
+use crate::plan::{Acts, Plan};
 use c_lexer::{Kind, Token, Word};
 
 impl Parser {
     #[tactic(auto, unfolding(crate::specs::Machine::condition))]
-    fn start_condition<'a>(&mut self, what: Punctuator, frame: Frame, rest: &'a [Token]) -> Went<'a>
-        ensures { IfOk result (λ x. seen x.0 x.1.now self.new ≡ moved (condition what frame rest.now (opens_seen self.old)) (acts_seen self.old)) }
+    fn start_condition<'a>(&self, what: Punctuator, frame: Frame, rest: &'a [Token]) -> Plan<'a>
+        ensures { Plans result self.now (condition what frame rest.now) }
     {
         match what {
-            Punctuator::Open => {
-                self.open(frame)?;
-                self.begin(1, rest)
-            }
-            _ => Ok((Next::Fail, rest)),
+            Punctuator::Open => self.plan_begin(Acts::None, frame, 1, rest),
+            _ => self.refuse(rest),
         }
     }
 
     #[tactic(auto, unfolding(crate::specs::Machine::for_head))]
-    fn start_for<'a>(&mut self, what: Punctuator, from: u32, rest: &'a [Token]) -> Went<'a>
-        ensures { IfOk result (λ x. seen x.0 x.1.now self.new ≡ moved (for_head what from rest.now (opens_seen self.old)) (acts_seen self.old)) }
+    fn start_for<'a>(&self, what: Punctuator, from: u32, rest: &'a [Token]) -> Plan<'a>
+        ensures { Plans result self.now (for_head what from rest.now) }
     {
         match what {
-            Punctuator::Open => Ok((Next::ForFirst(from), rest)),
-            _ => Ok((Next::Fail, rest)),
+            Punctuator::Open => self.plan(Acts::None, Next::ForFirst(from), rest),
+            _ => self.refuse(rest),
         }
     }
 
     #[tactic(auto, unfolding(crate::specs::Machine::leaf))]
-    fn end_leaf<'a>(&mut self, what: Punctuator, action: Action, rest: &'a [Token]) -> Went<'a>
-        ensures { IfOk result (λ x. seen x.0 x.1.now self.new ≡ moved (leaf what action rest.now (opens_seen self.old)) (acts_seen self.old)) }
+    fn end_leaf<'a>(&self, what: Punctuator, action: Action, rest: &'a [Token]) -> Plan<'a>
+        ensures { Plans result self.now (leaf what action rest.now) }
     {
         match what {
-            Punctuator::Semicolon => {
-                self.emit(action)?;
-                Ok((Next::StmtDone, rest))
-            }
-            _ => Ok((Next::Fail, rest)),
+            Punctuator::Semicolon => self.plan(Acts::One(action), Next::StmtDone, rest),
+            _ => self.refuse(rest),
         }
     }
 
     #[tactic(auto, unfolding(crate::specs::Machine::returned))]
     fn start_return<'a>(
-        &mut self,
+        &self,
         what: Punctuator,
         from: u32,
         whole: &'a [Token],
         rest: &'a [Token],
-    ) -> Went<'a>
-        ensures { IfOk result (λ x. seen x.0 x.1.now self.new ≡ moved (returned what from whole.now rest.now (opens_seen self.old)) (acts_seen self.old)) }
+    ) -> Plan<'a>
+        ensures { Plans result self.now (returned what from whole.now rest.now) }
     {
         match what {
             Punctuator::Semicolon => {
-                self.emit(Action::NoExpr)?;
-                self.emit(Action::Return(from))?;
-                Ok((Next::StmtDone, rest))
+                let acts = Acts::Two(Action::NoExpr, Action::Return(from));
+                self.plan(acts, Next::StmtDone, rest)
             }
-            _ => {
-                self.open(Frame::Return(from))?;
-                self.begin(1, whole)
-            }
+            _ => self.plan_begin(Acts::None, Frame::Return(from), 1, whole),
         }
     }
 
     #[tactic(auto, unfolding(crate::specs::Machine::stmt))]
     pub fn start_stmt<'a>(
-        &mut self,
+        &self,
         what: Begin,
         from: u32,
         whole: &'a [Token],
         rest: &'a [Token],
-    ) -> Went<'a>
-        ensures { IfOk result (λ x. seen x.0 x.1.now self.new ≡ moved (stmt what from whole.now rest.now (opens_seen self.old)) (acts_seen self.old)) }
+    ) -> Plan<'a>
+        ensures { Plans result self.now (stmt what from whole.now rest.now) }
     {
+        let mark = mark_first(rest);
+        let others = skip_one(rest);
         match what {
             Begin::Empty => {
-                self.emit(Action::NoExpr)?;
-                self.emit(Action::Expression(from))?;
-                Ok((Next::StmtDone, rest))
+                let acts = Acts::Two(Action::NoExpr, Action::Expression(from));
+                self.plan(acts, Next::StmtDone, rest)
             }
             Begin::Block => {
-                self.emit(Action::NoEntries)?;
-                self.open(Frame::Block(from))?;
-                Ok((Next::Entry, rest))
+                let acts = Acts::One(Action::NoEntries);
+                self.plan_open(acts, Frame::Block(from), Next::Entry, rest)
             }
-            Begin::If => self.start_condition(
-                mark_first(rest),
-                Frame::IfCond(from),
-                skip_one(rest),
-            ),
-            Begin::While => {
-                self.start_condition(mark_first(rest), Frame::WhileCond(from), skip_one(rest))
-            }
-            Begin::Do => {
-                self.open(Frame::DoBody(from))?;
-                Ok((Next::Stmt, rest))
-            }
-            Begin::For => self.start_for(mark_first(rest), from, skip_one(rest)),
-            Begin::Break => self.end_leaf(mark_first(rest), Action::Break(from), skip_one(rest)),
-            Begin::Continue => self.end_leaf(
-                mark_first(rest),
-                Action::Continue(from),
-                skip_one(rest),
-            ),
-            Begin::Return => self.start_return(mark_first(rest), from, rest, skip_one(rest)),
-            Begin::Other => {
-                self.open(Frame::Expression(from))?;
-                self.begin(1, whole)
-            }
+            Begin::If => self.start_condition(mark, Frame::IfCond(from), others),
+            Begin::While => self.start_condition(mark, Frame::WhileCond(from), others),
+            Begin::Do => self.plan_open(Acts::None, Frame::DoBody(from), Next::Stmt, rest),
+            Begin::For => self.start_for(mark, from, others),
+            Begin::Break => self.end_leaf(mark, Action::Break(from), others),
+            Begin::Continue => self.end_leaf(mark, Action::Continue(from), others),
+            Begin::Return => self.start_return(mark, from, rest, others),
+            Begin::Other => self.plan_begin(Acts::None, Frame::Expression(from), 1, whole),
         }
     }
 
     #[tactic(auto, unfolding(crate::specs::Machine::do_on, crate::specs::Machine::do_while))]
-    fn after_do<'a>(&mut self, from: u32, rest: &'a [Token]) -> Went<'a>
-        ensures { IfOk result (λ x. seen x.0 x.1.now self.new ≡ moved (do_while from rest.now (opens_seen self.old)) (acts_seen self.old)) }
+    fn after_do<'a>(&self, from: u32, rest: &'a [Token]) -> Plan<'a>
+        ensures { Plans result self.now (do_while from rest.now) }
     {
         match rest {
-            [] => Ok((Next::Fail, rest)),
+            [] => self.refuse(rest),
             [first, others @ ..] => match &first.kind {
                 Kind::Word(Word::While) => {
                     self.start_condition(mark_first(others), Frame::DoCond(from), skip_one(others))
                 }
-                _ => Ok((Next::Fail, others)),
+                _ => self.refuse(others),
             },
         }
     }
 
     #[tactic(auto, unfolding(crate::specs::Machine::done))]
-    pub fn give_stmt<'a>(&mut self, frame: Frame, rest: &'a [Token]) -> Went<'a>
-        ensures { IfOk result (λ x. seen x.0 x.1.now self.new ≡ moved (done frame rest.now (opens_seen self.old)) (acts_seen self.old)) }
+    fn end_then<'a>(&self, from: u32, rest: &'a [Token]) -> Plan<'a>
+        ensures { Plans result self.now (done (Frame.IfThen from) rest.now) }
+    {
+        if else_first(rest) {
+            self.plan_open(Acts::None, Frame::IfElse(from), Next::Stmt, skip_one(rest))
+        } else {
+            self.plan(Acts::One(Action::If(from)), Next::StmtDone, rest)
+        }
+    }
+
+    #[tactic(auto, unfolding(crate::specs::Machine::done))]
+    pub fn give_stmt<'a>(&self, frame: Frame, rest: &'a [Token]) -> Plan<'a>
+        ensures { Plans result self.now (done frame rest.now) }
     {
         match frame {
-            Frame::Block(from) => {
-                self.emit(Action::AddStmt)?;
-                self.open(Frame::Block(from))?;
-                Ok((Next::Entry, rest))
-            }
-            Frame::IfThen(from) => {
-                if else_first(rest) {
-                    self.open(Frame::IfElse(from))?;
-                    Ok((Next::Stmt, skip_one(rest)))
-                } else {
-                    self.emit(Action::If(from))?;
-                    Ok((Next::StmtDone, rest))
-                }
-            }
+            Frame::Block(_) => self.plan_open(Acts::One(Action::AddStmt), frame, Next::Entry, rest),
+            Frame::IfThen(from) => self.end_then(from, rest),
             Frame::IfElse(from) => {
-                self.emit(Action::IfElse(from))?;
-                Ok((Next::StmtDone, rest))
+                self.plan(Acts::One(Action::IfElse(from)), Next::StmtDone, rest)
             }
             Frame::WhileBody(from) => {
-                self.emit(Action::While(from))?;
-                Ok((Next::StmtDone, rest))
+                self.plan(Acts::One(Action::While(from)), Next::StmtDone, rest)
             }
             Frame::DoBody(from) => self.after_do(from, rest),
-            Frame::ForBody(from) => {
-                self.emit(Action::For(from))?;
-                Ok((Next::StmtDone, rest))
-            }
+            Frame::ForBody(from) => self.plan(Acts::One(Action::For(from)), Next::StmtDone, rest),
             Frame::Body => {
-                self.emit(Action::DeclareBody)?;
-                self.emit(Action::AddName)?;
-                self.emit(Action::EndSpecs)?;
-                Ok((Next::Top, rest))
+                let acts = Acts::Three(Action::DeclareBody, Action::AddName, Action::EndSpecs);
+                self.plan(acts, Next::Top, rest)
             }
-            _ => Ok((Next::Fail, rest)),
+            _ => self.refuse(rest),
+        }
+    }
+
+    #[tactic(auto, unfolding(crate::specs::Machine::for_first))]
+    pub fn first_part<'a>(
+        &self,
+        what: Punctuator,
+        typed: bool,
+        from: u32,
+        whole: &'a [Token],
+        rest: &'a [Token],
+    ) -> Plan<'a>
+        ensures { Plans result self.now (for_first what typed from whole.now rest.now) }
+    {
+        match what {
+            Punctuator::Semicolon => {
+                self.plan(Acts::One(Action::NoFirst), Next::ForTest(from), rest)
+            }
+            _ => {
+                if typed {
+                    self.plan(Acts::None, Next::Names(DeclaredIn::For(from)), whole)
+                } else {
+                    self.plan_begin(Acts::None, Frame::ForFirst(from), 1, whole)
+                }
+            }
+        }
+    }
+
+    #[tactic(auto, unfolding(crate::specs::Machine::for_test))]
+    pub fn test_part<'a>(
+        &self,
+        what: Punctuator,
+        from: u32,
+        whole: &'a [Token],
+        rest: &'a [Token],
+    ) -> Plan<'a>
+        ensures { Plans result self.now (for_test what from whole.now rest.now) }
+    {
+        match what {
+            Punctuator::Semicolon => {
+                self.plan(Acts::One(Action::NoExpr), Next::ForStep(from), rest)
+            }
+            _ => self.plan_begin(Acts::None, Frame::ForTest(from), 1, whole),
+        }
+    }
+
+    #[tactic(auto, unfolding(crate::specs::Machine::for_step))]
+    pub fn step_part<'a>(
+        &self,
+        what: Punctuator,
+        from: u32,
+        whole: &'a [Token],
+        rest: &'a [Token],
+    ) -> Plan<'a>
+        ensures { Plans result self.now (for_step what from whole.now rest.now) }
+    {
+        match what {
+            Punctuator::Close => {
+                let acts = Acts::One(Action::NoExpr);
+                self.plan_open(acts, Frame::ForBody(from), Next::Stmt, rest)
+            }
+            _ => self.plan_begin(Acts::None, Frame::ForStep(from), 1, whole),
         }
     }
 
     #[tactic(auto, unfolding(crate::specs::Machine::block_end))]
     fn end_block<'a>(&mut self, rest: &'a [Token]) -> Went<'a>
-        ensures { IfOk result (λ x. seen x.0 x.1.now self.new ≡ moved (block_end rest.now (opens_seen self.old)) (acts_seen self.old)) }
+        ensures { Goes result self.old self.new (block_end rest.now) }
     {
         match self.pop() {
             None => Ok((Next::Fail, rest)),
@@ -200,7 +229,7 @@ impl Parser {
         whole: &'a [Token],
         rest: &'a [Token],
     ) -> Went<'a>
-        ensures { IfOk result (λ x. seen x.0 x.1.now self.new ≡ moved (entry what typed whole.now rest.now (opens_seen self.old)) (acts_seen self.old)) }
+        ensures { Goes result self.old self.new (entry what typed whole.now rest.now) }
     {
         match what {
             Punctuator::CloseBrace => self.end_block(rest),
@@ -210,78 +239,6 @@ impl Parser {
                 } else {
                     Ok((Next::Stmt, whole))
                 }
-            }
-        }
-    }
-
-    #[tactic(auto, unfolding(crate::specs::Machine::for_first))]
-    pub fn first_part<'a>(
-        &mut self,
-        what: Punctuator,
-        typed: bool,
-        from: u32,
-        whole: &'a [Token],
-        rest: &'a [Token],
-    ) -> Went<'a>
-        ensures { IfOk result (λ x. seen x.0 x.1.now self.new ≡ moved (for_first what typed from whole.now rest.now (opens_seen self.old)) (acts_seen self.old)) }
-    {
-        match what {
-            Punctuator::Semicolon => {
-                self.emit(Action::NoFirst)?;
-                Ok((Next::ForTest(from), rest))
-            }
-            _ => {
-                if typed {
-                    Ok((Next::Names(DeclaredIn::For(from)), whole))
-                } else {
-                    self.open(Frame::ForFirst(from))?;
-                    self.begin(1, whole)
-                }
-            }
-        }
-    }
-
-    #[tactic(auto, unfolding(crate::specs::Machine::for_test))]
-    pub fn test_part<'a>(
-        &mut self,
-        what: Punctuator,
-        from: u32,
-        whole: &'a [Token],
-        rest: &'a [Token],
-    ) -> Went<'a>
-        ensures { IfOk result (λ x. seen x.0 x.1.now self.new ≡ moved (for_test what from whole.now rest.now (opens_seen self.old)) (acts_seen self.old)) }
-    {
-        match what {
-            Punctuator::Semicolon => {
-                self.emit(Action::NoExpr)?;
-                Ok((Next::ForStep(from), rest))
-            }
-            _ => {
-                self.open(Frame::ForTest(from))?;
-                self.begin(1, whole)
-            }
-        }
-    }
-
-    #[tactic(auto, unfolding(crate::specs::Machine::for_step))]
-    pub fn step_part<'a>(
-        &mut self,
-        what: Punctuator,
-        from: u32,
-        whole: &'a [Token],
-        rest: &'a [Token],
-    ) -> Went<'a>
-        ensures { IfOk result (λ x. seen x.0 x.1.now self.new ≡ moved (for_step what from whole.now rest.now (opens_seen self.old)) (acts_seen self.old)) }
-    {
-        match what {
-            Punctuator::Close => {
-                self.emit(Action::NoExpr)?;
-                self.open(Frame::ForBody(from))?;
-                Ok((Next::Stmt, rest))
-            }
-            _ => {
-                self.open(Frame::ForStep(from))?;
-                self.begin(1, whole)
             }
         }
     }
