@@ -1,11 +1,11 @@
 -- When a call may answer that the outside failed.
-use Rattle.std.specs.Prelude.{◌≡◌, ℕ, ◌+◌, ◌-◌, ◌^◌, ◌≤◌, ◌<◌, ◌⊎◌, Result, Ok, Err}
+use Rattle.std.specs.Prelude.{◌≡◌, ℕ, ◌-◌, ◌^◌, ◌≤◌, ◌<◌, ◌⊎◌}
 use Rattle.r2_base.specs.declared.fault.Fault.{Fault}
 use Rattle.r2_base.specs.declared.fault.Fault.TheVariants.{Failed, Missing, Memory}
 
--- the count is greater than before, or stands at the last value of a counter
+-- the count is greater than before, or has come to the last value of a counter; so what rose in a part of a call rose in the call
 abbrev pub Rose : ℕ → ℕ → Type 0
-Rose before now = (before < now) ⊎ (now ≡ 2 ^ 64 - 1)
+Rose before now = (before < now) ⊎ (2 ^ 64 - 1 ≤ now)
 
 -- the cause of a fault of a reading call, by its count of faults
 abbrev pub IsReadCause : ℕ → ℕ → Fault → Type 0

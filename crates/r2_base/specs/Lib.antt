@@ -1,4 +1,5 @@
 pub mod Causes
+pub mod Seen
 pub mod Sinks
 pub mod Names
 pub mod Held

@@ -1,13 +1,11 @@
 -- What the objects in memory show.
-use Rattle.std.specs.Prelude.{◌≡◌, ℕ, List, Option, String, Vec}
-use Rattle.std.specs.Option.{option_map}
-use Rattle.std.specs.declared.alloc.Global.{Global}
-use Rattle.std.specs.BTreeMap.{BTreeMap, get_by_text}
+use Rattle.std.specs.Prelude.{◌≡◌, ℕ, List, Option, Some}
 use Rattle.r2_base.specs.declared.sure_files.SureFiles.{SureFiles}
 use Rattle.r2_base.specs.declared.mem_files.MemFiles.{MemFiles}
 use Rattle.r2_base.specs.declared.sinks.SureSink.{SureSink}
 use Rattle.r2_base.specs.declared.sinks.MemSink.{MemSink}
 use Rattle.r2_base.specs.Held.{held_in}
+use Rattle.r2_base.specs.Seen.{Store, Stream, telling}
 
 -- what a name holds
 abbrev pub sure_file : SureFiles → List ℕ → Option (List ℕ)
@@ -53,3 +51,16 @@ sink_call_number sink = sink.calls
 
 abbrev pub sink_faults : MemSink → ℕ
 sink_faults sink = sink.faults
+
+-- what is seen of each through its trait
+abbrev pub sure_store : SureFiles → Store
+sure_store files = telling (sure_file files) 0 0
+
+abbrev pub mem_store : MemFiles → Store
+mem_store files = telling (mem_file files) (read_faults files) (write_faults files)
+
+abbrev pub sure_stream : SureSink → Stream
+sure_stream sink = record { given = Some (sure_bytes sink); faults = 0 }
+
+abbrev pub mem_stream : MemSink → Stream
+mem_stream sink = record { given = Some (mem_bytes sink); faults = sink_faults sink }

@@ -1,6 +1,6 @@
 //! Files in memory that read in small pieces and fail where they are told to.
 
-ghost use Rattle.std.specs.Prelude.{◌≡◌, ◌≢◌, ◌≤◌, ◌++◌, ◌/◌, [], ℕ, List, Option, Some, None, IsTrue, true, length, take, max, Ok, OnOk, OnErr, IfOk, IfErr, IfSome, IsSome, option_copied};
+ghost use Rattle.std.specs.Prelude.{◌≡◌, ◌≢◌, ◌≤◌, ◌++◌, ◌/◌, [], ℕ, List, Some, None, IsTrue, true, length, take, max, OnOk, OnErr, IfOk, IfErr, option_copied};
 
 use crate::fault::Fault;
 use crate::held::{Held, append_held, file_held, read_held, set_held};
@@ -93,28 +93,20 @@ impl MemFiles {
 }
 
 impl Files for MemFiles {
-    ghost use Rattle.r2_base.specs.Memory.{mem_file, listed, call_number, read_limit, read_faults, write_faults, KeepsPlan};
+    ghost use Rattle.r2_base.specs.Memory.{mem_file, mem_store, listed, call_number, read_limit, read_faults, write_faults, KeepsPlan};
     ghost use Rattle.r2_base.specs.Listed.{next, FailsExactly, is_listed, faults_after};
     ghost use Rattle.r2_base.specs.Causes.{IsReadCause, IsWriteCause};
+    ghost use Rattle.r2_base.specs.Seen.{OnlyReads, OnlyWrites};
     ghost use Rattle.r2_base.specs.Names.{Reads, GrowsFile, content};
     ghost use Rattle.r2_base.specs.declared.fault.Fault.TheVariants.{Failed};
 
-    ghost tells = { λ f. true };
-
-    ghost held = { λ f. mem_file f };
-
-    ghost read_faults = { λ f. f.read_faults };
-
-    ghost write_faults = { λ f. f.write_faults };
+    ghost seen = { λ f. mem_store f };
 
     fn read_at(&mut self, name: &str, from: u64, into: &mut [u8]) -> Result<usize, Fault>
-        ensures told { IsTrue true → IsTrue true }
-        ensures same { IsTrue true → (n : List ℕ) → mem_file self.new n ≡ mem_file self.old n }
+        ensures only { OnlyReads (mem_store self.old) (mem_store self.new) }
         ensures bytes { IsTrue true → Reads (mem_file self.old name.now) from into.new result }
         ensures room { IfOk result (λ n. n ≤ length into.new) }
-        ensures later { read_faults self.old ≤ read_faults self.new }
         ensures cause { IfErr result (IsReadCause (read_faults self.old) (read_faults self.new)) }
-        ensures writes { write_faults self.new ≡ write_faults self.old }
         ensures failed { FailsExactly (is_listed (listed self.old) (call_number self.old)) result }
         ensures number { call_number self.new ≡ next (call_number self.old) }
         ensures plan { KeepsPlan self.old self.new }
@@ -130,13 +122,10 @@ impl Files for MemFiles {
     }
 
     fn fresh(&mut self, name: &str) -> Result<(), Fault>
-        ensures told { IsTrue true → IsTrue true }
-        ensures others { IsTrue true → (n : List ℕ) → n ≢ name.now → mem_file self.new n ≡ mem_file self.old n }
+        ensures only { OnlyWrites name.now (mem_store self.old) (mem_store self.new) }
         ensures empty { IsTrue true → OnOk result (mem_file self.new name.now ≡ Some []) }
         ensures kept { IsTrue true → OnErr result (mem_file self.new name.now ≡ mem_file self.old name.now) }
-        ensures later { write_faults self.old ≤ write_faults self.new }
         ensures cause { IfErr result (IsWriteCause (write_faults self.old) (write_faults self.new)) }
-        ensures reads { read_faults self.new ≡ read_faults self.old }
         ensures failed { FailsExactly (is_listed (listed self.old) (call_number self.old)) result }
         ensures number { call_number self.new ≡ next (call_number self.old) }
         ensures plan { KeepsPlan self.old self.new }
@@ -152,18 +141,16 @@ impl Files for MemFiles {
     }
 
     fn append(&mut self, name: &str, piece: &[u8]) -> Result<(), Fault>
-        ensures told { IsTrue true → IsTrue true }
-        ensures others { IsTrue true → (n : List ℕ) → n ≢ name.now → mem_file self.new n ≡ mem_file self.old n }
-        ensures grows { IsTrue true → GrowsFile (mem_file self.old name.now) (mem_file self.new name.now) result piece.now }
-        ensures later { write_faults self.old ≤ write_faults self.new }
+        ensures only { OnlyWrites name.now (mem_store self.old) (mem_store self.new) }
+        ensures grows { IsTrue true
+            → GrowsFile (mem_file self.old name.now) (mem_file self.new name.now) result piece.now }
         ensures cause { IfErr result (IsWriteCause (write_faults self.old) (write_faults self.new)) }
-        ensures reads { read_faults self.new ≡ read_faults self.old }
         ensures failed { FailsExactly (is_listed (listed self.old) (call_number self.old)) result }
         ensures number { call_number self.new ≡ next (call_number self.old) }
         ensures plan { KeepsPlan self.old self.new }
         ensures faults { write_faults self.new ≡ faults_after result (write_faults self.old) }
-        ensures half { result ≡ Err Failed
-            → mem_file self.new name.now ≡ Some (content (mem_file self.old name.now) ++ take (length piece.now / 2) piece.now) }
+        ensures half { result ≡ Err Failed → mem_file self.new name.now
+            ≡ Some (content (mem_file self.old name.now) ++ take (length piece.now / 2) piece.now) }
     {
         if self.is_failing() {
             append_held(self.alloc, &mut self.files, name, &piece[..piece.len() / 2])?;

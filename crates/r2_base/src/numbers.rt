@@ -7,13 +7,12 @@ ghost use Rattle.std.specs.Int.{w128};
 
 use std::alloc::AllocError;
 
-/// Adds the number in decimal digits, with `-` before one below 0.
+/// Adds the number in decimal digits, with `-` before one below 0; the digits themselves take no memory.
 pub fn put_dec(to: &mut Vec<u8>, v: i128) -> Result<(), AllocError>
     ensures ok { OnOk result (to.new.items ≡ to.old.items ++ signed_decimal v) }
     ensures err { OnErr result (to.new.items ≡ to.old.items) }
 {
-    let text = format!(in *to.allocator(); "{v}")?;
-    to.extend_from_slice(text.as_bytes())
+    to.extend_from_slice(itoa::Buffer::new().format(v).as_bytes())
 }
 
 /// Adds the number in hexadecimal digits, in lower case and without leading zeros.

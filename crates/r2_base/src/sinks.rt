@@ -33,11 +33,9 @@ impl SureSink {
 }
 
 impl Sink for SureSink {
-    ghost use Rattle.r2_base.specs.Memory.{sure_bytes};
+    ghost use Rattle.r2_base.specs.Memory.{sure_stream};
 
-    ghost told = { λ s. Some (sure_bytes s) };
-
-    ghost faults = { λ s. 0 };
+    ghost seen = { λ s. sure_stream s };
 
     fn put(&mut self, piece: &[u8]) -> Result<(), Fault> {
         self.bytes.extend_from_slice(piece)?;
@@ -88,15 +86,13 @@ impl MemSink {
 }
 
 impl Sink for MemSink {
-    ghost use Rattle.r2_base.specs.Memory.{mem_bytes, sink_listed, sink_call_number, sink_faults};
+    ghost use Rattle.r2_base.specs.Memory.{mem_bytes, mem_stream, sink_listed, sink_call_number, sink_faults};
     ghost use Rattle.r2_base.specs.Listed.{next, FailsExactly, is_listed, faults_after};
     ghost use Rattle.r2_base.specs.Causes.{IsWriteCause};
     ghost use Rattle.r2_base.specs.Sinks.{TellsGrowth};
     ghost use Rattle.r2_base.specs.declared.fault.Fault.TheVariants.{Failed};
 
-    ghost told = { λ s. Some (mem_bytes s) };
-
-    ghost faults = { λ s. s.faults };
+    ghost seen = { λ s. mem_stream s };
 
     fn put(&mut self, piece: &[u8]) -> Result<(), Fault>
         ensures bytes { TellsGrowth (Some (mem_bytes self.old)) (Some (mem_bytes self.new)) result piece.now }

@@ -1,6 +1,6 @@
 //! Files in memory that never fail.
 
-ghost use Rattle.std.specs.Prelude.{◌≡◌, ◌≢◌, ℕ, List, None, Some, true, OnOk, OnErr, option_copied};
+ghost use Rattle.std.specs.Prelude.{◌≡◌, ◌≢◌, ℕ, List, None, Some, OnOk, OnErr, option_copied};
 
 use crate::fault::Fault;
 use crate::held::{Held, append_held, file_held, read_held, set_held};
@@ -46,15 +46,9 @@ impl SureFiles {
 }
 
 impl Files for SureFiles {
-    ghost use Rattle.r2_base.specs.Memory.{sure_file};
+    ghost use Rattle.r2_base.specs.Memory.{sure_store};
 
-    ghost tells = { λ f. true };
-
-    ghost held = { λ f. sure_file f };
-
-    ghost read_faults = { λ f. 0 };
-
-    ghost write_faults = { λ f. 0 };
+    ghost seen = { λ f. sure_store f };
 
     fn read_at(&mut self, name: &str, from: u64, into: &mut [u8]) -> Result<usize, Fault> {
         read_held(&self.files, name, from, usize::MAX, into).ok_or(Fault::Missing)

@@ -1,8 +1,6 @@
 pub mod Lists
-pub mod SendingLemmas
-pub mod Told
-pub mod OrderLemmas
-pub mod RunLemmas
+pub mod FormLemmas
 pub mod SourceLemmas
-pub mod OneCheck
-pub mod OneOutcome
+pub mod CommandLemmas
+pub mod CauseLemmas
+pub mod RunLemmas

@@ -1,114 +1,56 @@
--- What `check` leaves, from what reading the source and printing say.
-use Rattle.std.proofs.Common.{◌≡◌, ◌++◌, IfErr, inl, ℕ, List, true, false, Option, Result, sym, ◌∙◌, ap, refl, codes}
-use Rattle.r2_base.specs.declared.fault.Fault.{Fault}
-use Rattle.r2_base.specs.Sinks.{TellsGrowth}
-use Rattle.r2_base.specs.Causes.{IsWriteCause}
-use Rattle.r2_cli.specs.Endings.{print_ending}
-use Rattle.r2_cli.specs.declared.ending.Ending.{Ending}
-use Rattle.r2_cli.specs.declared.ending.Ending.TheVariants.{Done, Usage, Source, NoCut, Short, LogByte, LogEvent, ReadFault, NoFile, WriteFault, SourceLimit, TooLarge, LogLimit, NoMemory}
-use Rattle.r2_cli.specs.declared.status.Status.TheVariants as status
-use Rattle.r2_cli.specs.Words.{check}
-use Rattle.r2_cli.specs.Outcome.{refusal, line_of}
-use Rattle.r2_cli.specs.Source.{no_cut_words, refused_for}
-use Rattle.r2_cli.specs.Check.{too_long, typed, wrong}
-use Rattle.r2_cli.specs.Run.{no_source, checked}
+-- What reading a source comes to, and that its bytes and the name of the cut decide it.
+use Rattle.std.proofs.Common.{◌≡◌, ℕ, List, refl, sym, subst, codes}
+use Rattle.front_end.specs.Answers.{IsSourceError}
+use Rattle.front_end.specs.Sources.{IsRight, IsWrong}
+use Rattle.front_end.specs.Same as alike
+use Rattle.front_end.specs.Same.{SameError}
+use Rattle.front_end.specs.declared.error.SourceError.{SourceError}
 use Rattle.front_end.specs.declared.error.SourceError.TheVariants as errors
-use Rattle.r2_cli.specs.Performed.{EndingCause, Performs, SourceCause}
-use Rattle.r2_cli.specs.SourceEndings.{EndsSource, HoldsSource}
-use Rattle.r2_cli.proofs.Told.{adds_nothing}
-use Rattle.r2_cli.proofs.OrderLemmas.{cause_of_print}
-use Rattle.r2_cli.proofs.RunLemmas.{text_performs}
+use Rattle.front_end.proofs.OneAnswer.{not_wrong, one_error}
+use Rattle.r2_base.specs.Seen.{Contents}
+use Rattle.r2_cli_outcome.specs.declared.plan.End.{End}
+use Rattle.r2_cli_outcome.specs.declared.plan.End.TheVariants.{NoMemory}
+use Rattle.r2_cli_outcome.specs.Outcome.{Outcome}
+use Rattle.r2_cli_outcome.specs.Reading.{Of}
+use Rattle.r2_cli_outcome.specs.Stages.{passed, ended}
+use Rattle.r2_cli_outcome.specs.Input.{Input}
+use Rattle.r2_cli_outcome.specs.Plans.{EndsAs, IsEnd}
+use Rattle.r2_cli_outcome.proofs.StageLemmas.{is_refused}
+use Rattle.r2_cli_outcome.proofs.Decided.{IsOne, one_then, one_input}
+use Rattle.r2_cli.specs.Commands as outcomes
+use Rattle.r2_cli.specs.Commands.{SameOutcome}
+use Rattle.r2_cli.specs.Source as stage
+use Rattle.r2_cli.specs.Source.{SourceOf, refused_for, source}
 
-abbrev Held : Type 0
-Held = List ℕ → Option (List ℕ)
+refused_source : (bytes cut : List ℕ) (error : SourceError) (x y : ℕ) (end : End) → IsSourceError bytes cut error → IsEnd (refused_for cut error) end → (error ≡ errors.Memory → end ≡ NoMemory) → EndsAs (SourceOf cut bytes) x y end
+refused_source bytes cut (errors.Fault fault) x y end is e m = is_refused (SourceOf cut bytes) (refused_for cut (errors.Fault fault)) x y end (stage.wrong is) e
+refused_source bytes cut errors.NoSuchCut x y end is e m = is_refused (SourceOf cut bytes) (refused_for cut errors.NoSuchCut) x y end (stage.wrong is) e
+refused_source bytes cut (errors.Limit limit) x y end is e m = is_refused (SourceOf cut bytes) (refused_for cut (errors.Limit limit)) x y end (stage.wrong is) e
+refused_source bytes cut errors.Memory x y end is e m = subst (λ (k : End). EndsAs (SourceOf cut bytes) x y k) (sym (m refl)) tt
 
-pub cause_of_source : (src cut : List ℕ) (r s f g : ℕ) (ending : Ending) → SourceCause src cut r s ending → EndingCause (check src cut) r s f g ending
-cause_of_source src cut r s f g Done cause = absurd cause
-cause_of_source src cut r s f g Usage cause = absurd cause
-cause_of_source src cut r s f g (Source fault) cause = tt
-cause_of_source src cut r s f g (NoCut name) cause = cause
-cause_of_source src cut r s f g Short cause = absurd cause
-cause_of_source src cut r s f g (LogByte n) cause = absurd cause
-cause_of_source src cut r s f g (LogEvent error) cause = absurd cause
-cause_of_source src cut r s f g ReadFault cause = cause
-cause_of_source src cut r s f g (NoFile name) cause = cause
-cause_of_source src cut r s f g WriteFault cause = absurd cause
-cause_of_source src cut r s f g SourceLimit cause = tt
-cause_of_source src cut r s f g (TooLarge which) cause = tt
-cause_of_source src cut r s f g LogLimit cause = absurd cause
-cause_of_source src cut r s f g NoMemory cause = tt
+pub source_refused : (bytes text cut word : List ℕ) (error : SourceError) (x y : ℕ) (end : End) → text ≡ bytes → word ≡ cut → IsSourceError text word error → IsEnd (refused_for cut error) end → (error ≡ errors.Memory → end ≡ NoMemory)
+    → EndsAs (SourceOf cut bytes) x y end
+source_refused bytes text cut word error x y end e d is it m =
+    refused_source bytes cut error x y end (subst (λ (w : List ℕ). IsSourceError bytes w error) d (subst (λ (w : List ℕ). IsSourceError w word error) e is)) it m
 
-pub cause_of_typed : (src cut : List ℕ) (r s f g : ℕ) (result : Result (Unit {0}) Fault) → IfErr result (IsWriteCause f g) → EndingCause (check src cut) r s f g (print_ending true result)
-cause_of_typed src cut r s f g result cause = cause_of_print (check src cut) r s f g true result (λ never. absurd (let off : true ≡ false = never in cc)) cause
+pub source_right : (bytes text cut word : List ℕ) → text ≡ bytes → word ≡ cut → IsRight text word → SourceOf cut bytes (passed tt)
+source_right bytes text cut word e d is = stage.right (subst (λ (w : List ℕ). IsRight bytes w) d (subst (λ (w : List ℕ). IsRight w word) e is))
 
-pub refused_source : (src cut : List ℕ) (held : Held) (r s : ℕ) (told : Option (List ℕ)) (ending : Ending) → SourceCause src cut r s ending → EndsSource (held src) cut ending → Performs (check src cut) held told told ending
-refused_source src cut held r s told Done cause ends = absurd cause
-refused_source src cut held r s told Usage cause ends = absurd cause
-refused_source src cut held r s told (Source fault) cause ends = record {
-  settles = λ _. record {
-    outcome = refused_for cut (errors.Fault fault);
-    answer = checked ends.there (wrong ends.short ends.is_wrong);
-    same_status = refl;
-    same_line = refl;
-    printed = adds_nothing told told refl;
-  };
-  lacks = tt;
-  prints = inl refl;
-}
-refused_source src cut held r s told (NoCut name) cause ends = record {
-  settles = λ _. record {
-    outcome = refused_for cut errors.NoSuchCut;
-    answer = checked ends.there (wrong ends.short ends.is_wrong.1);
-    same_status = refl;
-    same_line = ap (λ (w : List ℕ). line_of (no_cut_words w)) (sym ends.is_wrong.0);
-    printed = adds_nothing told told refl;
-  };
-  lacks = tt;
-  prints = inl refl;
-}
-refused_source src cut held r s told Short cause ends = absurd cause
-refused_source src cut held r s told (LogByte n) cause ends = absurd cause
-refused_source src cut held r s told (LogEvent error) cause ends = absurd cause
-refused_source src cut held r s told ReadFault cause ends = record { settles = λ never. absurd never; lacks = tt; prints = inl refl }
-refused_source src cut held r s told (NoFile name) cause ends = record {
-  settles = λ _. record {
-    outcome = refusal status.ReadFault (codes "no file " ++ src);
-    answer = no_source ends;
-    same_status = refl;
-    same_line = ap (λ (w : List ℕ). line_of (codes "no file " ++ w)) (sym cause);
-    printed = adds_nothing told told refl;
-  };
-  lacks = ap held cause ∙ ends;
-  prints = inl refl;
-}
-refused_source src cut held r s told WriteFault cause ends = absurd cause
-refused_source src cut held r s told SourceLimit cause ends = record {
-  settles = λ _. record {
-    outcome = refusal status.Limit (codes "limit source 1048576");
-    answer = checked ends.there (too_long ends.more);
-    same_status = refl;
-    same_line = refl;
-    printed = adds_nothing told told refl;
-  };
-  lacks = tt;
-  prints = inl refl;
-}
-refused_source src cut held r s told (TooLarge which) cause ends = record {
-  settles = λ _. record {
-    outcome = refused_for cut (errors.Limit which);
-    answer = checked ends.there (wrong ends.short ends.is_wrong);
-    same_status = refl;
-    same_line = refl;
-    printed = adds_nothing told told refl;
-  };
-  lacks = tt;
-  prints = inl refl;
-}
-refused_source src cut held r s told LogLimit cause ends = absurd cause
-refused_source src cut held r s told NoMemory cause ends = record { settles = λ never. absurd never; lacks = tt; prints = inl refl }
+-- ---- one answer
 
--- what printing the word leaves
-pub typed_source : (src cut : List ℕ) (held : Held) (old new : Option (List ℕ)) (result : Result (Unit {0}) Fault) → HoldsSource (held src) cut
-    → TellsGrowth old new result (codes "typed\n") → Performs (check src cut) held old new (print_ending true result)
-typed_source src cut held old new result holds grown =
-    text_performs held (check src cut) (codes "typed\n") old new result (checked holds.there (typed holds.short holds.right)) grown
+pub self : (o : Outcome) → SameOutcome o o
+self o = outcomes.same
+
+same_refused : (cut : List ℕ) (e f : SourceError) → SameError e f → SameOutcome (refused_for cut e) (refused_for cut f)
+same_refused cut e f alike.same = outcomes.same
+same_refused cut e f (alike.no_tree n m) = outcomes.no_tree n m
+same_refused cut e f (alike.too_deep n m) = outcomes.too_deep n m
+
+one_source_of : (cut bytes : List ℕ) → IsOne SameOutcome (SourceOf cut bytes)
+one_source_of cut bytes (passed x) (passed y) (stage.right a) (stage.right b) = refl
+one_source_of cut bytes (passed x) (ended o) (stage.right a) (stage.wrong {error = e} b) = absurd (not_wrong bytes cut e a b)
+one_source_of cut bytes (ended o) (passed y) (stage.wrong {error = e} a) (stage.right b) = absurd (not_wrong bytes cut e b a)
+one_source_of cut bytes (ended o) (ended p) (stage.wrong {error = e} a) (stage.wrong {error = f} b) = same_refused cut e f (one_error a b)
+
+pub one_source : (held : Contents) (src cut : List ℕ) → IsOne SameOutcome (source (Of held) src cut)
+one_source held src cut = one_then SameOutcome (Input (Of held) src (codes "source") 1048576) (SourceOf cut) (one_input SameOutcome self held src (codes "source") 1048576) (one_source_of cut)

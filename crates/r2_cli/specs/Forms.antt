@@ -1,6 +1,6 @@
 -- The commands of the code as forms of the command line.
-use Rattle.r2_cli.specs.declared.words.Command.{Command}
-use Rattle.r2_cli.specs.declared.words.Command.TheVariants.{Help, Version, Order, Check}
+use Rattle.r2_cli.specs.declared.forms.Command.{Command}
+use Rattle.r2_cli.specs.declared.forms.Command.TheVariants.{Help, Version, Order, Check}
 use Rattle.r2_cli.specs.Words.{Form, help, version, order, check}
 
 abbrev pub form_of : Command → Form

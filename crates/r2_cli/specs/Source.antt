@@ -1,14 +1,18 @@
--- The words of what is wrong with a source.
+-- The stage that reads a source: it is accepted with its cut, or what is wrong with it is named.
 use Rattle.std.specs.Prelude.{ℕ, List, ◌++◌, codes, decimal}
 use Rattle.c_types.specs.declared.error.Which.TheVariants as numbers
+use Rattle.front_end.specs.Sources.{IsRight, IsWrong}
 use Rattle.front_end.specs.declared.error.SourceError.{SourceError}
 use Rattle.front_end.specs.declared.error.SourceError.TheVariants as errors
 use Rattle.front_end.specs.declared.error.SourceLimit.{SourceLimit}
 use Rattle.front_end.specs.declared.error.SourceLimit.TheVariants.{Types, Nodes, Values}
 use Rattle.front_end.specs.declared.error.SourceRule.{SourceRule}
 use Rattle.front_end.specs.declared.error.SourceRule.TheVariants as rules
-use Rattle.r2_cli.specs.declared.status.Status.TheVariants.{Source, Limit, NoMemory}
-use Rattle.r2_cli.specs.Outcome.{Outcome, refusal}
+use Rattle.r2_cli_outcome.specs.declared.status.Status.TheVariants.{Source, Limit, NoMemory}
+use Rattle.r2_cli_outcome.specs.Outcome.{Outcome, refusal, limit_words}
+use Rattle.r2_cli_outcome.specs.Reading.{Reading}
+use Rattle.r2_cli_outcome.specs.Stages.{Answer, Stage, passed, ended, ◌>>=◌}
+use Rattle.r2_cli_outcome.specs.Input.{Input}
 
 abbrev pub rule_words : SourceRule → List ℕ
 rule_words rules.Byte = codes "byte"
@@ -24,24 +28,43 @@ rule_words (rules.Annotation n) = codes "annotation " ++ decimal n
 abbrev pub source_words : SourceRule → ℕ → List ℕ
 source_words rule n = codes "source " ++ decimal n ++ codes " " ++ rule_words rule
 
--- the words of a limit that a source exceeds, with the limit
-abbrev pub limit_words : SourceLimit → List ℕ
-limit_words (Types numbers.Functions) = codes "limit functions 1000"
-limit_words (Types numbers.Params) = codes "limit params 8"
-limit_words (Types numbers.Members) = codes "limit members 64"
-limit_words (Types numbers.Object) = codes "limit object 1048576"
-limit_words (Types numbers.Globals) = codes "limit globals 1048576"
-limit_words (Types numbers.Frame) = codes "limit frame 32768"
-limit_words Nodes = codes "limit code 131072"
-limit_words Values = codes "limit values 64"
-
 -- the words that say that no declaration names the cut
 abbrev pub no_cut_words : List ℕ → List ℕ
 no_cut_words cut = codes "no cut " ++ cut
+
+-- the word of a limit that a source exceeds, and its number
+abbrev pub limit_word : SourceLimit → List ℕ
+limit_word (Types numbers.Functions) = codes "functions"
+limit_word (Types numbers.Params) = codes "params"
+limit_word (Types numbers.Members) = codes "members"
+limit_word (Types numbers.Object) = codes "object"
+limit_word (Types numbers.Globals) = codes "globals"
+limit_word (Types numbers.Frame) = codes "frame"
+limit_word Nodes = codes "code"
+limit_word Values = codes "values"
+
+abbrev pub limit_number : SourceLimit → ℕ
+limit_number (Types numbers.Functions) = 1000
+limit_number (Types numbers.Params) = 8
+limit_number (Types numbers.Members) = 64
+limit_number (Types numbers.Object) = 1048576
+limit_number (Types numbers.Globals) = 1048576
+limit_number (Types numbers.Frame) = 32768
+limit_number Nodes = 131072
+limit_number Values = 64
 
 -- how a source is refused with which this is wrong
 abbrev pub refused_for : (cut : List ℕ) → SourceError → Outcome
 refused_for cut (errors.Fault fault) = refusal Source (source_words fault.rule fault.at)
 refused_for cut errors.NoSuchCut = refusal Source (no_cut_words cut)
-refused_for cut (errors.Limit limit) = refusal Limit (limit_words limit)
+refused_for cut (errors.Limit limit) = refusal Limit (limit_words (limit_word limit) (limit_number limit))
 refused_for cut errors.Memory = refusal NoMemory (codes "no memory")
+
+pub data SourceOf (cut bytes : List ℕ) : Answer (Unit {0}) → Type 0 where
+  wrong : {error : SourceError} → IsWrong bytes cut error → SourceOf cut bytes (ended (refused_for cut error))
+  right : IsRight bytes cut → SourceOf cut bytes (passed tt)
+
+-- the reading of a source, its size, its tokens, its grammar, its types with their limits, its annotations with the cut, and the
+-- limits of flat code
+abbrev pub source : Reading → (src cut : List ℕ) → Stage (Unit {0})
+source reading src cut = Input reading src (codes "source") 1048576 >>= SourceOf cut

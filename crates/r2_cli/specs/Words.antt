@@ -1,5 +1,5 @@
 -- The forms of the command line.
-use Rattle.std.specs.Prelude.{◌≡◌, ◌≢◌, List, [], ◌∷◌, ℕ, String, codes, map, string_bytes}
+use Rattle.std.specs.Prelude.{◌≡◌, ◌≢◌, List, [], ◌∷◌, ℕ, String, codes, map, string_bytes, Option, Some, None}
 use Rattle.std.specs.declared.alloc.Global.{Global}
 
 -- the words as lists of bytes
@@ -10,8 +10,8 @@ texts_of words = map string_bytes words
 pub data Form : Type 0 where
   help : Form
   version : Form
-  order : List ℕ → Form
-  check : List ℕ → List ℕ → Form
+  order : (log : List ℕ) → Form
+  check : (src cut : List ℕ) → Form
 
 -- the command line, without the name of the program
 abbrev pub words_of : Form → List (List ℕ)
@@ -31,24 +31,34 @@ HasNames (check src cut) = src ≢ []
 abbrev pub IsForm : List (List ℕ) → Form → Type 0
 IsForm words form = (words ≡ words_of form) × HasNames form
 
--- the command reads a log
-abbrev pub ReadsLog : Form → Type 0
-ReadsLog (order log) = Unit {0}
-ReadsLog form = ⊥
-
--- the command reads a source
-abbrev pub ReadsSource : Form → Type 0
-ReadsSource (check src cut) = Unit {0}
-ReadsSource form = ⊥
-
--- the words have the form of a command that reads a log
-abbrev pub IsOfLog : List (List ℕ) → Type 0
-IsOfLog words = (form : Form) × IsForm words form × ReadsLog form
-
--- the words have the form of a command that reads a source
-abbrev pub IsOfSource : List (List ℕ) → Type 0
-IsOfSource words = (form : Form) × IsForm words form × ReadsSource form
-
 -- the words have none of the forms
 abbrev pub IsUsage : List (List ℕ) → Type 0
 IsUsage words = (form : Form) → IsForm words form → ⊥
+
+-- the source that the command reads, and its cut
+abbrev pub source_of : Form → Option (List ℕ × List ℕ)
+source_of help = None
+source_of version = None
+source_of (order log) = None
+source_of (check src cut) = Some (src, cut)
+
+-- the log that it reads
+abbrev pub log_of : Form → Option (List ℕ)
+log_of help = None
+log_of version = None
+log_of (order log) = Some log
+log_of (check src cut) = None
+
+-- all files that it reads, in their order
+abbrev pub inputs_of : Form → List (List ℕ)
+inputs_of help = []
+inputs_of version = []
+inputs_of (order log) = log ∷ []
+inputs_of (check src cut) = src ∷ []
+
+-- all files that it writes
+abbrev pub outputs_of : Form → List (List ℕ)
+outputs_of help = []
+outputs_of version = []
+outputs_of (order log) = []
+outputs_of (check src cut) = []

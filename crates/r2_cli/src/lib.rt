@@ -1,22 +1,12 @@
 //! The commands of the program, over any files and sinks.
 #![tactic(auto)]
 
-mod check;
-mod ending;
-mod finish;
+mod commands;
+mod forms;
 mod help;
-mod log_file;
-mod order;
-mod order_line;
-mod order_text;
-mod prefix;
-mod printing;
-mod reading;
 mod running;
-mod source_fault;
-mod source_file;
-mod status;
-mod words;
+mod source;
+mod source_words;
 
+pub use r2_cli_outcome::Status;
 pub use running::run;
-pub use status::Status;

@@ -33,7 +33,7 @@ fn main(rt: HostRuntime) -> ExitCode {
         Ok(words) => run(
             rt.alloc(),
             &words,
-            &mut HostFiles::new(&rt),
+            &mut HostFiles::new(rt.alloc(), &rt),
             &mut out,
             &mut err,
         ),

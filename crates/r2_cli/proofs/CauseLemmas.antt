@@ -1,0 +1,106 @@
+-- Each outcome has a status with a cause.
+use Rattle.std.proofs.Common.{◌≡◌, ◌≤◌, ◌<◌, ◌∷◌, [], ◌⊎◌, inl, inr, ℕ, List, Bool, true, false, Option, Some, None, length, codes, sym, ◌∙◌, ap, refl, subst}
+use Rattle.front_end.specs.Sources.{IsRight, IsWrong}
+use Rattle.front_end.specs.declared.error.SourceError.{SourceError}
+use Rattle.front_end.specs.declared.error.SourceError.TheVariants as errors
+use Rattle.log_closure.specs.Events.{Part, In}
+use Rattle.r2_base.specs.Causes.{Rose}
+use Rattle.r2_base.specs.Seen.{Contents}
+use Rattle.r2_cli_outcome.specs.declared.status.Status.{Status}
+use Rattle.r2_cli_outcome.specs.declared.status.Status.TheVariants.{Done, Usage, Short, ReadFault, WriteFault, NoMemory}
+use Rattle.r2_cli_outcome.specs.World.{World}
+use Rattle.r2_cli_outcome.specs.Outcome.{Target, Outcome, printed, refusal}
+use Rattle.r2_cli_outcome.specs.Reading.{Of, AreOf}
+use Rattle.r2_cli_outcome.specs.Stages.{Answer, Then, Only, Comes, passed, ended, on, stop, done, refused}
+use Rattle.r2_cli_outcome.specs.Input as input
+use Rattle.r2_cli_outcome.specs.Input.{Input}
+use Rattle.r2_cli_outcome.specs.Log as log_stage
+use Rattle.r2_cli_outcome.specs.Log.{LogOf, IsLogPart, log}
+use Rattle.r2_cli_outcome.specs.Left.{Leaves, faults_at}
+use Rattle.r2_cli_outcome.proofs.Decided.{EndsIn, ends_then, ends_only}
+use Rattle.r2_cli_outcome.proofs.Consequences.{leaves_cause}
+use Rattle.r2_cli.specs.declared.help.TheConstants.{HELP, VERSION}
+use Rattle.r2_cli.specs.Source as source_stage
+use Rattle.r2_cli.specs.Source.{SourceOf, refused_for, source}
+use Rattle.r2_cli.specs.Words.{Form, help, version, order, check, IsForm, IsUsage, source_of, log_of, inputs_of}
+use Rattle.r2_cli.specs.Commands.{command, order_outcome, IsOutcome, OutcomeOf, no_form, formed}
+use Rattle.r2_cli.specs.Causes as cause
+use Rattle.r2_cli.specs.Causes.{Cause, IsCaused, IsComplete, IsTooLong, ReadsLog, ReadsSource, long_log, long_source}
+
+-- the outcome's status has a cause
+abbrev Caused : List (List ℕ) → Contents → World → World → Outcome → Type 0
+Caused words held a b o = Cause words held a b o.status
+
+-- ---- logs
+
+part_there : (held : Contents) (name : List ℕ) (part : Part) → log (Of held) name (passed part) → (bytes : List ℕ) × (Some bytes ≡ held name) × (length bytes ≤ 67108864) × IsLogPart bytes part
+part_there held name part (on {a = bytes} (input.read there short) (log_stage.right is)) = (bytes, there, short, is)
+
+ends_log : (words : List (List ℕ)) (held : Contents) (a b : World) (form : Form) (name : List ℕ) → IsForm words form → log_of form ≡ Some name → In name (inputs_of form) → EndsIn (Caused words held a b) (log (Of held) name)
+ends_log words held a b form name is of reads o (stop (input.missing h)) = cause.no_file form name is reads (sym h)
+ends_log words held a b form name is of reads o (stop (input.too_long h m)) = cause.too_long is (long_log of (sym h) m)
+ends_log words held a b form name is of reads o (on {a = bytes} (input.read h short) (log_stage.wrong bad)) =
+    cause.bad_log is (record { name = name; is_log = of; there = sym h; short = short }) bad
+
+-- ---- sources
+
+ends_wrong : (words : List (List ℕ)) (held : Contents) (a b : World) (form : Form) (bytes cut : List ℕ) (error : SourceError) → IsForm words form → ReadsSource held form bytes cut → IsWrong bytes cut error
+    → Cause words held a b (refused_for cut error).status
+ends_wrong words held a b form bytes cut (errors.Fault fault) is reads bad = cause.source is reads bad
+ends_wrong words held a b form bytes cut errors.NoSuchCut is reads bad = cause.no_cut is reads bad
+ends_wrong words held a b form bytes cut (errors.Limit limit) is reads bad = cause.too_large is reads bad
+ends_wrong words held a b form bytes cut errors.Memory is reads bad = cause.no_memory
+
+ends_source : (words : List (List ℕ)) (held : Contents) (a b : World) (form : Form) (src cut : List ℕ) → IsForm words form → source_of form ≡ Some (src, cut) → In src (inputs_of form)
+    → EndsIn (Caused words held a b) (source (Of held) src cut)
+ends_source words held a b form src cut is of reads o (stop (input.missing h)) = cause.no_file form src is reads (sym h)
+ends_source words held a b form src cut is of reads o (stop (input.too_long h m)) = cause.too_long is (long_source of (sym h) m)
+ends_source words held a b form src cut is of reads o (on {a = bytes} (input.read h short) (source_stage.wrong {error = error} bad)) =
+    ends_wrong words held a b form bytes cut error is (record { name = src; is_source = of; there = sym h; short = short }) bad
+
+-- ---- commands
+
+ends_command : (words : List (List ℕ)) (held : Contents) (a b : World) (form : Form) → IsForm words form → EndsIn (Caused words held a b) (command (Of held) form)
+ends_command words held a b help is = ends_only (Caused words held a b) (printed Done HELP.now [])
+ends_command words held a b version is = ends_only (Caused words held a b) (printed Done VERSION.now [])
+ends_command words held a b (order name) is =
+    ends_then (Caused words held a b) (log (Of held) name) (λ part. Only (passed (order_outcome part.whole part.events))) (ends_log words held a b (order name) name is refl (inl refl))
+    (λ part. ends_only (Caused words held a b) (order_outcome part.whole part.events))
+ends_command words held a b (check src cut) is =
+    ends_then (Caused words held a b) (source (Of held) src cut) (λ accepted. Only (passed (printed Done (codes "typed\n") []))) (ends_source words held a b (check src cut) src cut is refl (inl refl))
+    (λ accepted. ends_only (Caused words held a b) (printed Done (codes "typed\n") []))
+
+of_same : (words : List (List ℕ)) (held : Contents) (a b : World) (o p : Outcome) → Only (passed p) (passed o) → Caused words held a b p → Caused words held a b o
+of_same words held a b o p e c = let same : o ≡ p = cc e in subst (λ (q : Outcome). Caused words held a b q) (sym same) c
+
+ordered_cause : (words : List (List ℕ)) (held : Contents) (a b : World) (name : List ℕ) (part : Part) (whole : Bool) → IsForm words (order name) → part.whole ≡ whole
+    → (bytes : List ℕ) × (Some bytes ≡ held name) × (length bytes ≤ 67108864) × IsLogPart bytes part → Caused words held a b (order_outcome whole part.events)
+ordered_cause words held a b name part true is e (bytes, there, short, of) =
+    cause.done (order name) is (bytes, part, record { name = name; is_log = refl; there = sym there; short = short }, of, e)
+ordered_cause words held a b name part false is e (bytes, there, short, of) =
+    cause.short {form = order name} is (record { name = name; is_log = refl; there = sym there; short = short }) of e
+
+checked_cause : (words : List (List ℕ)) (held : Contents) (a b : World) (src cut : List ℕ) (accepted : Unit {0}) → IsForm words (check src cut) → source (Of held) src cut (passed accepted) → Cause words held a b Done
+checked_cause words held a b src cut accepted is (on {a = bytes} (input.read there short) (source_stage.right right)) =
+    cause.done (check src cut) is (bytes, record { name = src; is_source = refl; there = sym there; short = short }, right)
+
+done_command : (words : List (List ℕ)) (held : Contents) (a b : World) (form : Form) (o : Outcome) → IsForm words form → command (Of held) form (passed o) → Caused words held a b o
+done_command words held a b help o is h = of_same words held a b o (printed Done HELP.now []) h (cause.done help is tt)
+done_command words held a b version o is h = of_same words held a b o (printed Done VERSION.now []) h (cause.done version is tt)
+done_command words held a b (order name) o is (on {a = part} h k) =
+    of_same words held a b o (order_outcome part.whole part.events) k (ordered_cause words held a b name part part.whole is refl (part_there held name part h))
+done_command words held a b (check src cut) o is (on {a = accepted} h k) = of_same words held a b o (printed Done (codes "typed\n") []) k (checked_cause words held a b src cut accepted is h)
+
+comes_cause : (words : List (List ℕ)) (held : Contents) (a b : World) (form : Form) (o : Outcome) → IsForm words form → Comes (command (Of held) form) o → Caused words held a b o
+comes_cause words held a b form o is (done h) = done_command words held a b form o is h
+comes_cause words held a b form o is (refused h) = ends_command words held a b form is o h
+
+outcome_cause : (words : List (List ℕ)) (held : Contents) (a b : World) (o : Outcome) → IsOutcome (Of held) words o → Caused words held a b o
+outcome_cause words held a b o (no_form u) = cause.usage u
+outcome_cause words held a b o (formed form is h) = comes_cause words held a b form o is h
+
+-- the contents of an outcome, or those of the files where there is none
+pub is_caused : (words : List (List ℕ)) (a b : World) (result : Status) → Leaves (OutcomeOf a.files words) a b result → IsCaused words a b result
+is_caused words a b result l =
+    leaves_cause (OutcomeOf a.files words) (λ s. IsCaused words a b s) a b result (λ o h. (h.0, h.1, outcome_cause words h.0 a b o h.2))
+    (λ r. (a.files.holds, (λ told n. refl), cause.read_fault r)) (λ t r. (a.files.holds, (λ told n. refl), cause.write_fault t r)) (a.files.holds, (λ told n. refl), cause.no_memory) l

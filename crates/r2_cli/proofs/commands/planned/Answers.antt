@@ -1,0 +1,25 @@
+use Rattle.std.proofs.Common.{refl}
+use Rattle.r2_cli_outcome.proofs.StageLemmas.{plans, plans_refusal, read_nothing}
+use Rattle.r2_cli.specs.Words.{help, version, order, check}
+use Rattle.r2_cli.specs.Commands.{command, no_form, formed}
+use Rattle.r2_cli.proofs.FormLemmas.{is_form_of}
+use Rattle.r2_cli.proofs.commands.planned.Goals as goal
+
+pub returns-in_default-clause-planned : goal.returns-in_default-clause-planned
+returns-in_default-clause-planned g c = plans_refusal _ _ _ _ _ (no_form c.in_default.ensures.none) c.refused.ensures
+
+pub returns-in-Help-clause-planned : goal.returns-in-Help-clause-planned
+returns-in-Help-clause-planned g c =
+    plans _ _ _ _ _ (λ o k. formed help (is_form_of _ _ _ help c.in-Some.ensures.form c.in-Help.is refl) k) (read_nothing _ _ _ _ _ c.help.ensures)
+
+pub returns-in-Version-clause-planned : goal.returns-in-Version-clause-planned
+returns-in-Version-clause-planned g c =
+    plans _ _ _ _ _ (λ o k. formed version (is_form_of _ _ _ version c.in-Some.ensures.form c.in-Version.is refl) k) (read_nothing _ _ _ _ _ c.version.ensures)
+
+pub returns-in-Order-clause-planned : goal.returns-in-Order-clause-planned
+returns-in-Order-clause-planned g c =
+    plans _ _ _ _ _ (λ o k. formed (order c.in-Order.log.now) (is_form_of _ _ _ (order c.in-Order.log.now) c.in-Some.ensures.form c.in-Order.is refl) k) c.order.ensures.answers
+
+pub returns-in-Check-clause-planned : goal.returns-in-Check-clause-planned
+returns-in-Check-clause-planned g c =
+    plans _ _ _ _ _ (λ o k. formed (check c.in-Check.source.now c.in-Check.cut.now) (is_form_of _ _ _ (check c.in-Check.source.now c.in-Check.cut.now) c.in-Some.ensures.form c.in-Check.is refl) k) c.check.ensures.answers

@@ -1,7 +1,0 @@
-use Rattle.std.proofs.Common.{◌≡◌, ◌++◌, take}
-use Rattle.std.specs.List.{flat_map}
-use Rattle.r2_cli.specs.OrderText.{key_text}
-use Rattle.r2_cli.proofs.order_line.put_keys.Given as goal
-
-abbrev pub invariant-loop-key : goal.invariant-loop-key
-invariant-loop-key l = l.text.items ≡ l.fn.text.items ++ flat_map key_text (take l.key-index l.keys)

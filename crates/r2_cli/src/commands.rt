@@ -1,0 +1,85 @@
+//! The commands, stage by stage. Nothing is written here.
+
+ghost use Rattle.std.specs.Prelude.{◌≡◌, [], IfOk};
+ghost use Rattle.r2_base.specs.Seen.{OnlyReads};
+ghost use Rattle.r2_cli_outcome.specs.declared.status.Status.TheVariants.{Done};
+ghost use Rattle.r2_cli_outcome.specs.Outcome.{printed};
+ghost use Rattle.r2_cli_outcome.specs.Reading.{Sees};
+ghost use Rattle.r2_cli_outcome.specs.Stages.{Only, passed};
+ghost use Rattle.r2_cli_outcome.specs.Plans.{Answers, IsPlanned, outcome_of};
+ghost use Rattle.r2_cli.specs.Words.{texts_of, order, check};
+ghost use Rattle.r2_cli.specs.Commands.{command, order_outcome, IsOutcome};
+
+use crate::forms::{Command, command_of};
+use crate::help::{HELP, VERSION};
+use crate::source::source;
+use log_closure::Closed;
+use r2_base::Files;
+use r2_cli_outcome::{End, Plan, Status, Text, line, log, print, refused};
+use std::alloc::{AllocError, Global};
+
+/// The plan that prints the text.
+fn printed(alloc: Global, text: &str) -> Result<Plan, AllocError>
+    ensures { IfOk result (λ plan. outcome_of plan ≡ printed Done text.now []) }
+{
+    let bytes = Vec::from_slice(alloc, text.as_bytes())?;
+    print(alloc, Status::Done, Text::Bytes(bytes), Vec::new(alloc))
+}
+
+/// The plan that prints the events, of a whole log or of one that is cut short.
+fn ordered(alloc: Global, part: Closed) -> Result<Plan, AllocError>
+    ensures { IfOk result (λ plan. outcome_of plan ≡ order_outcome part.whole part.events) }
+{
+    if part.whole() {
+        return print(alloc, Status::Done, Text::Order(part), Vec::new(alloc));
+    }
+    let line = line(alloc, b"short")?;
+    print(alloc, Status::Short, Text::Order(part), line)
+}
+
+fn help(alloc: Global) -> Result<Plan, End>
+    ensures { Answers outcome_of (Only (passed (printed Done HELP.now []))) 0 0 result }
+{
+    Ok(printed(alloc, HELP)?)
+}
+
+fn version(alloc: Global) -> Result<Plan, End>
+    ensures { Answers outcome_of (Only (passed (printed Done VERSION.now []))) 0 0 result }
+{
+    Ok(printed(alloc, VERSION)?)
+}
+
+fn order<F: Files>(alloc: Global, files: &mut F, name: &str) -> Result<Plan, End>
+    ensures only { OnlyReads (F.seen files.old) (F.seen files.new) }
+    ensures answers { Answers outcome_of (command (Sees (F.seen files.old)) (order name.now))
+        (F.seen files.old).read_faults (F.seen files.new).read_faults result }
+{
+    let part = log(alloc, files, name)?;
+    Ok(ordered(alloc, part)?)
+}
+
+fn check<F: Files>(alloc: Global, files: &mut F, src: &str, cut: &str) -> Result<Plan, End>
+    ensures only { OnlyReads (F.seen files.old) (F.seen files.new) }
+    ensures answers { Answers outcome_of (command (Sees (F.seen files.old)) (check src.now cut.now))
+        (F.seen files.old).read_faults (F.seen files.new).read_faults result }
+{
+    let _accepted = source(alloc, files, src, cut)?;
+    Ok(printed(alloc, "typed\n")?)
+}
+
+/// What the words come to.
+pub fn planned<F: Files>(alloc: Global, words: &[String], files: &mut F) -> Result<Plan, End>
+    ensures only { OnlyReads (F.seen files.old) (F.seen files.new) }
+    ensures planned { IsPlanned (IsOutcome (Sees (F.seen files.old)) (texts_of words.now))
+        (F.seen files.old).read_faults (F.seen files.new).read_faults result }
+{
+    let Some(command) = command_of(words) else {
+        return Err(refused(alloc, Status::Usage, b"usage"));
+    };
+    match command {
+        Command::Help => help(alloc),
+        Command::Version => version(alloc),
+        Command::Order { log } => order(alloc, files, log),
+        Command::Check { source, cut } => check(alloc, files, source, cut),
+    }
+}

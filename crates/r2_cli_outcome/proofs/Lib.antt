@@ -1,0 +1,13 @@
+pub mod Lists
+pub mod StageLemmas
+pub mod InputLemmas
+pub mod LogLemmas
+pub mod OneLog
+pub mod Decided
+pub mod Named
+pub mod AfterLemmas
+pub mod WriteLemmas
+pub mod SendingLemmas
+pub mod FinishLemmas
+pub mod LeavesLemmas
+pub mod Consequences

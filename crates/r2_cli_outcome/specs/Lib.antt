@@ -1,0 +1,13 @@
+pub mod Code
+pub mod World
+pub mod Outcome
+pub mod Stages
+pub mod Reading
+pub mod Input
+pub mod Log
+pub mod Plans
+pub mod After
+pub mod Left
+pub mod Sending
+pub mod Finishing
+pub mod Complete
