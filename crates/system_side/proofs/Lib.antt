@@ -1,0 +1,4 @@
+mod Bits
+mod Rounds
+mod Places
+mod State

@@ -1,0 +1,4 @@
+pub mod Schedule
+pub mod Threads
+pub mod Answers
+pub mod System

@@ -1,0 +1,14 @@
+//! The system below the cut: which thread steps next, mutexes, threads, and the answers of a system file.
+#![tactic(auto)]
+
+mod answers;
+mod file;
+mod lists;
+mod mask;
+mod system;
+mod threads;
+mod turns;
+
+pub use file::{Scripted, SysFile};
+pub use lists::{Answers, Schedule};
+pub use system::System;
