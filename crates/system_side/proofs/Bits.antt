@@ -1,12 +1,12 @@
 -- Masks of threads, and the first thread that may step.
-use Rattle.std.proofs.Common.{◌≡◌, ◌≢◌, ℕ, zero, suc, ◌+◌, ◌-◌, ◌<◌, ◌≤◌, Bool, true, false, List, [], ◌∷◌, ◌++◌, length, min, ◌^◌, set, get_or, Option, Some, None, IfSome, IfNone, IsNone, is_some, ◌↔◌, sym, refl, ap, ◌∙◌, inl, inr, arith}
-use Rattle.std.specs.List.{slice_get, range_with_len, find}
+use Rattle.std.proofs.Common.{◌≡◌, ◌≢◌, ℕ, zero, suc, ◌+◌, ◌-◌, ◌<◌, ◌≤◌, Bool, true, false, List, [], ◌∷◌, ◌++◌, length, min, set, Option, Some, None, IfSome, IfNone, IsNone, ◌↔◌, sym, refl, ap, ◌∙◌, inl, inr, arith}
+use Rattle.std.specs.List.{range_with_len, find}
 use Rattle.std.specs.Option.{option_or}
 use Rattle.std.specs.Int.{bit_at}
 use Rattle.std.proofs.lemmas.Bool.{cases_eq, cases_lt, false≢true}
 use Rattle.std.proofs.lemmas.Option.{slice_get_past}
 use Rattle.std.proofs.lemmas.List.Folds.{find-append}
-use Rattle.std.proofs.lemmas.Nat.Bits.{bit_at-pow_same, bit_at-pow_other, bit_at-lt}
+use Rattle.std.proofs.lemmas.Nat.Bits.{bit_at-pow_same, bit_at-pow_other}
 use Rattle.system_side.specs.declared.threads.Standing.{Standing}
 use Rattle.system_side.specs.declared.threads.Standing.TheVariants.{Ready}
 use Rattle.system_side.specs.Threads.{may_step, holds_of, is_ready, order_of, bit, HasBits}

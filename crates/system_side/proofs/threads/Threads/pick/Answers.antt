@@ -1,4 +1,4 @@
-use Rattle.std.proofs.Common.{◌≡◌, ◌↔◌, ℕ, false, List, Option, Some, IsNone, sym, subst, arith}
+use Rattle.std.proofs.Common.{◌≡◌, ◌↔◌, ℕ, false, List, Some, IsNone, subst}
 use Rattle.std.specs.List.{find}
 use Rattle.system_side.specs.declared.threads.Standing.{Standing}
 use Rattle.system_side.specs.Threads.{is_ready, order_of}
