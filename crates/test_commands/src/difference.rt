@@ -1,7 +1,7 @@
 //! What a run left, beside what is wanted of it.
 
 ghost use Rattle.std.specs.Prelude.{◌≡◌, ◌↔◌, IfOk, IsNone};
-ghost use Rattle.r2_cli.specs.Code.{code_of};
+ghost use Rattle.r2_cli_outcome.specs.Code.{code_of};
 
 use crate::fault::Fault;
 use std::alloc::{AllocError, Global};

@@ -4,9 +4,9 @@ ghost use Rattle.std.specs.Prelude.{◌≤◌, length};
 
 use log_codec::parse;
 use log_reference::{first_wrong_byte, first_wrong_event};
-use program_runs::{SUM, order_of, two_threads};
 use r2_cli::Status;
 use std::alloc::{AllocError, Global};
+use test_runs::{SUM, order_of, two_threads};
 
 /// What `order` leaves: its status, its line, and how what it prints ends.
 #[derive(Drop)]

@@ -1,8 +1,8 @@
 //! `check` on prefixes and changes of a source.
 
-use program_runs::{Left, POOL, check_cut, check_of, prefix};
 use r2_cli::Status;
 use std::alloc::AllocError;
+use test_runs::{Left, POOL, check_cut, check_of, prefix};
 
 /// The status of a refusal has its line, and nothing is printed; else the word is.
 fn is_an_answer(left: &Left) -> bool {

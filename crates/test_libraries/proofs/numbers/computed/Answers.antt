@@ -27,4 +27,4 @@ right_of Gt k b h = h
 right_of Ge k b h = h
 
 pub binary-requires-clause-right : goal.binary-requires-clause-right
-binary-requires-clause-right g c = ?
+binary-requires-clause-right c = ?
