@@ -17,8 +17,11 @@ fn decimal_numbers_are_spelled_and_read(rt: HostRuntime) -> Result<(), AllocErro
     ] {
         let mut spelled = Vec::new(rt.alloc());
         put_dec(&mut spelled, number)?;
-        let read = read_dec(text.as_bytes());
-        assert_eq!(rt; (spelled.as_slice(), read), (text.as_bytes(), Some(number)));
+        let is_spelled = spelled.as_slice() == text.as_bytes();
+        assert!(rt;
+            is_spelled && read_dec(text.as_bytes()) == Some(number),
+            "{text}"
+        );
     }
     Ok(())
 }

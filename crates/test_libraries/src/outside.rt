@@ -11,10 +11,7 @@ fn sure_files_hold_what_was_added(rt: HostRuntime) -> Result<(), Fault> {
     files.append("b", b"12")?;
     let mut piece = [0; 2];
     let count = files.read_at("a", 1, &mut piece)?;
-    assert_eq!(rt;
-        (count, piece, files.file("b")),
-        (2, *b"yz", Some(b"12".as_slice()))
-    );
+    assert!(rt; count == 2 && piece == *b"yz" && files.file("b") == Some(b"12".as_slice()));
     Ok(())
 }
 
