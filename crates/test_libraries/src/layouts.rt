@@ -2,7 +2,7 @@
 
 use c_lower_layout::layout;
 use c_syntax::Seq;
-use c_types_model::{Extent, Limit, lay_out};
+use c_types_model::{Extent, lay_out};
 use c_types_nodes::TypedTable;
 use c_types_program::TypedProgram;
 use c_types_structs::{Members, Structs};
@@ -19,23 +19,6 @@ fn members_and_the_end_are_padded(rt: HostRuntime) -> Result<(), AllocError> {
     let layout = lay_out(rt.alloc(), &[byte, short, long, byte])?;
     let is_laid = layout.offsets.as_slice() == [0, 2, 8, 16].as_slice();
     assert!(rt; is_laid && layout.size == 24 && layout.align == 8);
-    Ok(())
-}
-
-#[test]
-fn a_size_past_64_bits_is_too_large(rt: HostRuntime) -> Result<(), AllocError> {
-    let mut array = Extent::of_kind(IntKind::I32);
-    for size in [
-        4_000_000,
-        4_000_000_000_000,
-        4_000_000_000_000_000_000,
-        u64::MAX,
-    ] {
-        array = array.repeated(1_000_000);
-        assert_eq!(rt; array.size, size);
-    }
-    let layout = lay_out(rt.alloc(), &[array])?;
-    assert!(rt; matches!(layout.limit(), Some(Limit::Object)));
     Ok(())
 }
 
