@@ -1,14 +1,16 @@
-//! `order` beside the reference implementation of a right log.
+//! `order` beside the reference implementation of a right log, at every change of one byte of a small log, and at every
+//! prefix of a larger one and every step of one of its bytes to the value next to it.
 
-ghost use Rattle.std.specs.Prelude.{◌≤◌, length};
+ghost use Rattle.std.specs.Prelude.{◌≤◌, ◌<◌, length};
 
 use log_codec::parse;
 use log_reference::{first_wrong_byte, first_wrong_event};
 use r2_cli::Status;
 use std::alloc::{AllocError, Global};
+use std::process::Abort;
 use test_runs::{SUM, order_of, two_threads};
 
-/// What `order` leaves: its status, its line, and how what it prints ends.
+/// What `order` leaves by the reference implementation: its status, its line, and the end of what it prints.
 #[derive(Drop)]
 struct Outcome {
     status: Status,
@@ -24,7 +26,7 @@ fn refused(alloc: Global, line: String) -> Outcome {
     }
 }
 
-/// What `order` leaves of these bytes by the reference implementation.
+/// What `order` leaves of these bytes.
 fn expected(alloc: Global, bytes: &[u8]) -> Result<Outcome, AllocError>
     requires { length bytes.now ≤ 67108864 }
 {
@@ -52,50 +54,92 @@ fn expected(alloc: Global, bytes: &[u8]) -> Result<Outcome, AllocError>
     })
 }
 
-/// Whether `order` leaves of these bytes what the reference implementation says.
-fn agrees(alloc: Global, bytes: &[u8]) -> Result<bool, AllocError>
+/// Stops the test where `order` leaves anything else.
+fn compare(rt: &impl Abort, alloc: Global, bytes: &[u8]) -> Result<(), AllocError>
     requires { length bytes.now ≤ 67108864 }
 {
-    let wanted = expected(alloc, bytes)?;
+    let expected = expected(alloc, bytes)?;
     let left = order_of(alloc, bytes)?;
-    Ok(
-        left.status == wanted.status
-            && left.err.as_slice() == wanted.line.as_bytes()
-            && left.out.ends_with(wanted.end.as_bytes()),
-    )
+    assert_eq!(rt; left.status, expected.status, "{bytes:?}");
+    assert_eq!(rt; left.err.as_slice(), expected.line.as_bytes(), "{bytes:?}");
+    assert!(rt; left.out.ends_with(expected.end.as_bytes()), "{bytes:?}");
+    Ok(())
+}
+
+/// Each value at one place of the small log.
+fn change(rt: &impl Abort, alloc: Global, at: usize) -> Result<(), AllocError>
+    requires { at < 72 }
+{
+    for value in 0..=255u8 {
+        let mut bytes = SUM;
+        bytes[at] = value;
+        compare(rt, alloc, &bytes)?;
+    }
+    Ok(())
+}
+
+/// The log with the byte at one place raised by 1, and lowered by 1.
+fn step(rt: &impl Abort, alloc: Global, log: &[u8], at: usize) -> Result<(), AllocError>
+    requires here { at < length log.now }
+    requires few { length log.now ≤ 67108864 }
+{
+    let mut bytes = Vec::from_slice(alloc, log)?;
+    bytes[at] = log[at].wrapping_add(1);
+    compare(rt, alloc, &bytes)?;
+    bytes[at] = log[at].wrapping_sub(1);
+    compare(rt, alloc, &bytes)
 }
 
 #[test]
-fn every_change_of_a_byte_of_a_log_is_found(rt: HostRuntime) -> Result<(), AllocError> {
-    for at in 0..SUM.len() {
-        for value in 0..=255 {
-            let mut bytes = SUM;
-            bytes[at] = value;
-            assert!(rt; agrees(rt.alloc(), &bytes)?, "{value} at {at}");
-        }
+fn changes_of_the_first_quarter_are_found(rt: HostRuntime) -> Result<(), AllocError> {
+    for at in 0..18 {
+        change(&rt, rt.alloc(), at)?;
     }
     Ok(())
 }
 
 #[test]
-fn every_prefix_of_a_log_is_read_as_far_as_it_goes(rt: HostRuntime) -> Result<(), AllocError> {
-    let log = two_threads(rt.alloc())?;
+fn changes_of_the_second_quarter_are_found(rt: HostRuntime) -> Result<(), AllocError> {
+    for at in 18..36 {
+        change(&rt, rt.alloc(), at)?;
+    }
+    Ok(())
+}
+
+#[test]
+fn changes_of_the_third_quarter_are_found(rt: HostRuntime) -> Result<(), AllocError> {
+    for at in 36..54 {
+        change(&rt, rt.alloc(), at)?;
+    }
+    Ok(())
+}
+
+#[test]
+fn changes_of_the_last_quarter_are_found(rt: HostRuntime) -> Result<(), AllocError> {
+    for at in 54..72 {
+        change(&rt, rt.alloc(), at)?;
+    }
+    Ok(())
+}
+
+#[test]
+fn prefixes_are_read_as_far_as_they_go(rt: HostRuntime) -> Result<(), AllocError> {
+    let alloc = rt.alloc();
+    let log = two_threads(alloc)?;
     assert_eq!(rt; log.len(), 658);
     for length in 0..659 {
-        assert!(rt; agrees(rt.alloc(), &log[..length])?, "{length}");
+        compare(&rt, alloc, &log[..length])?;
     }
     Ok(())
 }
 
 #[test]
-fn every_step_of_a_byte_of_a_larger_log_is_found(rt: HostRuntime) -> Result<(), AllocError> {
-    let mut log = two_threads(rt.alloc())?;
+fn steps_of_each_byte_of_a_larger_log_are_found(rt: HostRuntime) -> Result<(), AllocError> {
+    let alloc = rt.alloc();
+    let log = two_threads(alloc)?;
     assert_eq!(rt; log.len(), 658);
     for at in 0..658 {
-        for step in [1, 254, 1] {
-            log[at] = log[at].wrapping_add(step);
-            assert!(rt; agrees(rt.alloc(), &log)?, "{step} at {at}");
-        }
+        step(&rt, alloc, &log, at)?;
     }
     Ok(())
 }

@@ -1,7 +1,7 @@
 //! `check` on prefixes and changes of a source.
 
 use r2_cli::Status;
-use std::alloc::AllocError;
+use std::alloc::{AllocError, Global};
 use test_runs::{Left, POOL, check_cut, check_of, prefix};
 
 /// The status of a refusal has its line, and nothing is printed; else the word is.
@@ -18,32 +18,71 @@ fn has_a_tree(left: &Left) -> bool {
     left.status == Status::Done || left.err.as_slice().ends_with(b" rule 18\n")
 }
 
-// A prefix that has a tree ends between two declarations, and cuts no comment and no line marker: a script of its own counted them.
-#[test]
-fn every_prefix_of_a_source_is_answered_and_50_have_a_tree(
-    rt: HostRuntime,
-) -> Result<(), AllocError> {
-    let mut trees: usize = 0;
-    for length in 0..=POOL.len() {
-        let left = check_cut(rt.alloc(), prefix(POOL.as_bytes(), length), "sys")?;
-        assert!(rt; is_an_answer(&left), "{length}");
+/// How many prefixes of the pool, of the lengths from `from` to before `to`, have a tree; none where one has
+/// no answer.
+fn prefixes_with_a_tree(
+    alloc: Global,
+    from: usize,
+    to: usize,
+) -> Result<Option<usize>, AllocError> {
+    let mut count: usize = 0;
+    for length in from..to {
+        let left = check_cut(alloc, prefix(POOL.as_bytes(), length), "sys")?;
+        if !is_an_answer(&left) {
+            return Ok(None);
+        }
         if has_a_tree(&left) {
-            trees = trees.saturating_add(1);
+            count = count.saturating_add(1);
         }
     }
-    assert_eq!(rt; trees, 50);
+    Ok(Some(count))
+}
+
+// The prefixes that have a tree end between two declarations, and cut no comment and no line marker.
+
+#[test]
+fn prefixes_of_a_source_are_trees_or_refused_in_its_first_part(
+    rt: HostRuntime,
+) -> Result<(), AllocError> {
+    assert_eq!(rt; prefixes_with_a_tree(rt.alloc(), 0, 924)?, Some(42));
     Ok(())
 }
 
 #[test]
-fn every_change_of_a_byte_of_a_source_is_answered(rt: HostRuntime) -> Result<(), AllocError> {
-    let source = *b"int a=1;";
+fn prefixes_of_a_source_are_trees_or_refused_in_its_second_part(
+    rt: HostRuntime,
+) -> Result<(), AllocError> {
+    assert_eq!(rt; prefixes_with_a_tree(rt.alloc(), 924, 1307)?, Some(3));
+    Ok(())
+}
+
+#[test]
+fn prefixes_of_a_source_are_trees_or_refused_in_its_third_part(
+    rt: HostRuntime,
+) -> Result<(), AllocError> {
+    assert_eq!(rt; prefixes_with_a_tree(rt.alloc(), 1307, 1601)?, Some(3));
+    Ok(())
+}
+
+#[test]
+fn prefixes_of_a_source_are_trees_or_refused_in_its_last_part(
+    rt: HostRuntime,
+) -> Result<(), AllocError> {
+    assert_eq!(rt; prefixes_with_a_tree(rt.alloc(), 1601, 1849)?, Some(2));
+    Ok(())
+}
+
+#[test]
+fn every_change_of_a_byte_is_answered(rt: HostRuntime) -> Result<(), AllocError> {
+    let alloc = rt.alloc();
+    let source = "int a=1;";
     for at in 0..source.len() {
         for byte in 0..=255 {
-            let mut bytes = source;
+            let mut bytes = Vec::from_slice(alloc, source.as_bytes())?;
+            assert!(rt; at < bytes.len());
             bytes[at] = byte;
-            let left = check_of(rt.alloc(), &bytes)?;
-            assert!(rt; is_an_answer(&left), "{byte} at {at}");
+            let left = check_of(alloc, &bytes)?;
+            assert!(rt; is_an_answer(&left));
         }
     }
     Ok(())
