@@ -12,7 +12,7 @@ may_begin_there l (Done v) f args h = h
 may_begin_there l (Going a vs ws) f args h = absurd h
 may_begin_there l (Entering s i g bs vs ws) f args h = absurd h
 may_begin_there l (Closing v w vs ws) f args h = absurd h
-may_begin_there l (Starting g bs) f args h = absurd h
+may_begin_there l (Starting g bs) f args h = h
 may_begin_there l Lost f args h = absurd h
 
 pub one_or_not : (a b : Bool) → (a || not b) ≡ true → (a ≡ true) ⊎ (b ≡ false)
