@@ -1,8 +1,8 @@
 -- Causal order (Lamport 1978), over any kind of event that is numbered among those with which it has something in common.
 use Rattle.std.specs.Prelude.{◌≡◌, ◌⊎◌, ℕ, suc, ◌≤◌, Bool, false, ◌&&◌, ◌||◌, cond, eqb, List, [], ◌∷◌}
-use Rattle.logical_clock.specs.Class.{number_of}
-use Rattle.logical_clock.specs.declared.key.Key.{Key}
-use Rattle.logical_clock.specs.declared.key.KeyMark.{KeyMark}
+use Rattle.run_events.specs.Class.{number_of}
+use Rattle.run_events.specs.declared.key.Key.{Key}
+use Rattle.run_events.specs.declared.key.KeyMark.{KeyMark}
 
 -- what ties events to each other: the thread that makes them, or a key
 pub data Link : Type 0 where

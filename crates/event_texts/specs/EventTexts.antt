@@ -1,12 +1,12 @@
 -- The texts of events: their kinds, their names, their keys, and a line for each.
 use Rattle.std.specs.Prelude.{ℕ, List, ◌++◌, length, codes, decimal}
 use Rattle.std.specs.List.{flat_map}
-use Rattle.logical_clock.specs.Class.{word_of}
-use Rattle.logical_clock.specs.declared.key.KeyMark.{KeyMark}
-use Rattle.logical_clock.specs.declared.event.EventName.{EventName}
-use Rattle.logical_clock.specs.declared.event.Record.{Record}
-use Rattle.logical_clock.specs.declared.event.Event.{Event}
-use Rattle.logical_clock.specs.declared.event.Event.TheVariants.{Call, Ret, Up, UpRet, Alloc, Free, Stop}
+use Rattle.run_events.specs.Class.{word_of}
+use Rattle.run_events.specs.declared.key.KeyMark.{KeyMark}
+use Rattle.run_events.specs.declared.event.EventName.{EventName}
+use Rattle.run_events.specs.declared.event.Record.{Record}
+use Rattle.run_events.specs.declared.event.Event.{Event}
+use Rattle.run_events.specs.declared.event.Event.TheVariants.{Call, Ret, Up, UpRet, Alloc, Free, Stop}
 use Rattle.log_closure.specs.Events.{LogEvent}
 
 -- the word of the kind of an event

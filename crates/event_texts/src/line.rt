@@ -2,11 +2,11 @@
 
 ghost use Rattle.std.specs.Prelude.{◌≡◌, ◌≤◌, ◌++◌, ℕ, List, codes, decimal, length, OnOk};
 ghost use Rattle.std.specs.List.{flat_map};
-ghost use Rattle.logical_clock.specs.Class.{word_of};
+ghost use Rattle.run_events.specs.Class.{word_of};
 ghost use Rattle.event_texts.specs.EventTexts.{kind_word, name_text, key_text, event_line, lines_text};
 
 use crate::prepend::PrependBuffer;
-use logical_clock::{Class, Event, EventName, KeyMark, Record};
+use run_events::{Class, Event, EventName, KeyMark, Record};
 use std::alloc::AllocError;
 use std::marker::Model;
 

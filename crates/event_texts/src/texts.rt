@@ -3,7 +3,7 @@
 ghost use Rattle.std.specs.Prelude.{◌≡◌, ◌++◌, OnOk};
 ghost use Rattle.event_texts.specs.EventTexts.{end_line, name_text};
 
-use logical_clock::EventName;
+use run_events::EventName;
 use r2_base::put_dec;
 use std::alloc::AllocError;
 

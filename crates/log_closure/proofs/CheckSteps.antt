@@ -6,8 +6,8 @@ use Rattle.std.proofs.lemmas.Bool.Decides.{nat_tests}
 use Rattle.std.proofs.lemmas.List.{get_or-set_same, get_or-set_other}
 use Rattle.std.proofs.Math.ListN.{set, replicate}
 use Rattle.std.proofs.lemmas.List.{get_or-replicate}
-use Rattle.logical_clock.specs.declared.key.KeyMark.{KeyMark}
-use Rattle.logical_clock.specs.declared.event.Record.{Record}
+use Rattle.run_events.specs.declared.key.KeyMark.{KeyMark}
+use Rattle.run_events.specs.declared.event.Record.{Record}
 use Rattle.log_closure.specs.declared.tie.Tie.{Tie}
 use Rattle.log_closure.specs.declared.place.LogPlace.{LogPlace}
 use Rattle.log_closure.specs.declared.error.OrderError.TheVariants.{Twice}

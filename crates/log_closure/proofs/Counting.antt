@@ -5,9 +5,9 @@ use Rattle.std.specs.List.{count_by, list_any}
 use Rattle.std.proofs.lemmas.List.Sums.{sum_by-append, sum_by-cons}
 use Rattle.std.proofs.lemmas.Bool.{eqb-true}
 use Rattle.std.proofs.lemmas.Bool.Decides.{nat_tests}
-use Rattle.logical_clock.specs.Class.{number_of}
-use Rattle.logical_clock.specs.declared.key.Key.{Key}
-use Rattle.logical_clock.specs.declared.key.KeyMark.{KeyMark}
+use Rattle.run_events.specs.Class.{number_of}
+use Rattle.run_events.specs.declared.key.Key.{Key}
+use Rattle.run_events.specs.declared.key.KeyMark.{KeyMark}
 use Rattle.causal_order.specs.Order.{same_key, is_listed}
 use Rattle.log_closure.specs.declared.tie.Tie.{Tie}
 use Rattle.log_closure.specs.Chains.{CountUp, key_count, thread_count}

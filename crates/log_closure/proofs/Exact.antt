@@ -3,9 +3,9 @@ use Rattle.std.proofs.Common.{◌≡◌, ℕ, ◌+◌, ◌-◌, ◌<◌, ◌≤�
 use Rattle.std.specs.Prelude.{◌||◌, eqb, ◌⊎◌}
 use Rattle.std.proofs.lemmas.Bool.{cases_lt, eqb-true, eq-eqb}
 use Rattle.std.proofs.lemmas.List.Folds.{list_any-append}
-use Rattle.logical_clock.specs.Class.{number_of}
-use Rattle.logical_clock.specs.declared.key.KeyMark.{KeyMark}
-use Rattle.logical_clock.specs.declared.event.Record.{Record}
+use Rattle.run_events.specs.Class.{number_of}
+use Rattle.run_events.specs.declared.key.KeyMark.{KeyMark}
+use Rattle.run_events.specs.declared.event.Record.{Record}
 use Rattle.log_closure.specs.declared.tie.Tie.{Tie}
 use Rattle.log_closure.specs.declared.error.OrderError.{OrderError}
 use Rattle.log_closure.specs.declared.error.OrderError.TheVariants.{Twice, Missing, Clock}

@@ -4,8 +4,8 @@ use Rattle.std.specs.BTreeMap.{BTreeMap, get, is_at}
 use Rattle.std.proofs.lemmas.List.{drop_more, take_more}
 use Rattle.std.proofs.lemmas.List.Concat.{flat_map-append}
 use Rattle.std.proofs.lemmas.Slice.Zip.{AllZip-long, all_zipped_more}
-use Rattle.logical_clock.specs.declared.key.KeyMark.{KeyMark}
-use Rattle.logical_clock.specs.declared.event.Record.{Record}
+use Rattle.run_events.specs.declared.key.KeyMark.{KeyMark}
+use Rattle.run_events.specs.declared.event.Record.{Record}
 use Rattle.log_closure.specs.declared.tie.TieKey.{TieKey}
 use Rattle.log_closure.specs.Tables.{Numbers, key_cmp, tie_key}
 use Rattle.log_closure.specs.KeyNumbers.{AreNumbers, HaveNumbers, Keeps, marks_of}

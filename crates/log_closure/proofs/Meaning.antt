@@ -1,11 +1,11 @@
 -- What ties say of names and of keys with tickets.
 use Rattle.std.proofs.Common.{◌≡◌, ℕ, suc, ◌+◌, ◌-◌, ◌<◌, true, cond, List, inl, inr, ⊎_elim, refl, sym, ap, ◌∙◌, subst, arith}
 use Rattle.std.specs.Prelude.{eqb, ◌⊎◌}
-use Rattle.logical_clock.specs.Class.{number_of}
-use Rattle.logical_clock.specs.declared.key.Class.{Class}
-use Rattle.logical_clock.specs.declared.key.Class.TheVariants.{Mutex, User, Callback, Thread, Pool, Out, Async}
-use Rattle.logical_clock.specs.declared.key.KeyMark.{KeyMark}
-use Rattle.logical_clock.specs.declared.event.EventName.{EventName}
+use Rattle.run_events.specs.Class.{number_of}
+use Rattle.run_events.specs.declared.key.Class.{Class}
+use Rattle.run_events.specs.declared.key.Class.TheVariants.{Mutex, User, Callback, Thread, Pool, Out, Async}
+use Rattle.run_events.specs.declared.key.KeyMark.{KeyMark}
+use Rattle.run_events.specs.declared.event.EventName.{EventName}
 use Rattle.log_closure.specs.declared.tie.Tie.{Tie}
 use Rattle.causal_order.specs.Order.{Link, OfThread, OfKey, DirectlyPrecedes}
 use Rattle.log_closure.specs.Closed.{IsClosed, IsClosedPart}

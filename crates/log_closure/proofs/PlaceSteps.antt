@@ -3,7 +3,7 @@ use Rattle.std.proofs.Common.{◌≡◌, ◌++◌, ◌∷◌, [], ℕ, ◌+◌, 
 use Rattle.std.specs.Prelude.{eqb}
 use Rattle.std.proofs.lemmas.List.{length-take}
 use Rattle.std.proofs.lemmas.List.Sums.{count_by-le-length}
-use Rattle.logical_clock.specs.declared.event.Record.{Record}
+use Rattle.run_events.specs.declared.event.Record.{Record}
 use Rattle.log_closure.specs.declared.place.LogPlace.{LogPlace}
 use Rattle.log_closure.specs.Events.{LogEvent, event_of, events_of, of_thread}
 use Rattle.log_closure.specs.Places.{place_of, places_from}

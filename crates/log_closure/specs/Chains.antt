@@ -3,8 +3,8 @@ use Rattle.std.specs.Prelude.{◌≡◌, ℕ, eqb, List, ◌∷◌, ◌++◌}
 use Rattle.std.specs.List.{count_by}
 use Rattle.causal_order.specs.Order.{is_listed}
 use Rattle.causal_order.specs.Order as order
-use Rattle.logical_clock.specs.declared.key.Key.{Key}
-use Rattle.logical_clock.specs.declared.key.KeyMark.{KeyMark}
+use Rattle.run_events.specs.declared.key.Key.{Key}
+use Rattle.run_events.specs.declared.key.KeyMark.{KeyMark}
 use Rattle.log_closure.specs.Events.{LogEvent, marks, numbered, In}
 
 -- the clock is the length of the longest chain that ends in the event

@@ -3,9 +3,9 @@ use Rattle.std.specs.Prelude.{◌≡◌, ℕ, Bool, eqb, List, [], ◌∷◌, �
 use Rattle.std.specs.List.{count_by}
 use Rattle.causal_order.specs.Order.{Link, OfThread, OfKey}
 pub use Rattle.causal_order.specs.Order.{In}
-use Rattle.logical_clock.specs.declared.key.KeyMark.{KeyMark}
-use Rattle.logical_clock.specs.declared.event.EventName.{EventName}
-use Rattle.logical_clock.specs.declared.event.Record.{Record}
+use Rattle.run_events.specs.declared.key.KeyMark.{KeyMark}
+use Rattle.run_events.specs.declared.event.EventName.{EventName}
+use Rattle.run_events.specs.declared.event.Record.{Record}
 
 -- an event: its name and its record
 pub record LogEvent : Type 0 where

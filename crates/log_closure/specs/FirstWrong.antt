@@ -1,6 +1,6 @@
 -- The first wrong event, computed.
 use Rattle.std.specs.Prelude.{ℕ, ◌+◌, Bool, false, ◌||◌, cond, eqb, max, List, [], ◌∷◌, ◌++◌, Option, Some, None}
-use Rattle.logical_clock.specs.declared.event.EventName.{EventName}
+use Rattle.run_events.specs.declared.event.EventName.{EventName}
 use Rattle.log_closure.specs.declared.tie.Tie.{Tie}
 use Rattle.log_closure.specs.declared.error.OrderError.{OrderError}
 use Rattle.log_closure.specs.declared.error.OrderError.TheVariants.{Twice, Missing, Clock}

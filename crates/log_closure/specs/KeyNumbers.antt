@@ -2,8 +2,8 @@
 use Rattle.std.specs.Prelude.{◌≡◌, ℕ, ◌<◌, List, Some, vec_len}
 use Rattle.std.specs.List.{AllZip, flat_map}
 use Rattle.std.specs.BTreeMap.{BTreeMap, get}
-use Rattle.logical_clock.specs.declared.key.KeyMark.{KeyMark}
-use Rattle.logical_clock.specs.declared.event.Record.{Record}
+use Rattle.run_events.specs.declared.key.KeyMark.{KeyMark}
+use Rattle.run_events.specs.declared.event.Record.{Record}
 use Rattle.log_closure.specs.declared.tie.TieKey.{TieKey}
 use Rattle.log_closure.specs.declared.numbering.Numbering.{Numbering}
 use Rattle.log_closure.specs.Tables.{Numbers, AreApart, key_cmp, tie_key}

@@ -1,7 +1,7 @@
 -- What comes directly before an event of a log.
 use Rattle.std.specs.Prelude.{ℕ, ◌+◌, List}
 use Rattle.causal_order.specs.Order as order
-use Rattle.logical_clock.specs.declared.key.KeyMark.{KeyMark}
+use Rattle.run_events.specs.declared.key.KeyMark.{KeyMark}
 use Rattle.log_closure.specs.Events.{LogEvent, numbered}
 
 -- the key with the ticket after

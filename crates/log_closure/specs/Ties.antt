@@ -1,8 +1,8 @@
 -- What ties events to each other: the number of an event in its thread, and the ticket of each of its keys. Threads have the class 0.
 use Rattle.std.specs.Prelude.{◌-◌, map, Bool, ◌&&◌, cond, eqb, List, [], ◌∷◌}
 use Rattle.std.specs.List.{list_any, flat_map}
-use Rattle.logical_clock.specs.Class.{number_of}
-use Rattle.logical_clock.specs.declared.key.KeyMark.{KeyMark}
+use Rattle.run_events.specs.Class.{number_of}
+use Rattle.run_events.specs.declared.key.KeyMark.{KeyMark}
 use Rattle.log_closure.specs.declared.tie.Tie.{Tie}
 use Rattle.log_closure.specs.Events.{LogEvent, marks}
 

@@ -1,6 +1,6 @@
 -- Which events of a file don't fit the others, and which of them is the first in file order.
 use Rattle.std.specs.Prelude.{◌≡◌, ◌≢◌, ℕ, ◌+◌, ◌≤◌, Bool, true, List, ◌∷◌, ◌++◌, ◌⊎◌}
-use Rattle.logical_clock.specs.declared.key.KeyMark.{KeyMark}
+use Rattle.run_events.specs.declared.key.KeyMark.{KeyMark}
 use Rattle.log_closure.specs.declared.error.OrderError.{OrderError}
 use Rattle.log_closure.specs.declared.error.OrderError.TheVariants.{Twice, Missing, Clock}
 use Rattle.log_closure.specs.Events.{LogEvent, marks, In, HasMark}

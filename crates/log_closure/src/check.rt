@@ -14,7 +14,7 @@ use crate::error::OrderError;
 use crate::numbering::numbering_of;
 use crate::place::LogPlace;
 use crate::table::Table;
-use logical_clock::{KeyMark, Record};
+use run_events::{KeyMark, Record};
 use std::alloc::Global;
 
 /// Whether the first event that has a key which stood before is the one at this place in the file.

@@ -11,7 +11,7 @@ ghost use Rattle.log_closure.specs.KeyNumbers.{HaveNumbers, IsNumbering, number_
 use crate::numbering::Numbering;
 use crate::table::Table;
 use crate::tie::{tie_before, tie_of};
-use logical_clock::{KeyMark, Record};
+use run_events::{KeyMark, Record};
 use std::alloc::{AllocError, Global};
 
 /// The clock of the first event that has each key and ticket, and the first event that has one which stood before.

@@ -20,7 +20,7 @@ use crate::grow::grow;
 use crate::part::Closed;
 use crate::place::{LogPlace, places_of};
 use log_codec::Kept;
-use logical_clock::Record;
+use run_events::Record;
 use std::alloc::{AllocError, Global};
 
 /// The places of the closed part, in order.

@@ -3,7 +3,7 @@
 ghost use Rattle.std.specs.Prelude.{◌≡◌};
 ghost use Rattle.log_closure.specs.declared.error.OrderError.TheVariants.{Memory};
 
-use logical_clock::EventName;
+use run_events::EventName;
 use std::alloc::{AllocError, AllocFailed};
 use thiserror::Error;
 

@@ -3,7 +3,7 @@
 ghost use Rattle.std.specs.Prelude.{◌≡◌, ◌<◌, ◌≤◌, ◌++◌, ◌∷◌, ◌||◌, [], ℕ, List, cond, map, length, OnOk, IfOk};
 ghost use Rattle.std.specs.List.{All, list_all};
 ghost use Rattle.std.specs.BTreeSet.{contains};
-ghost use Rattle.logical_clock.specs.declared.event.Record.{Record};
+ghost use Rattle.run_events.specs.declared.event.Record.{Record};
 ghost use Rattle.log_closure.specs.declared.tie.Tie.{Tie};
 ghost use Rattle.log_closure.specs.declared.place.LogPlace.{LogPlace};
 ghost use Rattle.log_closure.specs.Events.{LogEvent};
@@ -14,7 +14,7 @@ ghost use Rattle.log_closure.specs.Places.{event_at, events_at};
 
 use crate::place::LogPlace;
 use crate::tie::{Tie, tie_before, tie_of};
-use logical_clock::{KeyMark, Record};
+use run_events::{KeyMark, Record};
 use std::alloc::{AllocError, Global};
 use std::collections::BTreeSet;
 

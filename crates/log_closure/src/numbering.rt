@@ -2,12 +2,12 @@
 
 ghost use Rattle.std.specs.Prelude.{◌≡◌, ◌++◌, List, Some, vec_len, OnOk, IfOk};
 ghost use Rattle.std.specs.BTreeMap.{get};
-ghost use Rattle.logical_clock.specs.declared.key.KeyMark.{KeyMark};
+ghost use Rattle.run_events.specs.declared.key.KeyMark.{KeyMark};
 ghost use Rattle.log_closure.specs.Tables.{key_cmp};
 ghost use Rattle.log_closure.specs.KeyNumbers.{AreNumbers, HaveNumbers, Keeps, number_in, IsNumbering};
 
 use crate::tie::{TieKey, key_of};
-use logical_clock::{KeyMark, Record};
+use run_events::{KeyMark, Record};
 use std::alloc::{AllocError, Global};
 use std::collections::BTreeMap;
 

@@ -7,7 +7,7 @@ ghost use Rattle.log_closure.specs.Indexed.{IsIndexed};
 ghost use Rattle.log_closure.specs.Places.{part_at};
 
 use crate::place::LogPlace;
-use logical_clock::{EventName, Record};
+use run_events::{EventName, Record};
 use std::marker::Model;
 
 /// Events in the order of clock and thread, each with its name. [`crate::closed`] makes it.

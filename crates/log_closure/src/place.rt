@@ -4,7 +4,7 @@ ghost use Rattle.std.specs.Prelude.{◌≡◌, ◌<◌, ◌^◌, ℕ, length, If
 ghost use Rattle.log_closure.specs.Events.{events_of};
 ghost use Rattle.log_closure.specs.Places.{places_from};
 
-use logical_clock::{EventName, Record};
+use run_events::{EventName, Record};
 use std::alloc::{AllocError, Global};
 
 /// An event by what orders it: its clock and its name, and the place of its record in the file.

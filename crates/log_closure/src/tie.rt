@@ -4,7 +4,7 @@ ghost use Rattle.std.specs.Prelude.{◌≡◌, ◌<◌};
 ghost use Rattle.log_closure.specs.Ties.{key_tie, earlier};
 ghost use Rattle.log_closure.specs.Tables.{tie_key};
 
-use logical_clock::KeyMark;
+use run_events::KeyMark;
 
 /// A key with a ticket, in 16 bytes: the number of the key's class, its value, and the ticket.
 #[derive(Clone, Copy, PartialEq, Eq, PartialOrd, Ord)]

@@ -5,7 +5,7 @@ use Rattle.byte_format.specs.declared.stop.Stop.TheVariants as halt
 use Rattle.byte_format.specs.Reading.{Done, StopsAfter, Adds, list_at, read_list}
 use Rattle.byte_format.specs.Numbers.{Numbers}
 use Rattle.byte_format.proofs.Loops.{prefix_done}
-use Rattle.logical_clock.specs.declared.event.Record.{Record}
+use Rattle.run_events.specs.declared.event.Record.{Record}
 use Rattle.log_codec.specs.LogText.{Chunk}
 use Rattle.log_codec.specs.Reading.{record_at, chunk_head_at, chunk_at, read_chunk, AddsChunk}
 

@@ -6,7 +6,7 @@ use Rattle.std.proofs.lemmas.List.{append-nil, length-append, take-append-drop}
 use Rattle.byte_format.specs.declared.stop.Stop.{Stop}
 use Rattle.byte_format.specs.declared.stop.Stop.TheVariants as stop
 use Rattle.byte_format.specs.Numbers.{fixed}
-use Rattle.logical_clock.specs.declared.event.Record.{Record}
+use Rattle.run_events.specs.declared.event.Record.{Record}
 use Rattle.log_codec.specs.LogText.{Chunk, version_1, record_text, chunk_head, chunk_text, end_text, records_of, log_text, IsRecord, IsChunk, BeginsLog}
 use Rattle.log_codec.specs.Kept.{CanBeKept, records_within, chunks_within, log_within, StandInFull, AreAll, IsFirstWrong}
 use Rattle.log_codec.specs.Parsing.{AreKept, NamesWrong, HasRead}

@@ -10,15 +10,15 @@ use Rattle.byte_format.specs.Numbers.{Numbers}
 use Rattle.byte_format.proofs.Readers.{Reads, then, reads_done, reads_as, reads_chars, reads_code}
 use Rattle.byte_format.proofs.Codes.{Always, law_if, law_none, reads_list, reads_counted, reads_most, flag_code, reads_flag, reads_literal}
 use Rattle.byte_format.proofs.Spelled.{ReadsNumbers}
-use Rattle.logical_clock.specs.Class.{number_of}
-use Rattle.logical_clock.specs.declared.key.Class.{Class}
-use Rattle.logical_clock.specs.declared.key.Class.TheVariants.{Mutex, User, Callback, Thread, Pool, Out, Async}
-use Rattle.logical_clock.specs.declared.key.KeyMark.{KeyMark}
-use Rattle.logical_clock.specs.declared.event.Reason.{Reason}
-use Rattle.logical_clock.specs.declared.event.Reason.TheVariants.{Halted, Fault}
-use Rattle.logical_clock.specs.declared.event.Event.{Event}
-use Rattle.logical_clock.specs.declared.event.Event.TheVariants.{Call, Ret, Up, UpRet, Alloc, Free, Stop}
-use Rattle.logical_clock.specs.declared.event.Record.{Record}
+use Rattle.run_events.specs.Class.{number_of}
+use Rattle.run_events.specs.declared.key.Class.{Class}
+use Rattle.run_events.specs.declared.key.Class.TheVariants.{Mutex, User, Callback, Thread, Pool, Out, Async}
+use Rattle.run_events.specs.declared.key.KeyMark.{KeyMark}
+use Rattle.run_events.specs.declared.event.Reason.{Reason}
+use Rattle.run_events.specs.declared.event.Reason.TheVariants.{Halted, Fault}
+use Rattle.run_events.specs.declared.event.Event.{Event}
+use Rattle.run_events.specs.declared.event.Event.TheVariants.{Call, Ret, Up, UpRet, Alloc, Free, Stop}
+use Rattle.run_events.specs.declared.event.Record.{Record}
 use Rattle.log_codec.specs.declared.kind.EventTag.{EventTag}
 use Rattle.log_codec.specs.declared.kind.EventTag.TheVariants as kind
 use Rattle.log_codec.specs.declared.kind.Section.{Section}

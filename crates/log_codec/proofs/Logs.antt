@@ -9,7 +9,7 @@ use Rattle.byte_format.specs.Numbers.{Numbers}
 use Rattle.byte_format.proofs.Readers.{IsBytes, bytes-right, done_is}
 use Rattle.byte_format.proofs.Prefixes.{same_prefix, cut_done, cut_not, after_nothing}
 use Rattle.byte_format.proofs.Spelled.{ReadsNumbers}
-use Rattle.logical_clock.specs.declared.event.Record.{Record}
+use Rattle.run_events.specs.declared.event.Record.{Record}
 use Rattle.log_codec.specs.LogText.{Chunk, record_text, chunk_head, chunk_text, end_text, records_of, IsChunk}
 use Rattle.log_codec.specs.Kept.{records_within, chunks_within}
 use Rattle.log_codec.specs.Reading.{record_at, chunk_head_at, read_chunk, item_at, read_after, read_item}

@@ -10,7 +10,7 @@ use Rattle.byte_format.specs.Numbers.{fixed}
 use Rattle.byte_format.proofs.Readers.{IsBytes, bytes-right, bytes-left}
 use Rattle.byte_format.proofs.Codes.{reads_literal}
 use Rattle.byte_format.proofs.Spelled.{reads_fixed}
-use Rattle.logical_clock.specs.declared.event.Record.{Record}
+use Rattle.run_events.specs.declared.event.Record.{Record}
 use Rattle.log_codec.specs.declared.kind.Section.{Section}
 use Rattle.log_codec.specs.declared.kind.Section.TheVariants as mark
 use Rattle.log_codec.specs.LogText.{Chunk, version_1, chunk_text, head_text, end_text, records_of, log_text, IsChunk, AreChunks, IsLogOf, IsLog, BeginsLog}

@@ -2,7 +2,7 @@
 use Rattle.std.specs.Prelude.{◌≡◌, ℕ, ◌+◌, ◌-◌, ◌<◌, ◌^◌, Bool, nat_le, if◌then◌else◌, List, [], ◌∷◌, ◌++◌, length, take}
 use Rattle.std.specs.List.{AllByRecursion}
 use Rattle.std.specs.Int.{Width}
-use Rattle.logical_clock.specs.declared.event.Record.{Record}
+use Rattle.run_events.specs.declared.event.Record.{Record}
 use Rattle.log_codec.specs.LogText.{Chunk, Version, version_1, record_text, chunk_head, chunk_text, head_text, records_of, IsRecord, IsLogOf, BeginsLog}
 
 -- what is kept of a log: its records in file order, and whether the bytes are a whole log text

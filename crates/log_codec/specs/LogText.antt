@@ -3,13 +3,13 @@ use Rattle.std.specs.Prelude.{◌≡◌, ℕ, ◌<◌, ◌≤◌, ◌^◌, true,
 use Rattle.std.specs.List.{flat_map, AllByRecursion}
 use Rattle.std.specs.Int.{Width, w16, w32, w64, to_be_bytes}
 use Rattle.byte_format.specs.Spelling.{counted}
-use Rattle.logical_clock.specs.Class.{number_of}
-use Rattle.logical_clock.specs.declared.key.KeyMark.{KeyMark}
-use Rattle.logical_clock.specs.declared.event.Reason.{Reason}
-use Rattle.logical_clock.specs.declared.event.Reason.TheVariants.{Halted, Fault}
-use Rattle.logical_clock.specs.declared.event.Event.{Event}
-use Rattle.logical_clock.specs.declared.event.Event.TheVariants.{Call, Ret, Up, UpRet, Alloc, Free, Stop}
-use Rattle.logical_clock.specs.declared.event.Record.{Record}
+use Rattle.run_events.specs.Class.{number_of}
+use Rattle.run_events.specs.declared.key.KeyMark.{KeyMark}
+use Rattle.run_events.specs.declared.event.Reason.{Reason}
+use Rattle.run_events.specs.declared.event.Reason.TheVariants.{Halted, Fault}
+use Rattle.run_events.specs.declared.event.Event.{Event}
+use Rattle.run_events.specs.declared.event.Event.TheVariants.{Call, Ret, Up, UpRet, Alloc, Free, Stop}
+use Rattle.run_events.specs.declared.event.Record.{Record}
 
 -- records that one thread put out together
 pub record Chunk : Type 0 where

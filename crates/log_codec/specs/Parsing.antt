@@ -1,6 +1,6 @@
 -- What reading a log from its prefix says of the bytes.
 use Rattle.std.specs.Prelude.{◌≡◌, ℕ, ◌-◌, ◌≤◌, List, length, Result, Ok, Err}
-use Rattle.logical_clock.specs.declared.event.Record.{Record}
+use Rattle.run_events.specs.declared.event.Record.{Record}
 use Rattle.byte_format.specs.declared.stop.Stop.{Stop}
 use Rattle.byte_format.specs.declared.stop.Stop.TheVariants as stop
 use Rattle.log_codec.specs.LogText.{IsLog, BeginsLog}

@@ -4,14 +4,14 @@ use Rattle.std.specs.Int.{w16, w32, w64}
 use Rattle.byte_format.specs.declared.stop.Stop.{Stop}
 use Rattle.byte_format.specs.Reading.{Reading, Done, ◌>>=◌, StopsAfter, coded_at, at_most, flag_from, chars_at, counted_at, list_at, read_list, after, literal_at}
 use Rattle.byte_format.specs.Numbers.{Numbers}
-use Rattle.logical_clock.specs.declared.key.Class.{Class}
-use Rattle.logical_clock.specs.declared.key.Class.TheVariants.{Mutex, User, Callback, Thread, Pool, Out, Async}
-use Rattle.logical_clock.specs.declared.key.KeyMark.{KeyMark}
-use Rattle.logical_clock.specs.declared.event.Reason.{Reason}
-use Rattle.logical_clock.specs.declared.event.Reason.TheVariants.{Halted, Fault}
-use Rattle.logical_clock.specs.declared.event.Event.{Event}
-use Rattle.logical_clock.specs.declared.event.Event.TheVariants as event
-use Rattle.logical_clock.specs.declared.event.Record.{Record}
+use Rattle.run_events.specs.declared.key.Class.{Class}
+use Rattle.run_events.specs.declared.key.Class.TheVariants.{Mutex, User, Callback, Thread, Pool, Out, Async}
+use Rattle.run_events.specs.declared.key.KeyMark.{KeyMark}
+use Rattle.run_events.specs.declared.event.Reason.{Reason}
+use Rattle.run_events.specs.declared.event.Reason.TheVariants.{Halted, Fault}
+use Rattle.run_events.specs.declared.event.Event.{Event}
+use Rattle.run_events.specs.declared.event.Event.TheVariants as event
+use Rattle.run_events.specs.declared.event.Record.{Record}
 use Rattle.log_codec.specs.declared.kind.EventTag.{EventTag}
 use Rattle.log_codec.specs.declared.kind.EventTag.TheVariants as kind
 use Rattle.log_codec.specs.declared.kind.Section.{Section}

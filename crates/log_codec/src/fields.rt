@@ -7,7 +7,7 @@ ghost use Rattle.log_codec.specs.Reading.{class_from, kind_from, reason_from, ma
 
 use crate::kind::{EventTag, Section};
 use byte_format::{Stop, chars_at, u32_at, u64_at};
-use logical_clock::{Bytes, Class, Key, KeyMark, Reason};
+use run_events::{Bytes, Class, Key, KeyMark, Reason};
 use std::alloc::Global;
 
 pub fn class_at(bytes: &[u8]) -> Result<(Class, &[u8]), Stop>

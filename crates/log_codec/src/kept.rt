@@ -3,7 +3,7 @@
 ghost use Rattle.std.specs.Prelude.{◌≡◌};
 ghost use Rattle.log_codec.specs.Kept.{KeptLog, CanBeKept};
 
-use logical_clock::Record;
+use run_events::Record;
 use std::marker::Model;
 
 /// The records of a log, or of the bytes that begin one. `parse` makes it.

@@ -9,7 +9,7 @@ ghost use Rattle.log_codec.specs.Reading.{key_at, piece_at};
 
 use crate::fields::{key_at, piece_at};
 use byte_format::{Stop, count_at, u64_at};
-use logical_clock::{Bytes, KeyMark, Marks, Pieces, Words};
+use run_events::{Bytes, KeyMark, Marks, Pieces, Words};
 use std::alloc::Global;
 
 fn words_at(alloc: Global, count: u8, bytes: &[u8]) -> Result<(Vec<u64>, &[u8]), Stop>

@@ -14,7 +14,7 @@ use crate::kept::Kept;
 use crate::kind::Section;
 use crate::records::records_at;
 use byte_format::{Stop, count_at, literal_at, some_u16_at};
-use logical_clock::{LOG_THREADS, Record};
+use run_events::{LOG_THREADS, Record};
 use std::alloc::Global;
 
 /// What each log begins with: the letters `R2LOG` and the version.

@@ -9,7 +9,7 @@ use crate::fields::{kind_at, reason_at};
 use crate::kind::EventTag;
 use crate::lists::{args_at, keys_at, outs_at};
 use byte_format::{Stop, flag_at, u16_at, u32_at, u64_at};
-use logical_clock::{Event, Pieces, Record};
+use run_events::{Event, Pieces, Record};
 use std::alloc::Global;
 
 #[tactic(auto, unfolding(crate::specs::Reading::ret_at, crate::specs::Reading::values_at))]

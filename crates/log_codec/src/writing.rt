@@ -7,7 +7,7 @@ ghost use Rattle.byte_format.specs.Spelling.{counted};
 ghost use Rattle.log_codec.specs.LogText.{Chunk, version_1, key_text, piece_text, body_text, record_text, chunk_text, head_text, end_text, kind_number, reason_number, IsPiece, IsBody, IsRecord, IsChunk};
 
 use crate::parsing::HEAD;
-use logical_clock::{Bytes, Event, KeyMark, Marks, Pieces, Reason, Record, Words};
+use run_events::{Bytes, Event, KeyMark, Marks, Pieces, Reason, Record, Words};
 use std::alloc::AllocError;
 
 fn put_words(out: &mut Vec<u8>, words: &Words) -> Result<(), AllocError>

@@ -5,10 +5,10 @@ use Rattle.std.specs.Bool.{OnTrue, OnFalse}
 use Rattle.std.proofs.Math.Bool.{not}
 use Rattle.std.proofs.lemmas.Bool.{eq-eqb, eqb-true}
 use denote.Enum.Bare.{sameb, same_true, true_same}
-use Rattle.logical_clock.specs.contracts.key.Class.{the_type}
-use Rattle.logical_clock.specs.declared.key.Class.TheVariants.{Mutex}
-use Rattle.logical_clock.specs.declared.key.KeyMark.{KeyMark}
-use Rattle.logical_clock.specs.declared.event.EventName.{EventName}
+use Rattle.run_events.specs.contracts.key.Class.{the_type}
+use Rattle.run_events.specs.declared.key.Class.TheVariants.{Mutex}
+use Rattle.run_events.specs.declared.key.KeyMark.{KeyMark}
+use Rattle.run_events.specs.declared.event.EventName.{EventName}
 use Rattle.log_closure.specs.Predecessors.{next}
 
 -- answers of tests

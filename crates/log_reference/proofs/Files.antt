@@ -3,7 +3,7 @@ use Rattle.std.proofs.Common.{◌≡◌, ℕ, cond, ◌+◌, ◌<◌, ◌≤◌,
 use Rattle.std.specs.Prelude.{eqb}
 use Rattle.std.proofs.lemmas.List.Sums.{sum_by-append, sum_by-cons}
 use Rattle.std.proofs.lemmas.List.{take_more, take_all}
-use Rattle.logical_clock.specs.declared.event.Record.{Record}
+use Rattle.run_events.specs.declared.event.Record.{Record}
 use Rattle.log_closure.specs.Events.{LogEvent, In, event_of, events_after, events_of, of_thread}
 use Rattle.log_reference.proofs.Splits.{split-in, split_at, Each, each_more}
 

@@ -1,6 +1,6 @@
 -- A file has one first wrong event at most, and none where all are right.
 use Rattle.std.proofs.Common.{◌≡◌, Bool, List, ⊎_elim, refl, sym, ◌∙◌, subst}
-use Rattle.logical_clock.specs.declared.event.EventName.{EventName}
+use Rattle.run_events.specs.declared.event.EventName.{EventName}
 use Rattle.log_closure.specs.declared.error.OrderError.{OrderError}
 use Rattle.log_closure.specs.declared.error.OrderError.TheVariants.{Twice, Missing, Clock}
 use Rattle.log_closure.specs.Events.{LogEvent}

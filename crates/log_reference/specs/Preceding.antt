@@ -1,7 +1,7 @@
 -- Direct predecessors of an event, by the place where they stand in the file.
 use Rattle.std.specs.Prelude.{◌≡◌, ℕ, ◌+◌, List, ◌⊎◌}
-use Rattle.logical_clock.specs.declared.event.EventName.{EventName}
-use Rattle.logical_clock.specs.declared.key.KeyMark.{KeyMark}
+use Rattle.run_events.specs.declared.event.EventName.{EventName}
+use Rattle.run_events.specs.declared.key.KeyMark.{KeyMark}
 use Rattle.log_closure.specs.Events.{LogEvent, marks, In, HasMark}
 use Rattle.log_closure.specs.Predecessors.{next}
 

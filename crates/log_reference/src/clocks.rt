@@ -2,7 +2,7 @@
 
 ghost use Rattle.std.specs.Prelude.{◌≡◌, ◌<◌, ◌^◌, length};
 ghost use Rattle.std.specs.Bool.{OnTrue, OnFalse};
-ghost use Rattle.logical_clock.specs.declared.key.KeyMark.{KeyMark};
+ghost use Rattle.run_events.specs.declared.key.KeyMark.{KeyMark};
 ghost use Rattle.log_closure.specs.Events.{In, HasMark, event_of, events_of};
 ghost use Rattle.log_closure.specs.Predecessors.{next};
 ghost use Rattle.log_closure.specs.Wrong.{IsGreatestBefore, IsClockWrong};
@@ -10,7 +10,7 @@ ghost use Rattle.log_reference.specs.Preceding.{LeadsTo};
 
 use crate::events::{any_has, holds_predecessors, name_of};
 use crate::marks::{has, mark_before};
-use logical_clock::{EventName, KeyMark, Record};
+use run_events::{EventName, KeyMark, Record};
 
 /// Whether the key with the ticket before is one of `own`, and at no event before.
 fn comes_from(before: &[Record], own: &[KeyMark], mark: &KeyMark) -> bool

@@ -3,14 +3,14 @@
 
 ghost use Rattle.std.specs.Prelude.{◌≡◌, ◌<◌, ◌^◌, length};
 ghost use Rattle.std.specs.Bool.{OnTrue, OnFalse};
-ghost use Rattle.logical_clock.specs.declared.key.KeyMark.{KeyMark};
+ghost use Rattle.run_events.specs.declared.key.KeyMark.{KeyMark};
 ghost use Rattle.log_closure.specs.Events.{LogEvent, In, HasMark, event_of, events_of};
 ghost use Rattle.log_closure.specs.Predecessors.{HoldsPredecessors, next};
 ghost use Rattle.log_closure.specs.Wrong.{IsTwice};
 ghost use Rattle.log_reference.specs.Preceding.{ThreadHolds};
 
 use crate::marks::{has, mark_before, repeats};
-use logical_clock::{EventName, KeyMark, Record};
+use run_events::{EventName, KeyMark, Record};
 
 /// The name of the event that stands after these records in the file.
 pub fn name_of(before: &[Record], entry: &Record) -> EventName

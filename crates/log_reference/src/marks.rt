@@ -3,12 +3,12 @@
 ghost use Rattle.std.specs.Prelude.{◌≡◌};
 ghost use Rattle.std.specs.Option.{MatchOption};
 ghost use Rattle.std.specs.Bool.{OnTrue, OnFalse};
-ghost use Rattle.logical_clock.specs.declared.key.KeyMark.{KeyMark};
+ghost use Rattle.run_events.specs.declared.key.KeyMark.{KeyMark};
 ghost use Rattle.log_closure.specs.Events.{In};
 ghost use Rattle.log_closure.specs.Predecessors.{next};
 ghost use Rattle.log_closure.specs.Wrong.{StandsTwice};
 
-use logical_clock::KeyMark;
+use run_events::KeyMark;
 
 /// Whether the key with the ticket is one of these.
 pub fn has(marks: &[KeyMark], mark: &KeyMark) -> bool

@@ -8,7 +8,7 @@ ghost use Rattle.log_closure.specs.Wrong.{AreRight, IsFirstWrong, IsRight, IsWro
 use crate::clocks::is_clock_wrong;
 use crate::events::{is_twice, lacks, name_of};
 use log_closure::OrderError;
-use logical_clock::Record;
+use run_events::Record;
 
 /// What is wrong with the event that stands after these in the file.
 fn wrong(whole: bool, records: &[Record], before: &[Record], entry: &Record) -> Option<OrderError>

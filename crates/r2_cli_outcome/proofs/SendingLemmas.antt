@@ -7,8 +7,8 @@ use Rattle.std.proofs.Math.ListN.{drop_of_length-le}
 use Rattle.std.proofs.lemmas.List.{take-append-le, take-append-drop}
 use Rattle.std.proofs.lemmas.Grind.{flat_map-append}
 use Rattle.std.proofs.lemmas.Slice.Eq.{bytes_eq-Decides}
-use Rattle.logical_clock.specs.declared.event.EventName.{EventName}
-use Rattle.logical_clock.specs.declared.event.Record.{Record}
+use Rattle.run_events.specs.declared.event.EventName.{EventName}
+use Rattle.run_events.specs.declared.event.Record.{Record}
 use Rattle.log_closure.specs.Events.{LogEvent}
 use Rattle.event_texts.specs.EventTexts.{event_line, lines_text, end_line, order_text}
 use Rattle.r2_base.specs.Causes.{Rose, IsWriteCause}

@@ -16,7 +16,7 @@ use crate::status::Status;
 use event_texts::put_name;
 use log_closure::{Closed, OrderError, closed};
 use log_codec::{LogError, parse};
-use logical_clock::EventName;
+use run_events::EventName;
 use r2_base::{Files, put_dec};
 use std::alloc::{AllocError, Global};
 

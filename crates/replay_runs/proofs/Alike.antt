@@ -1,7 +1,7 @@
 -- The laws in the words of their clauses.
 use Rattle.std.proofs.Common.{◌≡◌, ◌↔◌, ℕ, List, [], ◌∷◌, ◌++◌, map, sym, ap, ◌∙◌}
-use Rattle.logical_clock.specs.declared.key.Class.TheVariants.{Out}
-use Rattle.logical_clock.specs.declared.event.Record.{Record}
+use Rattle.run_events.specs.declared.key.Class.TheVariants.{Out}
+use Rattle.run_events.specs.declared.event.Record.{Record}
 use Rattle.marks.specs.Marks.{Mark}
 use Rattle.marks.specs.Wants.{is_above}
 use Rattle.replay_runs.specs.Runs.{OfThread, OfKey, Start, RaceFree, Rules, Run, Trimmed, history}

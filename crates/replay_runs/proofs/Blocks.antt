@@ -1,7 +1,7 @@
 -- A byte's block is the one of the pool's list.
 use Rattle.std.proofs.Common.{◌≡◌, ◌⊎◌, inl, inr, ⊎_elim, ℕ, ◌+◌, ◌<◌, ◌≤◌, Bool, true, false, cond, eqb, leb, ltb, List, [], ◌∷◌, refl, sym, ap, ◌∙◌, subst, arith, eq-eqb, eqb-true}
 use Rattle.std.proofs.lemmas.Bool.{leb-true, ltb-true, le-leb, lt-ltb, and_parts, and_from, ne_eqb, true≢false, cases_eq, cases_lt, cases_Bool}
-use Rattle.logical_clock.specs.declared.key.Class.TheVariants.{Pool}
+use Rattle.run_events.specs.declared.key.Class.TheVariants.{Pool}
 use Rattle.marks.specs.Places.{replay_pool}
 use Rattle.marks.specs.Ranges.{Range, range, within}
 use Rattle.marks.specs.Marks.{EventKind, Call, Ret, Up, UpRet, Alloc, Free, Stop, Event, Act, Turn, Load, Store, Enter, Leave, Step, Fault, Made, Mark}

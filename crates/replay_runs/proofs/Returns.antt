@@ -1,8 +1,8 @@
 -- The checks of a Ret in a replay pass exactly where it keeps the rules of sizes and of its key.
 use Rattle.std.proofs.Common.{◌≡◌, ⊎_elim, ℕ, ◌+◌, ◌≤◌, Bool, true, false, cond, eqb, List, [], ◌∷◌, ◌++◌, length, map, Option, Some, None, inl, inr, refl, sym, ap, ◌∙◌, subst, arith, eqb-true}
 use Rattle.std.proofs.lemmas.Bool.{cases_lt, true≢false}
-use Rattle.logical_clock.specs.declared.key.Class.TheVariants.{Async}
-use Rattle.logical_clock.specs.declared.key.Key.{Key}
+use Rattle.run_events.specs.declared.key.Class.TheVariants.{Async}
+use Rattle.run_events.specs.declared.key.Key.{Key}
 use Rattle.marks.specs.Ranges.{Range, Piece, are_bytes, piece_ranges}
 use Rattle.marks.specs.Marks.{EventKind, Call, Ret, Up, UpRet, Alloc, Free, Stop, Commit, NoRegion, Withheld, Released, Event, Act, Turn, Load, Store, Enter, Leave, Step, Fault, Made, Mark}
 use Rattle.replay_runs.specs.Runs.{OfKey, Start, Allowed, is_listed, keys_of, marks_of, new_events}

@@ -1,7 +1,7 @@
 -- Where the checks find something, only a Stop or the Fault that is found may come.
 use Rattle.std.proofs.Common.{◌≡◌, inl, inr, ⊎_elim, ℕ, zero, suc, ◌+◌, ◌≤◌, Bool, true, false, ◌&&◌, ◌||◌, cond, eqb, List, [], ◌∷◌, ◌++◌, map, length, Option, None, is_some, refl, sym, ap, ◌∙◌, subst, arith, eq-eqb, eqb-true}
 use Rattle.std.proofs.lemmas.Bool.{le-leb, lt-ltb, and_from, and_parts, or_cases, cases_Bool, ne_eqb, true≢false}
-use Rattle.logical_clock.specs.declared.key.Class.TheVariants.{Callback, Async}
+use Rattle.run_events.specs.declared.key.Class.TheVariants.{Callback, Async}
 use Rattle.marks.specs.declared.side.Side.TheVariants.{Replay, System}
 use Rattle.marks.specs.declared.fault.FaultKind.{FaultKind}
 use Rattle.marks.specs.declared.fault.FaultKind.TheVariants.{NotLive, ReadOnly, StackFull}

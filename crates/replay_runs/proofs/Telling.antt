@@ -1,8 +1,8 @@
 -- What is known after a mark of the accesses before it.
 use Rattle.std.proofs.Common.{◌≡◌, ◌⊎◌, inl, inr, ⊎_elim, ℕ, suc, ◌<◌, ◌≤◌, Bool, true, false, ◌&&◌, cond, eqb, List, [], ◌∷◌, length, refl, sym, ap, ◌∙◌, arith, eq-eqb, eqb-true}
 use Rattle.std.proofs.lemmas.Bool.{and_parts, and_from, or_cases, true≢false, cases_eq}
-use Rattle.logical_clock.specs.declared.key.Key.{Key}
-use Rattle.logical_clock.specs.declared.key.KeyMark.{KeyMark}
+use Rattle.run_events.specs.declared.key.Key.{Key}
+use Rattle.run_events.specs.declared.key.KeyMark.{KeyMark}
 use Rattle.marks.specs.Marks.{Mark, is_event}
 use Rattle.marks.specs.Bytes.{writes, touches, late, place}
 use Rattle.marks.proofs.Touched.{or_true_right}

@@ -1,8 +1,8 @@
 -- What no one sees races with nothing: by induction over the marks of a run.
 use Rattle.std.proofs.Common.{◌≡◌, ◌⊎◌, inl, inr, ⊎_elim, ℕ, ◌+◌, ◌<◌, ◌≤◌, Bool, true, false, ◌&&◌, ◌||◌, not, cond, eqb, List, [], ◌∷◌, ◌++◌, length, refl, sym, ap, ◌∙◌, subst, arith, eq-eqb, eqb-true}
 use Rattle.std.proofs.lemmas.Bool.{and_parts, or_cases, or_parts, true≢false, cases_Bool, cases_eq, cases_lt, ne_eqb}
-use Rattle.logical_clock.specs.declared.key.Class.TheVariants.{Pool, Async}
-use Rattle.logical_clock.specs.declared.key.KeyMark.{KeyMark}
+use Rattle.run_events.specs.declared.key.Class.TheVariants.{Pool, Async}
+use Rattle.run_events.specs.declared.key.KeyMark.{KeyMark}
 use Rattle.marks.specs.declared.side.Side.{Side}
 use Rattle.marks.specs.declared.side.Side.TheVariants.{Replay}
 use Rattle.marks.specs.Places.{is_constant, thread_count, stack, stack_size, replay_pool, pool_size}

@@ -1,6 +1,6 @@
 -- The laws of replay runs.
 use Rattle.std.specs.Prelude.{◌≡◌, ◌≢◌, ◌↔◌, ℕ, ◌-◌, ◌<◌, ◌≤◌, Bool, true, false, cond, eqb, ltb, List, [], ◌∷◌, ◌++◌, length, drop, Option, None}
-use Rattle.logical_clock.specs.declared.event.Record.{Record}
+use Rattle.run_events.specs.declared.event.Record.{Record}
 use Rattle.marks.specs.Places.{is_constant, is_system}
 use Rattle.marks.specs.Ranges.{Range, range, in_range}
 use Rattle.marks.specs.Marks.{Load, Store, Leave, Mark, is_event}

@@ -1,8 +1,8 @@
 -- The rules of a replay run: how each mark follows from its thread's own past, and from the events that share a key.
 use Rattle.std.specs.Prelude.{◌≡◌, ◌≢◌, ◌⊎◌, ℕ, ◌≤◌, ◌<◌, Bool, true, false, ◌&&◌, ◌||◌, cond, eqb, List, [], ◌∷◌, ◌++◌, map, length, Option, Some, None, is_some}
-use Rattle.logical_clock.specs.declared.key.Class.{Class}
-use Rattle.logical_clock.specs.declared.key.Class.TheVariants.{Mutex, User, Callback, Thread, Pool, Out, Async}
-use Rattle.logical_clock.specs.declared.key.Key.{Key}
+use Rattle.run_events.specs.declared.key.Class.{Class}
+use Rattle.run_events.specs.declared.key.Class.TheVariants.{Mutex, User, Callback, Thread, Pool, Out, Async}
+use Rattle.run_events.specs.declared.key.Key.{Key}
 use Rattle.marks.specs.declared.side.Side.TheVariants.{Replay, System}
 use Rattle.marks.specs.declared.fault.FaultKind.{FaultKind}
 use Rattle.marks.specs.declared.fault.FaultKind.TheVariants.{NotLive, ReadOnly}

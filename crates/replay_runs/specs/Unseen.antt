@@ -1,6 +1,6 @@
 -- What is known of the accesses of a byte that is in no object, or that a call holds.
 use Rattle.std.specs.Prelude.{◌≡◌, ℕ, ◌+◌, ◌<◌, ◌≤◌, Bool, true, false, ◌||◌, eqb, List, [], ◌∷◌, Option, Some, None}
-use Rattle.logical_clock.specs.declared.key.Class.TheVariants.{Pool, Async}
+use Rattle.run_events.specs.declared.key.Class.TheVariants.{Pool, Async}
 use Rattle.marks.specs.declared.side.Side.TheVariants.{Replay}
 use Rattle.marks.specs.Places.{thread_count, stack, stack_size, replay_stacks, replay_pool, replay_end, pool_size}
 use Rattle.marks.specs.Ranges.{Range, range, in_range, any_range}

@@ -1,10 +1,10 @@
 -- A test that a written-out run passes only if it is disciplined.
 use Rattle.std.proofs.Common.{◌≡◌, inl, inr, ⊎_elim, ℕ, suc, ◌+◌, ◌%◌, ◌≤◌, Bool, true, false, ◌&&◌, ◌||◌, not, eqb, leb, ltb, List, [], ◌∷◌, ◌++◌, map, length, Option, Some, None, refl, sym, ap, ◌∙◌, subst, arith, eq-eqb, eqb-true}
 use Rattle.std.proofs.lemmas.Bool.{leb-true, ltb-true, and_from, and_parts, or_cases, true≢false}
-use Rattle.logical_clock.specs.declared.key.Class.{Class}
-use Rattle.logical_clock.specs.declared.key.Class.TheVariants.{Callback, Pool, Async}
-use Rattle.logical_clock.specs.declared.key.Key.{Key}
-use Rattle.logical_clock.specs.declared.key.KeyMark.{KeyMark}
+use Rattle.run_events.specs.declared.key.Class.{Class}
+use Rattle.run_events.specs.declared.key.Class.TheVariants.{Callback, Pool, Async}
+use Rattle.run_events.specs.declared.key.Key.{Key}
+use Rattle.run_events.specs.declared.key.KeyMark.{KeyMark}
 use Rattle.marks.specs.declared.side.Side.{Side}
 use Rattle.marks.specs.declared.side.Side.TheVariants.{Replay, System}
 use Rattle.marks.specs.declared.fault.FaultKind.{FaultKind}

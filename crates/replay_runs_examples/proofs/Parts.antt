@@ -1,7 +1,7 @@
 -- Tests of the parts of the rules that are about lists and ranges.
 use Rattle.std.proofs.Common.{◌≡◌, ℕ, Bool, true, false, ◌&&◌, not, cond, eqb, leb, List, [], ◌∷◌, ◌++◌, length, Option, Some, None, refl, sym, ap, subst, eqb-true}
 use Rattle.std.proofs.lemmas.Bool.{leb-true, and_parts, true≢false}
-use Rattle.logical_clock.specs.declared.key.Key.{Key}
+use Rattle.run_events.specs.declared.key.Key.{Key}
 use Rattle.marks.specs.declared.fault.FaultKind.{FaultKind}
 use Rattle.marks.specs.declared.fault.FaultKind.TheVariants.{NotLive, ReadOnly}
 use Rattle.marks.specs.Kinds.{fault_number}

@@ -1,6 +1,6 @@
 -- Runs that end with a fault, and returns that are written once.
 use Rattle.std.specs.Prelude.{ℕ, zero, suc, List, [], ◌∷◌, ◌++◌, Some, None, Bool, true, false}
-use Rattle.logical_clock.specs.declared.key.Class.{Class}
+use Rattle.run_events.specs.declared.key.Class.{Class}
 use Rattle.marks.specs.declared.fault.FaultKind.TheVariants.{NotLive, ReadOnly}
 use Rattle.marks.specs.Ranges.{range}
 use Rattle.marks.specs.Marks.{NoRegion, Reading, Writing, Ret, Up, UpRet, Alloc, Free, Stop, Load, Store, Enter, Leave, Fault}

@@ -1,6 +1,6 @@
 -- Steps at which the checks find something, each beside one that just keeps the rule.
 use Rattle.std.specs.Prelude.{ℕ, zero, suc, ◌+◌, ◌*◌, cond, eqb, List, [], ◌∷◌, ◌++◌, false}
-use Rattle.logical_clock.specs.declared.key.Class.TheVariants.{Callback}
+use Rattle.run_events.specs.declared.key.Class.TheVariants.{Callback}
 use Rattle.marks.specs.declared.side.Side.TheVariants.{Replay}
 use Rattle.marks.specs.Ranges.{Range, range, within}
 use Rattle.marks.specs.Marks.{Call, Ret, Up, Enter, NoRegion, Made, Mark}

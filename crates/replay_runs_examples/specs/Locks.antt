@@ -1,6 +1,6 @@
 -- Two threads add 1 to a global, under a lock or without one.
 use Rattle.std.specs.Prelude.{ℕ, zero, suc, ◌+◌, List, [], ◌∷◌, ◌++◌, Some, None, Bool, false}
-use Rattle.logical_clock.specs.declared.key.Class.{Class}
+use Rattle.run_events.specs.declared.key.Class.{Class}
 use Rattle.marks.specs.Ranges.{bytes_of_number}
 use Rattle.marks.specs.Marks.{Up, UpRet, Load, Store, Enter, Leave}
 use Rattle.marks.specs.Wants.{Outside, Loads, Stores, Enters, Leaves, Calls, Below, UpReturns}

@@ -1,6 +1,6 @@
 -- Regions that are handed down: held until a return, or prepared and filled by another thread's call.
 use Rattle.std.specs.Prelude.{ℕ, zero, suc, List, [], ◌∷◌, Some, None, Bool, false}
-use Rattle.logical_clock.specs.declared.key.Class.{Class}
+use Rattle.run_events.specs.declared.key.Class.{Class}
 use Rattle.marks.specs.Ranges.{Piece, range}
 use Rattle.marks.specs.Marks.{Released, Call, Ret, Up, UpRet, Stop, Load, Store, Enter, Leave}
 use Rattle.marks.specs.Wants.{Outside, Loads, Stores, Enters, Leaves, Calls, Below, UpReturns}

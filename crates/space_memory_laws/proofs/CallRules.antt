@@ -5,7 +5,7 @@ use Rattle.std.specs.List.{list_any}
 use Rattle.std.proofs.lemmas.Bool.{true≢false, eq-eqb, or_cases}
 use Rattle.std.proofs.lemmas.List.Elements.{All-head, All-tail}
 use Rattle.std.proofs.lemmas.List.Folds.{list_any-append}
-use Rattle.logical_clock.specs.declared.key.Class.TheVariants.{Async}
+use Rattle.run_events.specs.declared.key.Class.TheVariants.{Async}
 use Rattle.marks.specs.Ranges.{Piece, Prepared, in_range, any_range, any_piece, any_prepared, piece_ranges, prepared_ranges}
 use Rattle.marks.specs.Ranges as marks
 use Rattle.marks.specs.Marks.{Call, Event, Made, Mark}

@@ -4,7 +4,7 @@ use Rattle.std.specs.Prelude.{slice_index, option_map, unwrap_or}
 use Rattle.std.specs.List.{list_any}
 use Rattle.std.proofs.lemmas.Bool.{cases_Bool, cases_eq, true≢false, cond-true, cond-false, eq-eqb, ne_eqb, and_parts, and_from, and_left, and_right, or_cases}
 use Rattle.std.proofs.lemmas.List.Elements.{filter-append, All-head, All-tail}
-use Rattle.logical_clock.specs.declared.key.Class.TheVariants.{Async}
+use Rattle.run_events.specs.declared.key.Class.TheVariants.{Async}
 use Rattle.marks.specs.declared.side.Side.TheVariants.{Replay}
 use Rattle.marks.specs.Places.{thread_count, stack, replay_pool, pool_size, is_system, is_constant}
 use Rattle.marks.specs.Ranges.{Piece, Prepared, any_range, any_prepared, piece_ranges}

@@ -2,7 +2,7 @@
 use Rattle.std.proofs.Common.{◌≡◌, ℕ, ◌+◌, ◌≤◌, ◌⊎◌, Bool, true, false, cond, ◌||◌, eqb, List, ◌∷◌, Option, Some, None, is_some, inl, inr, refl, ap, sym, ◌∙◌, subst, arith}
 use Rattle.std.specs.Prelude.{unwrap_or, option_map}
 use Rattle.std.proofs.lemmas.Bool.{cases_eq, cond-true, cond-false, eq-eqb, ne_eqb, true≢false}
-use Rattle.logical_clock.specs.declared.key.Class.TheVariants.{Pool}
+use Rattle.run_events.specs.declared.key.Class.TheVariants.{Pool}
 use Rattle.marks.specs.declared.side.Side.TheVariants.{Replay}
 use Rattle.marks.specs.Places.{stack, stack_size, replay_pool, pool_size, is_system}
 use Rattle.marks.specs.Ranges.{within, range, in_range, any_range}

@@ -1,7 +1,7 @@
 -- Memory looks only at what runs that are alike have alike.
 use Rattle.std.proofs.Common.{◌≡◌, ℕ, ◌+◌, List, sym, ap, ◌∙◌, subst}
 use Rattle.std.specs.Prelude.{option_map}
-use Rattle.logical_clock.specs.declared.key.Class.TheVariants.{Pool, Async}
+use Rattle.run_events.specs.declared.key.Class.TheVariants.{Pool, Async}
 use Rattle.marks.specs.declared.side.Side.TheVariants.{Replay}
 use Rattle.marks.specs.Places.{stack, replay_pool, pool_size}
 use Rattle.marks.specs.Ranges.{any_range}

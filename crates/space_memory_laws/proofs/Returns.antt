@@ -5,7 +5,7 @@ use Rattle.std.specs.List.{list_any}
 use Rattle.std.specs.Option.{option_to_list}
 use Rattle.std.proofs.lemmas.Bool.{cases_Bool, cases_eq, true≢false, cond-true, cond-false, eq-eqb, ne_eqb, eqb-true, and_left, and_right}
 use Rattle.std.proofs.lemmas.List.{map-append, length-set}
-use Rattle.logical_clock.specs.declared.key.Class.TheVariants.{Async}
+use Rattle.run_events.specs.declared.key.Class.TheVariants.{Async}
 use Rattle.marks.specs.declared.side.Side.TheVariants.{Replay}
 use Rattle.marks.specs.Places.{thread_count, stack, replay_pool, pool_size, is_system}
 use Rattle.marks.specs.Ranges.{Piece, range, any_range, piece_ranges}

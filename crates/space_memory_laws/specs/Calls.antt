@@ -1,6 +1,6 @@
 -- A Call, part by part: its thread opens a call, then each range is read, held or prepared. It is undone, or it is a mark.
 use Rattle.std.specs.Prelude.{◌≡◌, ℕ, ◌+◌, ◌-◌, ◌^◌, ◌<◌, Bool, true, false, List, [], ◌∷◌, ◌++◌, length, map, Some, slice_index, slice_set, All}
-use Rattle.logical_clock.specs.declared.key.Class.TheVariants.{Async}
+use Rattle.run_events.specs.declared.key.Class.TheVariants.{Async}
 use Rattle.marks.specs.Places.{thread_count, is_constant, is_system}
 use Rattle.marks.specs.Ranges.{Piece, Prepared, in_range, piece_ranges, prepared_ranges}
 use Rattle.marks.specs.Ranges as marks

@@ -1,6 +1,6 @@
 -- Blocks: the events that `alloc_in` and `free_in` are.
 use Rattle.std.specs.Prelude.{◌≡◌, ◌⊎◌, ℕ, ◌≤◌, true, List, Some, None}
-use Rattle.logical_clock.specs.declared.key.Class.TheVariants.{Pool}
+use Rattle.run_events.specs.declared.key.Class.TheVariants.{Pool}
 use Rattle.marks.specs.declared.side.Side.TheVariants.{Replay}
 use Rattle.marks.specs.Places.{replay_pool}
 use Rattle.marks.specs.Marks.{Alloc, Free, Event, Made, Mark}

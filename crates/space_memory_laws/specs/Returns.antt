@@ -1,6 +1,6 @@
 -- Rets: the marks that `release` is, and what the checks of a run find where it refuses one.
 use Rattle.std.specs.Prelude.{if◌then◌else◌, ◌≡◌, ◌↔◌, ℕ, ◌-◌, ◌<◌, ◌≤◌, ◌==◌, Bool, true, not, List, [], ◌∷◌, ◌++◌, length, Option, Some, None, option_map, slice_index, slice_set, All}
-use Rattle.logical_clock.specs.declared.key.Class.TheVariants.{Async}
+use Rattle.run_events.specs.declared.key.Class.TheVariants.{Async}
 use Rattle.marks.specs.Places.{thread_count}
 use Rattle.marks.specs.Ranges.{Piece, piece_ranges}
 use Rattle.marks.specs.Ranges as marks

@@ -1,7 +1,7 @@
 //! What a system file says.
 
 use crate::lists::{Answers, Schedule};
-use logical_clock::Pieces;
+use run_events::Pieces;
 
 /// What the system side of a run is to do: how many steps it may make, how many records a chunk of the log has, which
 /// thread is to step when, and what functions without a body answer.

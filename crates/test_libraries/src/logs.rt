@@ -1,7 +1,7 @@
 //! A log, written (`log_codec`).
 
 use log_codec::{put_chunk, put_end, put_head};
-use logical_clock::{Class, Event, Key, KeyMark, Marks, Record, Words};
+use run_events::{Class, Event, Key, KeyMark, Marks, Record, Words};
 use std::alloc::AllocError;
 
 /// A log with one event, byte by byte: a callback begins, under one key.

@@ -3,7 +3,7 @@ use Rattle.std.proofs.lemmas.Bool.{cases_lt}
 use Rattle.std.proofs.lemmas.Result.{err_from_is_err_and}
 use Rattle.std.proofs.lemmas.List.{length-replicate, length-set}
 use Rattle.std.proofs.Math.ListN.{drop_of_length-le}
-use Rattle.logical_clock.specs.declared.event.EventName.{EventName}
+use Rattle.run_events.specs.declared.event.EventName.{EventName}
 use Rattle.log_closure.specs.declared.place.LogPlace.{LogPlace}
 use Rattle.log_closure.specs.declared.error.OrderError.{OrderError}
 use Rattle.log_closure.specs.declared.error.OrderError.TheVariants.{Twice}

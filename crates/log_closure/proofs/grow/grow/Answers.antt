@@ -2,7 +2,7 @@ use Rattle.std.proofs.Common.{Vec, Global, cond, ◌≡◌, ◌++◌, ◌∷◌,
 use Rattle.std.specs.List.{All}
 use Rattle.std.specs.BTreeSet.{contains}
 use Rattle.std.proofs.lemmas.List.Elements.{All-nil}
-use Rattle.logical_clock.specs.declared.event.Record.{Record}
+use Rattle.run_events.specs.declared.event.Record.{Record}
 use Rattle.log_closure.specs.declared.tie.Tie.{Tie}
 use Rattle.log_closure.specs.declared.place.LogPlace.{LogPlace}
 use Rattle.std.proofs.Math.ListN.{replicate}

@@ -1,5 +1,5 @@
 use Rattle.std.proofs.Common.{[], List, take, sym, subst}
-use Rattle.logical_clock.specs.declared.key.KeyMark.{KeyMark}
+use Rattle.run_events.specs.declared.key.KeyMark.{KeyMark}
 use Rattle.log_closure.specs.Tables.{Numbers, key_cmp}
 use Rattle.std.specs.BTreeMap.{get}
 use Rattle.log_closure.specs.KeyNumbers.{AreNumbers, HaveNumbers, marks_of, number_in}

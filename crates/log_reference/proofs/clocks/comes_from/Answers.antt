@@ -1,5 +1,5 @@
 use Rattle.std.proofs.Common.{sym, ◌∙◌, subst}
-use Rattle.logical_clock.specs.declared.key.KeyMark.{KeyMark}
+use Rattle.run_events.specs.declared.key.KeyMark.{KeyMark}
 use Rattle.log_closure.specs.Events.{In, HasMark, events_of}
 use Rattle.log_reference.proofs.Equal.{if_not, anyway, next_one}
 use Rattle.log_reference.proofs.clocks.comes_from.Goals as goal

@@ -1,6 +1,6 @@
 use Rattle.std.proofs.Common.{List, [], ◌∷◌, ◌++◌, take, sym, ◌∙◌, subst}
 use Rattle.std.proofs.lemmas.List.{take_all}
-use Rattle.logical_clock.specs.declared.event.Record.{Record}
+use Rattle.run_events.specs.declared.event.Record.{Record}
 use Rattle.log_closure.specs.Events.{LogEvent, event_of, events_of}
 use Rattle.log_reference.proofs.Files.{events_more}
 use Rattle.log_reference.proofs.Preceding.{IsGreatestOf, max_is, greatest_none, greatest_more, greatest_same, greatest_whole}

@@ -1,5 +1,5 @@
 use Rattle.std.proofs.Common.{◌≡◌, ℕ, ◌+◌, ⊎_elim, sym, ap, ◌∙◌, subst}
-use Rattle.logical_clock.specs.declared.event.EventName.{EventName}
+use Rattle.run_events.specs.declared.event.EventName.{EventName}
 use Rattle.log_closure.specs.Events.{In}
 use Rattle.log_closure.specs.Predecessors.{next}
 use Rattle.log_reference.proofs.Equal.{if_false}

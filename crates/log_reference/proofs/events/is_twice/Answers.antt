@@ -1,5 +1,5 @@
 use Rattle.std.proofs.Common.{⊎_elim, sym, subst}
-use Rattle.logical_clock.specs.declared.key.KeyMark.{KeyMark}
+use Rattle.run_events.specs.declared.key.KeyMark.{KeyMark}
 use Rattle.std.proofs.Common.{List}
 use Rattle.log_closure.specs.Events.{In}
 use Rattle.log_closure.specs.Wrong.{StandsTwice}

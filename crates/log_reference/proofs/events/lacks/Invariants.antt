@@ -1,5 +1,5 @@
 use Rattle.std.proofs.Common.{◌≡◌, take}
-use Rattle.logical_clock.specs.declared.key.KeyMark.{KeyMark}
+use Rattle.run_events.specs.declared.key.KeyMark.{KeyMark}
 use Rattle.log_closure.specs.Events.{HasMark, events_of}
 use Rattle.log_closure.specs.Predecessors.{next}
 use Rattle.log_reference.proofs.Splits.{Holds}

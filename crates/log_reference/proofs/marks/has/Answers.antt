@@ -1,5 +1,5 @@
 use Rattle.std.proofs.Common.{◌≡◌, get_or, refl, sym, subst}
-use Rattle.logical_clock.specs.declared.key.KeyMark.{KeyMark}
+use Rattle.run_events.specs.declared.key.KeyMark.{KeyMark}
 use Rattle.log_closure.specs.Events.{In}
 use Rattle.log_reference.proofs.Splits.{In-get, holds_more, holds_all}
 use Rattle.log_reference.proofs.Equal.{no_mark, same_marks, other_marks}

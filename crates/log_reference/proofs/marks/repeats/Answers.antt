@@ -1,5 +1,5 @@
 use Rattle.std.proofs.Common.{List, ◌∷◌, ◌++◌, get_or, take, drop, ◌+◌, ap, ◌∙◌}
-use Rattle.logical_clock.specs.declared.key.KeyMark.{KeyMark}
+use Rattle.run_events.specs.declared.key.KeyMark.{KeyMark}
 use Rattle.log_closure.specs.Events.{In}
 use Rattle.log_reference.proofs.Splits.{In-split, split-in, split_at, each_none, each_at, each_all}
 use Rattle.log_reference.proofs.Equal.{no_mark}

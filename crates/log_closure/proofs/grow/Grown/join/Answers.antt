@@ -3,7 +3,7 @@ use Rattle.std.specs.Prelude.{max}
 use Rattle.std.specs.List.{list_all}
 use Rattle.std.specs.BTreeSet.{contains}
 use Rattle.std.proofs.Math.ListN.{set}
-use Rattle.logical_clock.specs.declared.key.KeyMark.{KeyMark}
+use Rattle.run_events.specs.declared.key.KeyMark.{KeyMark}
 use Rattle.log_closure.specs.declared.grow.Grown.{Grown}
 use Rattle.log_closure.specs.Ties.{key_tie, needs}
 use Rattle.log_closure.specs.Tables.{tie_cmp}

@@ -1,7 +1,7 @@
 use Rattle.std.proofs.Common.{◌≡◌, ◌++◌, ◌∷◌, [], ◌+◌, List, Some, get_or, take, sym, ap, ◌∙◌, subst, append_assoc}
 use Rattle.std.specs.BTreeMap.{get}
 use Rattle.std.proofs.lemmas.List.{take_more}
-use Rattle.logical_clock.specs.declared.key.KeyMark.{KeyMark}
+use Rattle.run_events.specs.declared.key.KeyMark.{KeyMark}
 use Rattle.log_closure.specs.Tables.{Numbers, key_cmp, tie_key}
 use Rattle.log_closure.specs.Ties.{key_tie}
 use Rattle.log_closure.specs.KeyNumbers.{HaveNumbers, number_in}

@@ -1,5 +1,5 @@
 use Rattle.std.proofs.Common.{◌++◌, List, vec_len, take}
-use Rattle.logical_clock.specs.declared.key.KeyMark.{KeyMark}
+use Rattle.run_events.specs.declared.key.KeyMark.{KeyMark}
 use Rattle.log_closure.specs.KeyNumbers.{AreNumbers, HaveNumbers, number_in}
 use Rattle.log_closure.proofs.numbering.Numbering.add.Given as goal
 

@@ -1,7 +1,7 @@
 -- The classes of keys: the number that logs hold, and the word that is printed.
 use Rattle.std.specs.Prelude.{ℕ, List, codes}
-use Rattle.logical_clock.specs.declared.key.Class.{Class}
-use Rattle.logical_clock.specs.declared.key.Class.TheVariants.{Mutex, User, Callback, Thread, Pool, Out, Async}
+use Rattle.run_events.specs.declared.key.Class.{Class}
+use Rattle.run_events.specs.declared.key.Class.TheVariants.{Mutex, User, Callback, Thread, Pool, Out, Async}
 
 -- the number of a class
 abbrev pub number_of : Class → ℕ

@@ -2,7 +2,7 @@
 //! and gives it back without taking memory.
 
 ghost use Rattle.std.specs.Prelude.{◌≡◌, [], ℕ, List};
-ghost use Rattle.logical_clock.specs.declared.key.KeyMark.{KeyMark};
+ghost use Rattle.run_events.specs.declared.key.KeyMark.{KeyMark};
 
 use crate::key::KeyMark;
 use std::alloc::Global;

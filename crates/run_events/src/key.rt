@@ -1,7 +1,7 @@
 //! Keys: what orders events of different threads.
 
 ghost use Rattle.std.specs.Prelude.{◌≡◌};
-ghost use Rattle.logical_clock.specs.Class.{number_of, word_of};
+ghost use Rattle.run_events.specs.Class.{number_of, word_of};
 
 /// What the value of a key names.
 #[derive(Clone, Copy, PartialEq, Eq)]
