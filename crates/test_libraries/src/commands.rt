@@ -1,9 +1,11 @@
-use crate::exchange;
+//! A command that writes two files and both streams (`r2_cli_examples`).
+
 use r2_base::{MemFiles, MemSink, SureFiles, SureSink};
+use r2_cli_examples::exchange;
 use std::alloc::{AllocError, Global};
 
 /// Calls that fail, and what is left: of the files `log` and `rep`, and of the two streams.
-type Row<'a> = (
+type Case<'a> = (
     &'a [u64],
     &'a [u64],
     &'a [u64],
@@ -19,27 +21,27 @@ fn numbers(alloc: Global, items: &[u64]) -> Result<Vec<u64>, AllocError> {
 }
 
 /// Whether the command leaves this, where `src` holds `abcd` and `sys` holds `xy`.
-fn is_left(alloc: Global, row: &Row<'_>) -> Result<bool, AllocError> {
-    let mut files = MemFiles::new(alloc, 100, numbers(alloc, row.0)?);
+fn is_left(alloc: Global, case: &Case<'_>) -> Result<bool, AllocError> {
+    let mut files = MemFiles::new(alloc, 100, numbers(alloc, case.0)?);
     files.hold(alloc, "src", b"abcd")?;
     files.hold(alloc, "sys", b"xy")?;
     files.hold(alloc, "rep", b"old")?;
-    let mut out = MemSink::new(alloc, numbers(alloc, row.1)?);
-    let mut err = MemSink::new(alloc, numbers(alloc, row.2)?);
+    let mut out = MemSink::new(alloc, numbers(alloc, case.1)?);
+    let mut err = MemSink::new(alloc, numbers(alloc, case.2)?);
     let status = exchange(
         alloc, "src", "sys", "log", "rep", &mut files, &mut out, &mut err,
     );
     Ok(
-        status.code() == row.3
-            && files.file("log") == row.4.map(|text| text.as_bytes())
-            && files.file("rep") == row.5.map(|text| text.as_bytes())
-            && out.bytes() == row.6.as_bytes()
-            && err.bytes() == row.7.as_bytes(),
+        status.code() == case.3
+            && files.file("log") == case.4.map(|text| text.as_bytes())
+            && files.file("rep") == case.5.map(|text| text.as_bytes())
+            && out.bytes() == case.6.as_bytes()
+            && err.bytes() == case.7.as_bytes(),
     )
 }
 
 // Calls 0 and 1 read the first file, 2 and 3 the second; 4 and 6 empty a file, and 5 and 7 fill it.
-const ROWS: [Row<'static>; 15] = [
+const CASES: [Case<'static>; 15] = [
     (
         &[],
         &[],
@@ -177,8 +179,8 @@ const ROWS: [Row<'static>; 15] = [
 #[test]
 fn each_call_that_fails_stops_the_command_there(rt: HostRuntime) -> Result<(), AllocError> {
     let alloc = rt.alloc();
-    for (number, row) in ROWS.iter().enumerate() {
-        assert!(rt; is_left(alloc, row)?, "at row {number}");
+    for (number, case) in CASES.iter().enumerate() {
+        assert!(rt; is_left(alloc, case)?, "case {number}");
     }
     Ok(())
 }
