@@ -3,8 +3,8 @@
 ghost use Rattle.std.specs.Prelude.{◌≡◌, ◌++◌, OnOk};
 ghost use Rattle.event_texts.specs.EventTexts.{end_line, name_text};
 
-use run_events::EventName;
 use r2_base::put_dec;
+use run_events::EventName;
 use std::alloc::AllocError;
 
 /// Adds `THREAD.INDEX`.

@@ -16,8 +16,8 @@ use crate::status::Status;
 use event_texts::put_name;
 use log_closure::{Closed, OrderError, closed};
 use log_codec::{LogError, parse};
-use run_events::EventName;
 use r2_base::{Files, put_dec};
+use run_events::EventName;
 use std::alloc::{AllocError, Global};
 
 /// How many bytes a log may have.
