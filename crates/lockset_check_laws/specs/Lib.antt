@@ -1,0 +1,4 @@
+pub mod Locks
+pub mod Order
+pub mod Examples
+pub mod Held
