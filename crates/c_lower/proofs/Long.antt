@@ -43,8 +43,8 @@ module _ (x : Making) where
   convert_len false k h = refl
 
   call_len : (f : Callee) (n k : ℕ) → length (k ∷ []) ≡ length (call_code f x n)
-  call_len (SourceFunction number) n k = refl
-  call_len (BuiltinFunction b) n k = refl
+  call_len (SourceFunction from number) n k = refl
+  call_len (BuiltinFunction from b) n k = refl
   call_len (Through v) n k = refl
 
   pair_len : (a b : List Instr) (ha hb : List ℕ) (i : Instr) (k : ℕ) → length ha ≡ length a → length hb ≡ length b → length (ha ++ (hb ++ (k ∷ []))) ≡ length (a ++ (b ++ one i))
@@ -55,7 +55,7 @@ module _ (x : Making) where
 
   mutual
     pub object_len : (o : Object) (h : ℕ) → length (object_heights o h) ≡ length (object_code o x)
-    object_len (GlobalObject place t) h = refl
+    object_len (GlobalObject from place t) h = refl
     object_len (LocalObject place t) h = refl
     object_len (TextObject from n) h = refl
     object_len (Pointed v t) h = value_len v h
@@ -64,7 +64,7 @@ module _ (x : Making) where
 
     pub value_len : (v : Value) (h : ℕ) → length (value_heights v h) ≡ length (value_code v x)
     value_len (Constant k n) h = refl
-    value_len (FunctionAddress number t) h = refl
+    value_len (FunctionAddress from number t) h = refl
     value_len (ReadOf o) h = len_app (object_heights o h) (if_true (is_read (object_type o)) (h + 1)) (object_code o x) (load_code (is_read (object_type o)) o) (object_len o h) (load_len (is_read (object_type o)) o (h + 1))
     value_len (AddressOf o t) h = object_len o h
     value_len (Convert t v) h = len_app (value_heights v h) (if_true (converts t v) (h + 1)) (value_code v x) (convert_code (converts t v) (kind_of t)) (value_len v h) (convert_len (converts t v) (kind_of t) (h + 1))
@@ -109,8 +109,8 @@ module _ (x : Making) where
     values_len (MoreValues v vs) h = len_app (value_heights v h) (values_heights vs (h + 1)) (value_code v x) (values_code vs x) (value_len v h) (values_len vs (h + 1))
 
     pub callee_len : (f : Callee) (h : ℕ) → length (callee_heights f h) ≡ length (callee_code f x)
-    callee_len (SourceFunction number) h = refl
-    callee_len (BuiltinFunction b) h = refl
+    callee_len (SourceFunction from number) h = refl
+    callee_len (BuiltinFunction from b) h = refl
     callee_len (Through v) h = value_len v h
 
   test_len : (v : MaybeValue) (n : ℕ) → length (test_heights v) ≡ length (test_code v x n)
@@ -139,17 +139,17 @@ module _ (x : Making) where
         let second = instr.GoOn (length other) ∷ other in
         len_app (value_heights v 0) (1 ∷ (statement_heights z ++ (0 ∷ statement_heights y))) (value_code v x) (instr.SkipIfZero (length body + 1) ∷ (body ++ second)) (value_len v 0)
         (ap suc (len_app (statement_heights z) (0 ∷ statement_heights y) body second (statement_len z (length other + 1 + stop) (length other + 1 + again)) (ap suc (statement_len y stop again))))
-    statement_len (While v z) stop again =
+    statement_len (While from v z) stop again =
         let body = statement_code z x 1 0 in
         let back = one (instr.GoBack (length (value_code v x) + 1 + length body)) in
         ap suc (len_app (value_heights v 0) (1 ∷ (statement_heights z ++ (0 ∷ []))) (value_code v x) (instr.SkipIfZero (length body + 1) ∷ (body ++ back)) (value_len v 0)
         (ap suc (len_app (statement_heights z) (0 ∷ []) body back (statement_len z 1 0) refl)))
-    statement_len (Do z v) stop again =
+    statement_len (Do from z v) stop again =
         let body = statement_code z x (length (value_code v x) + 2) 0 in
         let end = instr.SkipIfZero 1 ∷ one (instr.GoBack (length body + length (value_code v x) + 1)) in
         ap suc (len_app (statement_heights z) (value_heights v 0 ++ (1 ∷ (0 ∷ []))) body (value_code v x ++ end) (statement_len z (length (value_code v x) + 2) 0)
         (len_app (value_heights v 0) (1 ∷ (0 ∷ [])) (value_code v x) end (value_len v 0) refl))
-    statement_len (For first v last z) stop again =
+    statement_len (For from first v last z) stop again =
         let final = last_code last x in
         let body = statement_code z x (length final + 1) 0 in
         let over = length body + length final + 1 in
@@ -161,7 +161,7 @@ module _ (x : Making) where
         (len_app (statement_heights z) (test_heights last ++ (0 ∷ [])) body (final ++ back) (statement_len z (length final + 1) 0) (len_app (test_heights last) (0 ∷ []) final back (last_len last) refl))))
     statement_len Break stop again = refl
     statement_len Continue stop again = refl
-    statement_len (Return v) stop again = return_len v
+    statement_len (Return from v) stop again = return_len v
 
     pub statements_len : (zs : Statements) (stop again : ℕ) → length (statements_heights zs) ≡ length (statements_code zs x stop again)
     statements_len NoStatements stop again = refl

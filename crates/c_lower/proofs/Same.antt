@@ -37,13 +37,13 @@ module _ (p : Declared) (offsets : List ℕ) (sig : CType → ℕ) (names other 
   sum_same s a b c d size e f = ap (λ l. sum_code s l c size) e ∙ ap (λ l. sum_code s b l size) f
 
   call_same : (f : Callee) (n : ℕ) → call_code f x n ≡ call_code f y n
-  call_same (SourceFunction number) n = refl
-  call_same (BuiltinFunction b) n = refl
+  call_same (SourceFunction from number) n = refl
+  call_same (BuiltinFunction from b) n = refl
   call_same (Through v) n = refl
 
   mutual
     object_same : (o : Object) → object_code o x ≡ object_code o y
-    object_same (GlobalObject place t) = refl
+    object_same (GlobalObject from place t) = refl
     object_same (LocalObject place t) = refl
     object_same (TextObject from n) = refl
     object_same (Pointed v t) = value_same v
@@ -52,7 +52,7 @@ module _ (p : Declared) (offsets : List ℕ) (sig : CType → ℕ) (names other 
 
     value_same : (v : Value) → value_code v x ≡ value_code v y
     value_same (Constant k n) = refl
-    value_same (FunctionAddress number t) = refl
+    value_same (FunctionAddress from number t) = refl
     value_same (ReadOf o) = cat (object_same o) refl
     value_same (AddressOf o t) = object_same o
     value_same (Convert t v) = cat (value_same v) refl
@@ -80,8 +80,8 @@ module _ (p : Declared) (offsets : List ℕ) (sig : CType → ℕ) (names other 
     values_same (MoreValues v vs) = cat (value_same v) (values_same vs)
 
     callee_same : (f : Callee) → callee_code f x ≡ callee_code f y
-    callee_same (SourceFunction number) = refl
-    callee_same (BuiltinFunction b) = refl
+    callee_same (SourceFunction from number) = refl
+    callee_same (BuiltinFunction from b) = refl
     callee_same (Through v) = value_same v
 
   test_same : (v : MaybeValue) (over : ℕ) → test_code v x over ≡ test_code v y over
@@ -110,15 +110,15 @@ module _ (p : Declared) (offsets : List ℕ) (sig : CType → ℕ) (names other 
         cat (value_same v)
         (ap (λ (m : List Instr). step (inner m) m) (statement_same z stop again)
         ∙ ap (λ (l : List Instr). step l b) (statement_same s (length b + 1 + stop) (length b + 1 + again)))
-    statement_same (While v s) stop again =
+    statement_same (While from v s) stop again =
         let body = statement_code s x 1 0 in
         let loop = λ (a b : List Instr). instr.Turn ∷ (a ++ (instr.SkipIfZero (length b + 1) ∷ (b ++ one (instr.GoBack (length a + 1 + length b))))) in
         ap (λ (a : List Instr). loop a body) (value_same v) ∙ ap (loop (value_code v y)) (statement_same s 1 0)
-    statement_same (Do s v) stop again =
+    statement_same (Do from s v) stop again =
         let loop = λ (a b : List Instr). instr.Turn ∷ (b ++ (a ++ (instr.SkipIfZero 1 ∷ one (instr.GoBack (length b + length a + 1))))) in
         ap (λ (a : List Instr). loop a (statement_code s x (length a + 2) 0)) (value_same v)
         ∙ ap (loop (value_code v y)) (statement_same s (length (value_code v y) + 2) 0)
-    statement_same (For first v last s) stop again =
+    statement_same (For from first v last s) stop again =
         let loop = λ (t b f : List Instr). instr.Turn ∷ (t ++ (b ++ (f ++ one (instr.GoBack (length t + length b + length f))))) in
         let whole = λ (l : List Instr). statements_code first x (length l + stop) (length l + again) ++ l in
         let test = λ (b f : List Instr). test_code v x (length b + length f + 1) in
@@ -131,7 +131,7 @@ module _ (p : Declared) (offsets : List ℕ) (sig : CType → ℕ) (names other 
         ∙ ap (λ (l : List Instr). l ++ ly) (statements_same first (length ly + stop) (length ly + again))))
     statement_same Break stop again = refl
     statement_same Continue stop again = refl
-    statement_same (Return v) stop again = return_same v
+    statement_same (Return from v) stop again = return_same v
 
     statements_same : (ss : Statements) (stop again : ℕ) → statements_code ss x stop again ≡ statements_code ss y stop again
     statements_same NoStatements stop again = refl

@@ -15,8 +15,8 @@ capped n = min n 255
 
 -- the values of an expression of any sort; a function that is called by its name has none
 abbrev pub callee_depth : Callee → ℕ
-callee_depth (SourceFunction number) = 0
-callee_depth (BuiltinFunction b) = 0
+callee_depth (SourceFunction from number) = 0
+callee_depth (BuiltinFunction from b) = 0
 callee_depth (Through v) = value_depth v
 
 abbrev pub typed_depth : Typed → ℕ

@@ -26,7 +26,7 @@ pub data Name : Type 0 where
 
 abbrev mutual
   pub object_names : (texts : List ℕ) → Object → List Name
-  object_names texts (GlobalObject place t) = GlobalName place ∷ []
+  object_names texts (GlobalObject from place t) = GlobalName place ∷ []
   object_names texts (LocalObject place t) = []
   object_names texts (TextObject from n) = TextName (order_of from texts) ∷ []
   object_names texts (Pointed v t) = value_names texts v
@@ -35,7 +35,7 @@ abbrev mutual
 
   pub value_names : (texts : List ℕ) → Value → List Name
   value_names texts (Constant k n) = []
-  value_names texts (FunctionAddress number t) = FunctionName number ∷ []
+  value_names texts (FunctionAddress from number t) = FunctionName number ∷ []
   value_names texts (ReadOf o) = object_names texts o
   value_names texts (AddressOf o t) = object_names texts o
   value_names texts (Convert t v) = value_names texts v
@@ -61,8 +61,8 @@ abbrev mutual
   values_names texts (MoreValues v vs) = value_names texts v ++ values_names texts vs
 
   pub callee_names : (texts : List ℕ) → Callee → List Name
-  callee_names texts (SourceFunction number) = FunctionName number ∷ []
-  callee_names texts (BuiltinFunction b) = FunctionName (number_of b) ∷ []
+  callee_names texts (SourceFunction from number) = FunctionName number ∷ []
+  callee_names texts (BuiltinFunction from b) = FunctionName (number_of b) ∷ []
   callee_names texts (Through v) = value_names texts v
 
 abbrev pub maybe_names : (texts : List ℕ) → MaybeValue → List Name
@@ -76,12 +76,12 @@ abbrev mutual
   statement_names texts (Initialise place t v) = value_names texts v
   statement_names texts (If v s) = value_names texts v ++ statement_names texts s
   statement_names texts (IfElse v s z) = value_names texts v ++ (statement_names texts s ++ statement_names texts z)
-  statement_names texts (While v s) = value_names texts v ++ statement_names texts s
-  statement_names texts (Do s v) = statement_names texts s ++ value_names texts v
-  statement_names texts (For first v last s) = statements_names texts first ++ (maybe_names texts v ++ (maybe_names texts last ++ statement_names texts s))
+  statement_names texts (While from v s) = value_names texts v ++ statement_names texts s
+  statement_names texts (Do from s v) = statement_names texts s ++ value_names texts v
+  statement_names texts (For from first v last s) = statements_names texts first ++ (maybe_names texts v ++ (maybe_names texts last ++ statement_names texts s))
   statement_names texts Break = []
   statement_names texts Continue = []
-  statement_names texts (Return v) = maybe_names texts v
+  statement_names texts (Return from v) = maybe_names texts v
 
   pub statements_names : (texts : List ℕ) → Statements → List Name
   statements_names texts NoStatements = []

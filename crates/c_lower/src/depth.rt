@@ -46,12 +46,12 @@ fn node_depth(table: &TypedTable, id: NodeId) -> u8
     ensures { result ≡ capped (typed_depth (node_at table.now id)) }
 {
     match table.get(id) {
-        Node::GlobalObject(..)
+        Node::GlobalObject { .. }
         | Node::LocalObject(..)
         | Node::TextObject { .. }
         | Node::Constant(..)
-        | Node::FunctionAddress(..) => 1,
-        Node::SourceFunction(..) | Node::BuiltinFunction(..) => 0,
+        | Node::FunctionAddress { .. } => 1,
+        Node::SourceFunction { .. } | Node::BuiltinFunction { .. } => 0,
         Node::Pointed(value, _)
         | Node::Through(value, _)
         | Node::Convert(_, value)

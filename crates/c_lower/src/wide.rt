@@ -37,23 +37,27 @@ fn statement_depth(table: &TypedTable, statement: &Statement) -> u8
         Statement::Evaluate(value) | Statement::Initialise { value, .. } => value_depth(
             table, *value,
         ),
-        Statement::If(value, body) | Statement::While(value, body) => either(
-            value_depth(table, *value),
-            statement_depth(table, body),
-        ),
+        Statement::If(value, body)
+        | Statement::While {
+            condition: value,
+            body,
+            ..
+        } => either(value_depth(table, *value), statement_depth(table, body)),
         Statement::IfElse(value, then, other) => either(
             value_depth(table, *value),
             either(statement_depth(table, then), statement_depth(table, other)),
         ),
-        Statement::Do(body, value) => either(
-            statement_depth(table, body),
-            value_depth(table, *value),
-        ),
+        Statement::Do {
+            body,
+            condition: value,
+            ..
+        } => either(statement_depth(table, body), value_depth(table, *value)),
         Statement::For {
             first,
             condition,
             last,
             body,
+            ..
         } => either(
             statements_depth(table, first),
             either(
@@ -62,7 +66,7 @@ fn statement_depth(table: &TypedTable, statement: &Statement) -> u8
             ),
         ),
         Statement::Break | Statement::Continue => 0,
-        Statement::Return(value) => either(1, maybe_depth(table, *value)),
+        Statement::Return { value, .. } => either(1, maybe_depth(table, *value)),
     }
 }
 

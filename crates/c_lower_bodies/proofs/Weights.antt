@@ -5,7 +5,7 @@ use Rattle.c_types_rules.specs.TypedTree.{Object, Value, Values, Callee, Typed, 
 
 abbrev mutual
   pub object_weight : Object → ℕ
-  object_weight (GlobalObject place t) = 4
+  object_weight (GlobalObject from place t) = 4
   object_weight (LocalObject place t) = 4
   object_weight (TextObject from n) = 4
   object_weight (Pointed v t) = 4 + value_weight v
@@ -14,7 +14,7 @@ abbrev mutual
 
   pub value_weight : Value → ℕ
   value_weight (Constant k n) = 4
-  value_weight (FunctionAddress n t) = 4
+  value_weight (FunctionAddress from n t) = 4
   value_weight (ReadOf o) = 4 + object_weight o
   value_weight (AddressOf o t) = 4 + object_weight o
   value_weight (Convert t v) = 4 + value_weight v
@@ -40,8 +40,8 @@ abbrev mutual
   values_weight (MoreValues v vs) = 4 + (value_weight v + values_weight vs)
 
   pub callee_weight : Callee → ℕ
-  callee_weight (SourceFunction n) = 4
-  callee_weight (BuiltinFunction b) = 4
+  callee_weight (SourceFunction from n) = 4
+  callee_weight (BuiltinFunction from b) = 4
   callee_weight (Through v) = 4 + value_weight v
 
 abbrev pub weight : Typed → ℕ
@@ -57,12 +57,12 @@ abbrev mutual
   statement_weight (tree.Initialise place t v) = 3
   statement_weight (tree.If v s) = 3 + statement_weight s
   statement_weight (tree.IfElse v s z) = 3 + (statement_weight s + statement_weight z)
-  statement_weight (tree.While v s) = 3 + statement_weight s
-  statement_weight (tree.Do s v) = 3 + statement_weight s
-  statement_weight (tree.For first v last s) = 3 + (statements_weight first + statement_weight s)
+  statement_weight (tree.While from v s) = 3 + statement_weight s
+  statement_weight (tree.Do from s v) = 3 + statement_weight s
+  statement_weight (tree.For from first v last s) = 3 + (statements_weight first + statement_weight s)
   statement_weight tree.Break = 3
   statement_weight tree.Continue = 3
-  statement_weight (tree.Return v) = 3
+  statement_weight (tree.Return from v) = 3
 
   pub statements_weight : tree.Statements → ℕ
   statements_weight tree.NoStatements = 1

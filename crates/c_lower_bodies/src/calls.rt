@@ -45,11 +45,11 @@ impl Emitter<'_, '_, '_> {
         ensures { OnOk result (code.new ≡ calling_code (node_at self.now.declared.table callee) (making self.now) count ++ code.old) }
     {
         match self.table().get(callee) {
-            Node::SourceFunction(number, _) => {
+            Node::SourceFunction { number, .. } => {
                 let number = u16::try_from(*number).map_err(|_| AllocError)?;
                 code.put(Instr::Call(number, count))
             }
-            Node::BuiltinFunction(builtin, _) => code.put(Instr::Call(builtin.number(), count)),
+            Node::BuiltinFunction { builtin, .. } => code.put(Instr::Call(builtin.number(), count)),
             Node::Through(pointer, _) => {
                 let sig = self.index().target_sig(self.table().type_of(*pointer))?;
                 code.put(Instr::CallPointer(sig, count))

@@ -59,20 +59,29 @@ impl Emitter<'_, '_, '_> {
                 code.put(Instr::GoOn(middle - end))?;
                 self.guarded(code, *condition, then, stop, again, middle)
             }
-            Statement::While(condition, body) => self.while_loop(code, *condition, body),
-            Statement::Do(body, condition) => self.do_loop(code, body, *condition),
+            Statement::While {
+                condition,
+                body,
+                ..
+            } => self.while_loop(code, *condition, body),
+            Statement::Do {
+                body,
+                condition,
+                ..
+            } => self.do_loop(code, body, *condition),
             Statement::For {
                 first,
                 condition,
                 last,
                 body,
+                ..
             } => {
                 self.for_loop(code, *condition, *last, body)?;
                 self.statements(code, first, stop, again)
             }
             Statement::Break => code.put(Instr::GoOn(code.len() - stop)),
             Statement::Continue => code.put(Instr::GoOn(code.len() - again)),
-            Statement::Return(value) => self.give(code, *value),
+            Statement::Return { value, .. } => self.give(code, *value),
         }
     }
 
@@ -129,7 +138,7 @@ impl Emitter<'_, '_, '_> {
     ) -> Result<(), AllocError>
         requires condition { IsValueAt self.now.declared.table condition }
         requires body { IsStatement self.now.declared.table body.now }
-        ensures { OnOk result (code.new ≡ statement_code (tree.While (value_at self.now.declared.table condition) (statement_in self.now.declared.table body.now)) (making self.now) 0 0 ++ code.old) }
+        ensures { OnOk result (code.new ≡ statement_code (tree.While 0 (value_at self.now.declared.table condition) (statement_in self.now.declared.table body.now)) (making self.now) 0 0 ++ code.old) }
     {
         let end = code.len();
         code.put(Instr::GoBack(0))?;
@@ -148,7 +157,7 @@ impl Emitter<'_, '_, '_> {
     ) -> Result<(), AllocError>
         requires body { IsStatement self.now.declared.table body.now }
         requires condition { IsValueAt self.now.declared.table condition }
-        ensures { OnOk result (code.new ≡ statement_code (tree.Do (statement_in self.now.declared.table body.now) (value_at self.now.declared.table condition)) (making self.now) 0 0 ++ code.old) }
+        ensures { OnOk result (code.new ≡ statement_code (tree.Do 0 (statement_in self.now.declared.table body.now) (value_at self.now.declared.table condition)) (making self.now) 0 0 ++ code.old) }
     {
         let end = code.len();
         code.put(Instr::GoBack(0))?;
@@ -171,7 +180,7 @@ impl Emitter<'_, '_, '_> {
         requires condition { IsMaybeAt self.now.declared.table condition }
         requires last { IsMaybeAt self.now.declared.table last }
         requires body { IsStatement self.now.declared.table body.now }
-        ensures { OnOk result (code.new ≡ statement_code (tree.For tree.NoStatements (maybe_at self.now.declared.table condition) (maybe_at self.now.declared.table last) (statement_in self.now.declared.table body.now)) (making self.now) 0 0 ++ code.old) }
+        ensures { OnOk result (code.new ≡ statement_code (tree.For 0 tree.NoStatements (maybe_at self.now.declared.table condition) (maybe_at self.now.declared.table last) (statement_in self.now.declared.table body.now)) (making self.now) 0 0 ++ code.old) }
     {
         let end = code.len();
         code.put(Instr::GoBack(0))?;

@@ -26,7 +26,7 @@ impl Emitter<'_, '_, '_> {
         ensures { OnOk result (code.new ≡ typed_code (node_at self.now.declared.table id) (making self.now) ++ code.old) }
     {
         match self.table().get(id) {
-            Node::GlobalObject(place, _) => code.put(Instr::Push(Push::Global(*place))),
+            Node::GlobalObject { place, .. } => code.put(Instr::Push(Push::Global(*place))),
             Node::LocalObject(place, _) => code.put(Instr::Push(Push::Local(self.local_offset(
                 *place,
             )))),
@@ -41,12 +41,12 @@ impl Emitter<'_, '_, '_> {
                 ty,
             } => self.sum(code, *sum, *pointer, *index, self.index().size_of(*ty)),
             Node::MemberOf(object, number, _) => self.member(code, *object, *number),
-            Node::SourceFunction(..) | Node::BuiltinFunction(..) => Ok(()),
+            Node::SourceFunction { .. } | Node::BuiltinFunction { .. } => Ok(()),
             Node::Constant(_, number) => code.put(Instr::Push(Push::Number(pattern(
                 IntKind::U64,
                 *number,
             )))),
-            Node::FunctionAddress(number, _) => code.put(Instr::Push(Push::Number(
+            Node::FunctionAddress { number, .. } => code.put(Instr::Push(Push::Number(
                 0x1000 + 16 * u64::from(*number),
             ))),
             Node::ReadOf(object) => self.read(code, *object),

@@ -12,7 +12,7 @@ use Rattle.c_types_model.specs.declared.extent.Extent.{Extent}
 use Rattle.c_types_rules.specs.Checked.{Fine, keep, ◌>>◌}
 use Rattle.c_types_rules.specs.TypeTests.{is_complete, is_integer, is_scalar}
 use Rattle.c_types_rules.specs.TypedTree.{Object, Value, Typed, Way, Given, Up, Down, AnObject, AFunction, AValue, Moved, Stepped, object_type, value_type}
-use Rattle.c_types_rules.specs.Operators.{assigned, left_object, changed, moved, compound_of, assignment_of, operator_in, assignment, step_of, step, integer_kind, size_in, to_kind}
+use Rattle.c_types_rules.specs.Operators.{assigned, left_object, changed, moved, compound_of, rule_of_right, assignment_of, operator_in, assignment, step_of, step, integer_kind, size_in, to_kind}
 use Rattle.c_lower_rules.specs.Heights.{object_depth, value_depth}
 use Rattle.c_lower_stack.specs.Depths.{pair_depth, sides_depth}
 use Rattle.c_lower_laws.proofs.HeldValues.{Holds, holds_then, holds_on, holds_after}
@@ -62,7 +62,8 @@ simple_within m n structs from o b h k =
 any_within : (m n : ℕ) (structs : List Extent) (from : ℕ) (op : Option Op) (o : Object) (b : Value) → ObjectWithin m o → Within n b → Holds (Within (max m (suc (suc n)))) (assignment_of structs from op o b)
 any_within m n structs from None o b h k =
     holds_then (Within n) (Within (max m (suc (suc n)))) (assigned from (object_type o) b) _ (assigned_within n from (object_type o) b k) (λ v j. above_one (object_depth o) (value_depth v) m n h j)
-any_within m n structs from (Some op) o b h k = compound_within m n structs from op o (object_type o) b h k
+any_within m n structs from (Some op) o b h k =
+    holds_after (Within (max m (suc (suc n)))) (keep from (rule_of_right structs op (object_type o) (value_type b)) (is_integer (value_type b))) _ (compound_within m n structs from op o (object_type o) b h k)
 
 sides_within : (m n : ℕ) (structs : List Extent) (from : ℕ) (s : Sign) (o : Object) (b : Value) → ObjectWithin m o → Within n b → Holds (Within (sides_depth s m n)) (assignment_of structs from (operator_in s) o b)
 sides_within m n structs from signs.Assign o b h k = simple_within m n structs from o b h k

@@ -8,11 +8,11 @@ use Rattle.c_scopes.specs.Scopes as scopes
 use Rattle.c_types_rules.specs.Checked.{Checked, Fine, Large, Broken, keep, ◌>>=◌, ◌>>◌}
 use Rattle.c_types_rules.specs.TypeTests.{is_scalar, is_void}
 use Rattle.c_types_rules.specs.Environment.{Environment, Meaning, FunctionNamed, LocalNamed, declarable, extents, inner, with_name}
-use Rattle.c_types_rules.specs.Expressions.{complete, declared_name, declared_type, expression, with_parameter}
+use Rattle.c_types_rules.specs.Expressions.{complete, declared_name, declared_type, expression, with_parameter, start_of}
 use Rattle.c_types_rules.specs.Operators.{assigned, scalar}
 use Rattle.c_types_rules.specs.TypedTree.{Value, MaybeValue, NoValue, OneValue, Statement, Statements, joined, value_of}
 use Rattle.c_types_rules.specs.TypedTree as typed
-use Rattle.c_types_rules.specs.Statements.{Declared, Surroundings, condition_in, entries, entry, evaluated, first, first_value, inside, local, locals_of, looping, maybe_condition, maybe_in, outside, returned, start_of, statement, value_in}
+use Rattle.c_types_rules.specs.Statements.{Declared, Surroundings, condition_in, entries, entry, evaluated, first, first_value, inside, local, locals_of, looping, maybe_condition, maybe_in, outside, returned, statement, value_in}
 use Rattle.c_types_rules.specs.Sources.{block_of, body_of, listed, nearest, parameter, parameters, params_of, result_of}
 use Rattle.c_lower_laws.proofs.Held.{Holds, holds_then, holds_on, holds_after}
 use Rattle.c_lower_rules.specs.Code.{Making}
@@ -117,12 +117,12 @@ module _ (x : Making) (us : List CType) (serves : Serves x us) where
       (λ a h. holds_then Declares Declares (locals_of es a.0) _ (locals_declare es a.0 h.0)
       (λ b k. (k.0, joined_count a.1 b.1 h.1 k.1)))
 
-  return_counts : (env : Environment) (from : ℕ) (t : CType) (e : Expr) → NamesAre us env → Holds S (value_in env e >>= (λ v. assigned (start_of e) t v >>= (λ w. Fine (typed.Return (OneValue w)))))
+  return_counts : (env : Environment) (from : ℕ) (t : CType) (e : Expr) → NamesAre us env → Holds S (value_in env e >>= (λ v. assigned (start_of e) t v >>= (λ w. Fine (typed.Return from (OneValue w)))))
   return_counts env from t e ns =
       holds_then V S (value_in env e) _ (value_in_counts env e ns) (λ v h. holds_then V S (assigned (start_of e) t v) _ (assigned_counts x us serves (start_of e) t v h) (λ w k. k))
 
   returned_counts : (env : Environment) (from : ℕ) (t : CType) (e : MaybeExpr) → NamesAre us env → Holds S (returned env from t e)
-  returned_counts env from t NoExpr ns = holds_after S (keep from 12 (is_void t)) (Fine (typed.Return NoValue)) tt
+  returned_counts env from t NoExpr ns = holds_after S (keep from 12 (is_void t)) (Fine (typed.Return from NoValue)) tt
   returned_counts env from Void (OneExpr e) ns = tt
   returned_counts env from (Integer k) (OneExpr e) ns = return_counts env from (Integer k) e ns
   returned_counts env from (PointerTo t) (OneExpr e) ns = return_counts env from (PointerTo t) e ns

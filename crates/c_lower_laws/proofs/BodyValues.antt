@@ -5,11 +5,11 @@ use Rattle.c_syntax.specs.Syntax.{Name, Number, Char, Text, Binary, Assign, Cond
 use Rattle.c_syntax.specs.Syntax.{Expr, MaybeExpr, NoExpr, OneExpr}
 use Rattle.c_types_model.specs.Types.{CType}
 use Rattle.c_types_rules.specs.Environment.{Environment}
-use Rattle.c_types_rules.specs.Expressions.{expression}
+use Rattle.c_types_rules.specs.Expressions.{expression, start_of}
 use Rattle.c_types_rules.specs.Operators.{assigned, scalar}
 use Rattle.c_types_rules.specs.TypedTree.{Value, MaybeValue, NoValue, OneValue, Statement, Statements, joined, value_of}
 use Rattle.c_types_rules.specs.TypedTree as typed
-use Rattle.c_types_rules.specs.Statements.{condition_in, maybe_condition, maybe_in, start_of, value_in}
+use Rattle.c_types_rules.specs.Statements.{condition_in, maybe_condition, maybe_in, value_in}
 use Rattle.c_lower_rules.specs.Heights.{value_depth, maybe_depth, statement_depth, statements_depth}
 use Rattle.c_lower_stack.specs.Names.{Names}
 use Rattle.c_lower_stack.specs.Depths.{depth}

@@ -21,8 +21,8 @@ use Rattle.c_lower_laws.proofs.Within.{Within, TypedWithin, pairs, value_within}
 -- a function that is named, of which no value is on the stack under a call
 abbrev IsNamed : Typed → Type 0
 IsNamed (AnObject o) = ⊥
-IsNamed (AFunction (SourceFunction number) t) = Unit {0}
-IsNamed (AFunction (BuiltinFunction b) t) = Unit {0}
+IsNamed (AFunction (SourceFunction at number) t) = Unit {0}
+IsNamed (AFunction (BuiltinFunction at b) t) = Unit {0}
 IsNamed (AFunction (Through v) t) = ⊥
 IsNamed (AValue v) = ⊥
 
@@ -68,8 +68,8 @@ pointer_within n from v (UndefinedStruct tag) h = tt
 pointer_within n from v (FunctionOf r ps) h = tt
 
 called_within : (d : Bool) (n from : ℕ) (a : Typed) → TypedWithin n a → (d ≡ true → IsNamed a) → Holds (CalleeWithin d n) (called from a)
-called_within d n from (AFunction (SourceFunction number) t) h e = function_within d n from (SourceFunction number) t (plain_call d n)
-called_within d n from (AFunction (BuiltinFunction b) t) h e = function_within d n from (BuiltinFunction b) t (plain_call d n)
+called_within d n from (AFunction (SourceFunction at number) t) h e = function_within d n from (SourceFunction at number) t (plain_call d n)
+called_within d n from (AFunction (BuiltinFunction at b) t) h e = function_within d n from (BuiltinFunction at b) t (plain_call d n)
 called_within true n from (AFunction (Through v) t) h e = absurd (e refl)
 called_within false n from (AFunction (Through v) t) h e = function_within false n from (Through v) t (λ i m k. pairs (value_depth v) i n m h k)
 called_within true n from (AnObject o) h e = absurd (e refl)
@@ -77,7 +77,7 @@ called_within false n from (AnObject o) h e = pointer_within n from (value_of (A
 called_within true n from (AValue v) h e = absurd (e refl)
 called_within false n from (AValue v) h e = pointer_within n from v (value_type v) h
 
-pub callee_within : (d : Bool) (n from : ℕ) (b : Option Builtin) (c : Checked Typed) → Holds (TypedWithin n) c → Holds (λ a. d ≡ true → IsNamed a) c → Holds (CalleeWithin d n) (elim b [ Some f ↦ builtin_called from f | None ↦ c >>= called from ])
-callee_within d n from (Some f) c h e = function_within d n from (BuiltinFunction f) (prototype_of f) (plain_call d n)
-callee_within d n from None c h e =
+pub callee_within : (d : Bool) (n from at : ℕ) (b : Option Builtin) (c : Checked Typed) → Holds (TypedWithin n) c → Holds (λ a. d ≡ true → IsNamed a) c → Holds (CalleeWithin d n) (elim b [ Some f ↦ builtin_called at f | None ↦ c >>= called from ])
+callee_within d n from at (Some f) c h e = function_within d n at (BuiltinFunction at f) (prototype_of f) (plain_call d n)
+callee_within d n from at None c h e =
     holds_then (λ a. TypedWithin n a × (d ≡ true → IsNamed a)) (CalleeWithin d n) c (called from) (holds_both (TypedWithin n) (λ a. d ≡ true → IsNamed a) c h e) (λ a k. called_within d n from a k.0 k.1)

@@ -10,7 +10,7 @@ use Rattle.c_types_rules.specs.TypeTests.{is_complete}
 use Rattle.c_types_rules.specs.TypedTree.{Values, typed_type, value_type, value_of}
 use Rattle.c_types_rules.specs.Operators.{assigned, assignment, binary, cast, choice, size_in}
 use Rattle.c_types_rules.specs.Environment.{Environment, extents}
-use Rattle.c_types_rules.specs.Expressions.{expression, arguments, declared_type, called, builtin_called, builtin_in, constant}
+use Rattle.c_types_rules.specs.Expressions.{expression, arguments, declared_type, called, builtin_called, builtin_in, constant, start_of}
 use Rattle.c_lower_rules.specs.Heights.{value_depth, values_depth}
 use Rattle.c_lower_stack.specs.Names.{Names, is_direct}
 use Rattle.c_lower_stack.specs.Depths.{depth, arguments_depth}
@@ -63,8 +63,8 @@ mutual
       (λ a h. holds_then (TypedWithin (depth y s)) (TypedWithin (depth (Index from x y) s)) (expression y env) _ (expression_within y env s g)
       (λ b k. subscript_within (depth x s) (depth y s) (extents env) from (value_of a) (value_of b) (value_type (value_of a)) (value_type (value_of b)) (value_within a (depth x s) h) (value_within b (depth y s) k)))
   expression_within (Call from x xs) env s g =
-      holds_then (CalleeWithin (is_direct x s) (depth x s)) (TypedWithin (depth (Call from x xs) s)) (elim (builtin_in env x) [ Some f ↦ builtin_called from f | None ↦ expression x env >>= called from ]) _
-      (callee_within (is_direct x s) (depth x s) from (builtin_in env x) (expression x env) (expression_within x env s g) (direct_named x env s g))
+      holds_then (CalleeWithin (is_direct x s) (depth x s)) (TypedWithin (depth (Call from x xs) s)) (elim (builtin_in env x) [ Some f ↦ builtin_called (start_of x) f | None ↦ expression x env >>= called from ]) _
+      (callee_within (is_direct x s) (depth x s) from (start_of x) (builtin_in env x) (expression x env) (expression_within x env s g) (direct_named x env s g))
       (λ f h. holds_then (ValuesWithin (arguments_depth xs s)) (TypedWithin (depth (Call from x xs) s)) (arguments xs env from f.2) _ (arguments_within xs env s from f.2 g)
       (λ vs k. h (values_depth vs) (arguments_depth xs s) k))
   expression_within (Member from x name) env s g =
@@ -79,6 +79,6 @@ mutual
   arguments_within (MoreExprs x xs) env s from NoTypes g = tt
   arguments_within (MoreExprs x xs) env s from (MoreTypes t ts) g =
       holds_then (TypedWithin (depth x s)) (ValuesWithin (arguments_depth (MoreExprs x xs) s)) (expression x env) _ (expression_within x env s g)
-      (λ a h. holds_then (Within (depth x s)) (ValuesWithin (arguments_depth (MoreExprs x xs) s)) (assigned from t (value_of a)) _ (assigned_within (depth x s) from t (value_of a) (value_within a (depth x s) h))
+      (λ a h. holds_then (Within (depth x s)) (ValuesWithin (arguments_depth (MoreExprs x xs) s)) (assigned (start_of x) t (value_of a)) _ (assigned_within (depth x s) (start_of x) t (value_of a) (value_within a (depth x s) h))
       (λ v k. holds_then (ValuesWithin (arguments_depth xs s)) (ValuesWithin (arguments_depth (MoreExprs x xs) s)) (arguments xs env from ts) _ (arguments_within xs env s from ts g)
       (λ vs j. pairs (value_depth v) (values_depth vs) (depth x s) (arguments_depth xs s) k j)))

@@ -6,11 +6,11 @@ use Rattle.c_scopes.specs.Scopes.{declared}
 use Rattle.c_types_rules.specs.Checked.{Fine, keep, ◌>>=◌}
 use Rattle.c_types_rules.specs.TypeTests.{is_scalar}
 use Rattle.c_types_rules.specs.Environment.{Environment, LocalNamed, declarable, extents, with_name}
-use Rattle.c_types_rules.specs.Expressions.{complete, declared_name, declared_type}
+use Rattle.c_types_rules.specs.Expressions.{complete, declared_name, declared_type, start_of}
 use Rattle.c_types_rules.specs.Operators.{assigned}
 use Rattle.c_types_rules.specs.TypedTree.{Value, MaybeValue, NoValue, OneValue, Statement, Statements, joined, value_of}
 use Rattle.c_types_rules.specs.TypedTree as typed
-use Rattle.c_types_rules.specs.Statements.{Declared, first_value, local, locals_of, start_of, value_in}
+use Rattle.c_types_rules.specs.Statements.{Declared, first_value, local, locals_of, value_in}
 use Rattle.c_lower_rules.specs.Heights.{value_depth, statements_depth}
 use Rattle.c_lower_stack.specs.declared.named.Named.TheVariants as named
 use Rattle.c_lower_stack.specs.Names.{Names, with_decl, with_decls}

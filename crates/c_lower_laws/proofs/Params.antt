@@ -50,13 +50,13 @@ parameters_scalar (MoreDecls d ds) env place =
 
 declarator_takes : (ps : Parts) (env : Environment) (t : CType) → TakesScalars t → Holds TakesScalars (declarator_type ps env t)
 declarator_takes NoParts env t h = h
-declarator_takes (Pointer from ps) env t h = declarator_takes ps env (PointerTo t) tt
+declarator_takes (Pointer from ps) env t h = holds_after TakesScalars (small (is_small (extents env) t)) _ (declarator_takes ps env (PointerTo t) tt)
 declarator_takes (Array from x ps) env t h =
-    holds_after TakesScalars (complete (extents env) from t) _ (holds_on TakesScalars (expression x env) _
-    (λ a. holds_on TakesScalars (length_of from (integer_constant (value_of a))) _
-    (λ n. holds_after TakesScalars (small (is_small (extents env) (ArrayOf n t))) _ (declarator_takes ps env (ArrayOf n t) tt))))
+    holds_after TakesScalars (complete (extents env) from t) _ (holds_after TakesScalars (small (is_small (extents env) t)) _ (holds_on TakesScalars (expression x env) _
+    (λ a. holds_on TakesScalars (length_of from (integer_constant (value_of a))) _ (λ n. declarator_takes ps env (ArrayOf n t) tt))))
 declarator_takes (Params from ds ps) env t h =
     holds_after TakesScalars (keep from 3 (is_result t)) _ (holds_then AreScalars TakesScalars (parameter_types ds (inner env) 0) _ (parameters_scalar ds (inner env) 0) (λ ts k. declarator_takes ps env (FunctionOf t ts) k))
 
 pub declared_takes : (d : Decl) (env : Environment) → Holds TakesScalars (declared_type d env)
-declared_takes (Declare from an b ps n r) env = declarator_takes ps env (base_type env b) (base_takes env b)
+declared_takes (Declare from an b ps n r) env =
+    holds_then TakesScalars TakesScalars (declarator_type ps env (base_type env b)) _ (declarator_takes ps env (base_type env b) (base_takes env b)) (λ t h. holds_after TakesScalars (small (is_small (extents env) t)) (Fine t) h)

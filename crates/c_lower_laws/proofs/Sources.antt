@@ -11,8 +11,8 @@ use Rattle.c_scopes.specs.Scopes.{declared, meaning_in, meaning_of, same_name}
 use Rattle.c_types_model.specs.Types.{CType, Void, Integer, PointerTo, ArrayOf, StructOf, UndefinedStruct, FunctionOf}
 use Rattle.c_types_rules.specs.Checked.{Checked, Fine, Large, Broken, keep, ◌>>=◌, ◌>>◌}
 use Rattle.c_types_rules.specs.TypeTests.{is_function}
-use Rattle.c_types_rules.specs.Environment.{GlobalNamed, Struct, base_type}
-use Rattle.c_types_rules.specs.Expressions.{annotation_types, declarator_type, declared_name}
+use Rattle.c_types_rules.specs.Environment.{GlobalNamed, Struct}
+use Rattle.c_types_rules.specs.Expressions.{annotation_types, declared_name, declared_type}
 use Rattle.c_types_rules.specs.Sources.{Global, Program, at_file, declaration, declarations, function_or_global, global, has_main, nothing, program, struct_defined, tags_of}
 use Rattle.c_types_rules.specs.Limits.{Which, Typed, decided, first_limit, outcome, unless}
 use Rattle.c_lower_stack.specs.declared.named.Named.TheVariants as named
@@ -63,21 +63,21 @@ either_good tags p fs from name t ps r true e g = absurd cc
 -- what is declared by a declarator
 abbrev declares : List (List ℕ) → Program → (from : ℕ) → Annots → Base → Parts → Option (List ℕ) → Rest → Checked Program
 declares tags p from an b ps n r =
-    annotation_types an (at_file tags p) >> (declarator_type ps (at_file tags p) (base_type (at_file tags p) b) >>= (λ t. function_or_global tags p from (declared_name n) t ps r))
+    annotation_types an (at_file tags p) >> (declared_type (Declare from an b ps n r) (at_file tags p) >>= (λ t. function_or_global tags p from (declared_name n) t ps r))
 
 declares_good : (tags : List (List ℕ)) (p : Program) (fs : Functions) (from : ℕ) (an : Annots) (b : Base) (ps : Parts) (n : Option (List ℕ)) (r : Rest) → Good p fs
     → Holds (λ q. Good q (with_name (waiting.is_function ps) (declared_name n) ps r fs)) (declares tags p from an b ps n r)
 declares_good tags p fs from an b ps n r g =
     let whole : Program → Type 0 = λ q. Good q (with_name (waiting.is_function ps) (declared_name n) ps r fs) in
-    holds_after whole (annotation_types an (at_file tags p)) (declarator_type ps (at_file tags p) (base_type (at_file tags p) b) >>= (λ t. function_or_global tags p from (declared_name n) t ps r))
-    (holds_then (λ t. is_function t ≡ waiting.is_function ps) whole (declarator_type ps (at_file tags p) (base_type (at_file tags p) b)) _ (declares_function (at_file tags p) b ps)
+    holds_after whole (annotation_types an (at_file tags p)) (declared_type (Declare from an b ps n r) (at_file tags p) >>= (λ t. function_or_global tags p from (declared_name n) t ps r))
+    (holds_then (λ t. is_function t ≡ waiting.is_function ps) whole (declared_type (Declare from an b ps n r) (at_file tags p)) _ (declares_function (at_file tags p) from an b ps n r)
     (λ t e. either_good tags p fs from (declared_name n) t ps r (waiting.is_function ps) e g))
 
 -- only a struct has members
 members_broken : (Q : Program → Type 0) (tags : List (List ℕ)) (p : Program) (from : ℕ) (an : Annots) (b : Base) (ps : Parts) (n : Option (List ℕ)) (ds : Decls) → Holds Q (declares tags p from an b ps n (Members ds))
 members_broken Q tags p from an b ps n ds =
-    holds_after Q (annotation_types an (at_file tags p)) (declarator_type ps (at_file tags p) (base_type (at_file tags p) b) >>= (λ t. function_or_global tags p from (declared_name n) t ps (Members ds)))
-    (holds_on Q (declarator_type ps (at_file tags p) (base_type (at_file tags p) b)) _ by)
+    holds_after Q (annotation_types an (at_file tags p)) (declared_type (Declare from an b ps n (Members ds)) (at_file tags p) >>= (λ t. function_or_global tags p from (declared_name n) t ps (Members ds)))
+    (holds_on Q (declared_type (Declare from an b ps n (Members ds)) (at_file tags p)) _ by)
   where
     of_global : (t : CType) → Holds Q (global tags p from (declared_name n) t (Members ds))
     of_global t = search (holds_after, holds_on)

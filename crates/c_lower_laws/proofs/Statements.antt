@@ -9,7 +9,8 @@ use Rattle.c_types_rules.specs.Environment.{Environment, inner}
 use Rattle.c_types_rules.specs.Operators.{assigned}
 use Rattle.c_types_rules.specs.TypedTree.{Value, MaybeValue, NoValue, OneValue, Statement, Statements, joined, value_of}
 use Rattle.c_types_rules.specs.TypedTree as typed
-use Rattle.c_types_rules.specs.Statements.{Declared, Surroundings, condition_in, entries, entry, evaluated, first, inside, looping, maybe_condition, maybe_in, outside, returned, start_of, statement, value_in}
+use Rattle.c_types_rules.specs.Expressions.{start_of}
+use Rattle.c_types_rules.specs.Statements.{Declared, Surroundings, condition_in, entries, entry, evaluated, first, inside, looping, maybe_condition, maybe_in, outside, returned, statement, value_in}
 use Rattle.c_types_rules.specs.Sources.{block_of, body_of, listed, nearest, parameters, params_of, result_of}
 use Rattle.c_lower_rules.specs.Heights.{value_depth, maybe_depth, statement_depth, statements_depth}
 use Rattle.c_lower_stack.specs.Names.{Names, with_decl, with_decls, with_entry, with_first}
@@ -20,20 +21,20 @@ use Rattle.c_lower_laws.proofs.Names.{Agree, inner_agree, parameters_agree}
 use Rattle.c_lower_laws.proofs.BodyValues.{AllFit, FitsStatement, FitsMaybe, FitsValue, alone, assigned_fits, condition_fits, joined_fit, maybe_condition_fits, maybe_fits, one_more, two, value_fits}
 use Rattle.c_lower_laws.proofs.LocalValues.{Declares, locals_declare}
 
-return_fits : (env : Environment) (s : Names) (t : CType) (x : Expr) → Agree env s → Holds (FitsStatement (in_expr x s)) (value_in env x >>= (λ v. assigned (start_of x) t v >>= (λ w. Fine (typed.Return (OneValue w)))))
-return_fits env s t x g =
+return_fits : (env : Environment) (s : Names) (from : ℕ) (t : CType) (x : Expr) → Agree env s → Holds (FitsStatement (in_expr x s)) (value_in env x >>= (λ v. assigned (start_of x) t v >>= (λ w. Fine (typed.Return from (OneValue w)))))
+return_fits env s from t x g =
     holds_then (FitsValue (in_expr x s)) (FitsStatement (in_expr x s)) (value_in env x) _ (value_fits env s x g)
     (λ v h. holds_then (FitsValue (in_expr x s)) (FitsStatement (in_expr x s)) (assigned (start_of x) t v) _ (assigned_fits (in_expr x s) (start_of x) t v h) (λ w k. one_more (value_depth w) (in_expr x s) k))
 
 returned_fits : (env : Environment) (s : Names) (from : ℕ) (t : CType) (x : MaybeExpr) → Agree env s → Holds (FitsStatement (in_maybe x s)) (returned env from t x)
-returned_fits env s from t NoExpr g = holds_after (FitsStatement 0) (keep from 12 (is_void t)) (Fine (typed.Return NoValue)) (lit≤ tt)
+returned_fits env s from t NoExpr g = holds_after (FitsStatement 0) (keep from 12 (is_void t)) (Fine (typed.Return from NoValue)) (lit≤ tt)
 returned_fits env s from Void (OneExpr x) g = tt
-returned_fits env s from (Integer k) (OneExpr x) g = return_fits env s (Integer k) x g
-returned_fits env s from (PointerTo t) (OneExpr x) g = return_fits env s (PointerTo t) x g
-returned_fits env s from (ArrayOf n t) (OneExpr x) g = return_fits env s (ArrayOf n t) x g
-returned_fits env s from (StructOf n) (OneExpr x) g = return_fits env s (StructOf n) x g
-returned_fits env s from (UndefinedStruct tag) (OneExpr x) g = return_fits env s (UndefinedStruct tag) x g
-returned_fits env s from (FunctionOf r ts) (OneExpr x) g = return_fits env s (FunctionOf r ts) x g
+returned_fits env s from (Integer k) (OneExpr x) g = return_fits env s from (Integer k) x g
+returned_fits env s from (PointerTo t) (OneExpr x) g = return_fits env s from (PointerTo t) x g
+returned_fits env s from (ArrayOf n t) (OneExpr x) g = return_fits env s from (ArrayOf n t) x g
+returned_fits env s from (StructOf n) (OneExpr x) g = return_fits env s from (StructOf n) x g
+returned_fits env s from (UndefinedStruct tag) (OneExpr x) g = return_fits env s from (UndefinedStruct tag) x g
+returned_fits env s from (FunctionOf r ts) (OneExpr x) g = return_fits env s from (FunctionOf r ts) x g
 
 evaluated_fits : (n : ℕ) (v : MaybeValue) → FitsMaybe n v → FitsStatement n (evaluated v)
 evaluated_fits n NoValue h = h

@@ -19,9 +19,9 @@ use Rattle.c_types_rules.specs.Checked.{Checked, Fine, Large, Broken, keep, need
 use Rattle.c_types_rules.specs.TypeTests.{is_complete, is_integer, is_scalar, same_type}
 use Rattle.c_types_rules.specs.Constants.{is_null}
 use Rattle.c_types_rules.specs.TypedTree.{Object, Value, Values, Callee, Typed, Sum, PointerPlus, PlusPointer, PointerMinus, Way, Given, Up, Down, New, Old, Both, Either, Negate, Complement, Choice, MoreValues, NoValues, SourceFunction, BuiltinFunction, Through, AnObject, AFunction, AValue, CallOf, Convert, PointerSum, PointerDifference, PointerComparison, Moved, Stepped, MemberOf, Pointed, Element, typed_type, object_type, value_type, read_as, address_of_callee, value_of}
-use Rattle.c_types_rules.specs.Operators.{arithmetic, shift, pointer_sum, sum_of, difference_of, comparison_of, logical, binary, promoted_operand, as_it_is, signed_operand, assigned, left_object, changed, moved, compound_of, assignment_of, operator_in, assignment, step_of, step, pointers_chosen, unlike_chosen, is_settled, choice, cast, can_cast, integer_kind, scalar, are_comparable, fits, size_in, to_kind}
+use Rattle.c_types_rules.specs.Operators.{arithmetic, shift, pointer_sum, sum_of, difference_of, comparison_of, logical, binary, promoted_operand, as_it_is, signed_operand, assigned, left_object, changed, moved, compound_of, assignment_of, operator_in, assignment, step_of, step, pointers_chosen, unlike_chosen, is_settled, choice, cast, can_cast, integer_kind, scalar, are_comparable, fits, size_in, to_kind, rule_of_right}
 use Rattle.c_types_rules.specs.Environment.{Environment, Meaning, FunctionNamed, GlobalNamed, LocalNamed, builtin_of, extents}
-use Rattle.c_types_rules.specs.Expressions.{expression, arguments, declared_type, meant, named, unknown_name, member, member_of, arrow_of, pointed_of, element, subscript_of, address, a_value, prefixed, postfixed, function_type, called_value, called, builtin_called, builtin_in, constant, member_in}
+use Rattle.c_types_rules.specs.Expressions.{expression, arguments, declared_type, meant, named, unknown_name, member, member_of, arrow_of, pointed_of, element, subscript_of, address, a_value, prefixed, postfixed, function_type, called_value, called, builtin_called, builtin_in, constant, member_in, start_of}
 use Rattle.c_types_rules.specs.Limits.{count as types_count}
 use Rattle.c_types_rules.specs.Sources.{params_of}
 use Rattle.c_semantics.specs.Values.{target}
@@ -57,8 +57,8 @@ module _ (x : Making) (us : List CType) (serves : Serves x us) where
 
   -- what is called has this type
   abbrev pub CalleeIs : Callee → CType → Type 0
-  CalleeIs (SourceFunction number) t = IsAt us number t
-  CalleeIs (BuiltinFunction b) t = prototype_of b ≡ t
+  CalleeIs (SourceFunction at number) t = IsAt us number t
+  CalleeIs (BuiltinFunction at b) t = prototype_of b ≡ t
   CalleeIs (Through v) t = Counts v × (target (value_type v) ≡ t)
 
   abbrev pub CountsTyped : Typed → Type 0
@@ -76,8 +76,8 @@ module _ (x : Making) (us : List CType) (serves : Serves x us) where
   read_counts o (FunctionOf r ps) h = h
 
   address_counts : (f : Callee) (t : CType) → CalleeIs f t → Counts (address_of_callee f t)
-  address_counts (SourceFunction number) t h = tt
-  address_counts (BuiltinFunction b) t h = tt
+  address_counts (SourceFunction at number) t h = tt
+  address_counts (BuiltinFunction at b) t h = tt
   address_counts (Through v) t h = h.0
 
   pub value_counts : (a : Typed) → CountsTyped a → Counts (value_of a)
@@ -174,7 +174,7 @@ module _ (x : Making) (us : List CType) (serves : Serves x us) where
 
   assignment_counts : (structs : List Extent) (from : ℕ) (op : Option Op) (o : Object) (b : Value) → CountsObject o → Counts b → Holds Counts (assignment_of structs from op o b)
   assignment_counts structs from None o b h k = holds_then Counts Counts (assigned from (object_type o) b) _ (assigned_counts from (object_type o) b k) (λ v j. (h, j))
-  assignment_counts structs from (Some op) o b h k = compound_counts structs from op o (object_type o) b h k
+  assignment_counts structs from (Some op) o b h k = holds_after Counts (keep from (rule_of_right structs op (object_type o) (value_type b)) (is_integer (value_type b))) _ (compound_counts structs from op o (object_type o) b h k)
 
   stepped_counts : (structs : List Extent) (from : ℕ) (w : Way) (g : Given) (o : Object) (t : CType) → CountsObject o → Holds Counts (step_of structs from w g o t)
   stepped_counts structs from w g o (Integer k) h = h
@@ -274,8 +274,8 @@ module _ (x : Making) (us : List CType) (serves : Serves x us) where
   TakesAll f = CalleeCalls f.0 x (types_count f.2)
 
   takes : (f : Callee) (r : CType) (ps : CTypes) → CalleeIs f (FunctionOf r ps) → CalleeCalls f x (types_count ps)
-  takes (SourceFunction number) r ps h = serves.sources number (FunctionOf r ps) h
-  takes (BuiltinFunction b) r ps h = subst (λ t. Takes x.against.code (number_of b) (params_count t)) h (serves.builtins b)
+  takes (SourceFunction at number) r ps h = serves.sources number (FunctionOf r ps) h
+  takes (BuiltinFunction at b) r ps h = subst (λ t. Takes x.against.code (number_of b) (params_count t)) h (serves.builtins b)
   takes (Through v) r ps h = (h.0, λ f info known sig. serves.pointers (FunctionOf r ps) f info known (sig ∙ ap x.sig h.1))
 
   function_takes : (from : ℕ) (f : Callee) (t : CType) → CalleeIs f t → Holds TakesAll (function_type from t >>= (λ g. Fine (f, g.0, g.1)))
@@ -301,9 +301,9 @@ module _ (x : Making) (us : List CType) (serves : Serves x us) where
   called_takes from (AnObject o) h = pointer_takes from (value_of (AnObject o)) (value_type (value_of (AnObject o))) refl (value_counts (AnObject o) h)
   called_takes from (AValue v) h = pointer_takes from v (value_type v) refl h
 
-  callee_takes : (from : ℕ) (b : Option Builtin) (c : Checked Typed) → Holds CountsTyped c → Holds TakesAll (elim b [ Some f ↦ builtin_called from f | None ↦ c >>= called from ])
-  callee_takes from (Some f) c h = function_takes from (BuiltinFunction f) (prototype_of f) refl
-  callee_takes from None c h = holds_then CountsTyped TakesAll c (called from) h (called_takes from)
+  callee_takes : (from at : ℕ) (b : Option Builtin) (c : Checked Typed) → Holds CountsTyped c → Holds TakesAll (elim b [ Some f ↦ builtin_called at f | None ↦ c >>= called from ])
+  callee_takes from at (Some f) c h = function_takes at (BuiltinFunction at f) (prototype_of f) refl
+  callee_takes from at None c h = holds_then CountsTyped TakesAll c (called from) h (called_takes from)
 
   -- one value per parameter
   abbrev pub Passes : CTypes → Values → Type 0
@@ -335,7 +335,7 @@ module _ (x : Making) (us : List CType) (serves : Serves x us) where
         holds_then CountsTyped CountsTyped (expression a env) _ (expression_counts a env ns) (λ c h. holds_then CountsTyped CountsTyped (expression b env) _ (expression_counts b env ns)
         (λ d k. subscript_counts (extents env) from (value_of c) (value_of d) (value_type (value_of c)) (value_type (value_of d)) (value_counts c h) (value_counts d k)))
     expression_counts (Call from a es) env ns =
-        holds_then TakesAll CountsTyped (elim (builtin_in env a) [ Some f ↦ builtin_called from f | None ↦ expression a env >>= called from ]) _ (callee_takes from (builtin_in env a) (expression a env) (expression_counts a env ns))
+        holds_then TakesAll CountsTyped (elim (builtin_in env a) [ Some f ↦ builtin_called (start_of a) f | None ↦ expression a env >>= called from ]) _ (callee_takes from (start_of a) (builtin_in env a) (expression a env) (expression_counts a env ns))
         (λ f h. holds_then (Passes f.2) CountsTyped (arguments es env from f.2) _ (arguments_pass es env from f.2 ns) (λ vs k. (subst (λ n. CalleeCalls f.0 x n) (sym k.1) h, k.0)))
     expression_counts (Member from a name) env ns = holds_then CountsTyped CountsTyped (expression a env) _ (expression_counts a env ns) (λ c h. named_member_counts env from c name h)
     expression_counts (Arrow from a name) env ns = holds_then CountsTyped CountsTyped (expression a env) _ (expression_counts a env ns) (λ c h. arrow_counts env from (value_of c) (value_type (value_of c)) name (value_counts c h))
@@ -346,5 +346,5 @@ module _ (x : Making) (us : List CType) (serves : Serves x us) where
     arguments_pass (MoreExprs a es) env from NoTypes ns = tt
     arguments_pass (MoreExprs a es) env from (MoreTypes t ts) ns =
         holds_then CountsTyped (Passes (MoreTypes t ts)) (expression a env) _ (expression_counts a env ns)
-        (λ c h. holds_then Counts (Passes (MoreTypes t ts)) (assigned from t (value_of c)) _ (assigned_counts from t (value_of c) (value_counts c h))
+        (λ c h. holds_then Counts (Passes (MoreTypes t ts)) (assigned (start_of a) t (value_of c)) _ (assigned_counts (start_of a) t (value_of c) (value_counts c h))
         (λ v k. holds_then (Passes ts) (Passes (MoreTypes t ts)) (arguments es env from ts) _ (arguments_pass es env from ts ns) (λ vs j. ((k, j.0), ap suc j.1))))

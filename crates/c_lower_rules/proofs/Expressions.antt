@@ -272,7 +272,7 @@ module _ (r : Reading) (s : Source) (code : Flat) where
   mutual
     pub object_agrees : (o : Object) (n : ℕ) (p : Spot) (at to : ℕ) (go : ℕ → Marks) (stack : List ℕ) (ws : List Waiting) → CallsAgree n p → ObjectAt o (against_at p) at to → ((v : ℕ) → Agree r l n (go v) (Going (stand p to) (v ∷ stack) ws))
         → Agree r l n (address o (here_at p) go) (Going (stand p at) stack ws)
-    object_agrees (GlobalObject place t) n p at to go stack ws cs h c = pushes n (go (global_address s place)) p (Global place) at to stack ws h (c (global_address s place))
+    object_agrees (GlobalObject from place t) n p at to go stack ws cs h c = pushes n (go (global_address s place)) p (Global place) at to stack ws h (c (global_address s place))
     object_agrees (LocalObject place t) n p at to go stack ws cs h c = pushes n (go (local_address (here_at p) place)) p (Local (offset_of (against_at p) place)) at to stack ws h (c (local_address (here_at p) place))
     object_agrees (TextObject from size) n p at to go stack ws cs h c = pushes n (go (text_address s from)) p (Text (order_of from s.texts)) at to stack ws h (c (text_address s from))
     object_agrees (Pointed v t) n p at to go stack ws cs h c = value_agrees v n p at to go stack ws cs h c
@@ -286,7 +286,7 @@ module _ (r : Reading) (s : Source) (code : Flat) where
     pub value_agrees : (v : typed.Value) (n : ℕ) (p : Spot) (at to : ℕ) (go : ℕ → Marks) (stack : List ℕ) (ws : List Waiting) → CallsAgree n p → ValueAt v (against_at p) at to → ((v : ℕ) → Agree r l n (go v) (Going (stand p to) (v ∷ stack) ws))
         → Agree r l n (value v (here_at p) go) (Going (stand p at) stack ws)
     value_agrees (Constant k m) n p at to go stack ws cs h c = pushes n (go (written m)) p (Number (written m)) at to stack ws h (c (written m))
-    value_agrees (FunctionAddress number t) n p at to go stack ws cs h c = pushes n (go (function_address number)) p (Number (function_address number)) at to stack ws h (c (function_address number))
+    value_agrees (FunctionAddress from number t) n p at to go stack ws cs h c = pushes n (go (function_address number)) p (Number (function_address number)) at to stack ws h (c (function_address number))
     value_agrees (ReadOf o) n p at to go stack ws cs h c =
         object_agrees o n p at h.0 (load (here_at p) (origin o) (object_type o) go) stack ws cs h.1 (λ a. load_agrees n (is_read (object_type o)) o go p h.0 to a stack ws h.2 c)
     value_agrees (AddressOf o t) n p at to go stack ws cs h c = object_agrees o n p at to go stack ws cs h c
@@ -375,9 +375,9 @@ module _ (r : Reading) (s : Source) (code : Flat) where
 
     pub callee_agrees : (f : Callee) (n : ℕ) (p : Spot) (at m : ℕ) (go : (List ℕ → (ℕ → Marks) → Marks) → Marks) (stack : List ℕ) (ws : List Waiting) (count call to : ℕ) → CallsAgree n p → CalleeAt f (against_at p) at m → CallAt f (against_at p) count call to
         → ((a : ℕ) (make : List ℕ → (ℕ → Marks) → Marks) → Makes n p f a make count call to → Agree r l n (go make) (Going (stand p m) (below_args f a stack) ws)) → Agree r l n (called f (here_at p) go) (Going (stand p at) stack ws)
-    callee_agrees (SourceFunction number) n p at m go stack ws count call to cs h k c =
+    callee_agrees (SourceFunction from number) n p at m go stack ws count call to cs h k c =
         moves n (go (p.call number)) p at m stack ws h (c 0 (p.call number) (λ xs g vs us e d. calls_by_name n p number xs count call to g vs us cs e k d))
-    callee_agrees (BuiltinFunction b) n p at m go stack ws count call to cs h k c =
+    callee_agrees (BuiltinFunction from b) n p at m go stack ws count call to cs h k c =
         moves n (go (p.call (number_of b))) p at m stack ws h (c 0 (p.call (number_of b)) (λ xs g vs us e d. calls_by_name n p (number_of b) xs count call to g vs us cs e k d))
     callee_agrees (Through v) n p at m go stack ws count call to cs h k c =
         value_agrees v n p at m (λ a. go (p.call_at (target (value_type v)) a)) stack ws cs h

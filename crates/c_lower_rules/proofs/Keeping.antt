@@ -133,8 +133,8 @@ module _ (x : Making) (height : ℕ → ℕ) where
   convert_len false k h = refl
 
   call_len : (f : Callee) (n k : ℕ) → length (k ∷ []) ≡ length (call_code f x n)
-  call_len (SourceFunction number) n k = refl
-  call_len (BuiltinFunction b) n k = refl
+  call_len (SourceFunction from number) n k = refl
+  call_len (BuiltinFunction from b) n k = refl
   call_len (Through v) n k = refl
 
   pair_len : (a b : List Instr) (ha hb : List ℕ) (i : Instr) (k : ℕ) → length ha ≡ length a → length hb ≡ length b → length (ha ++ (hb ++ (k ∷ []))) ≡ length (a ++ (b ++ one i))
@@ -145,7 +145,7 @@ module _ (x : Making) (height : ℕ → ℕ) where
 
   mutual
     pub object_len : (o : Object) (h : ℕ) → length (object_heights o h) ≡ length (object_code o x)
-    object_len (GlobalObject place t) h = refl
+    object_len (GlobalObject from place t) h = refl
     object_len (LocalObject place t) h = refl
     object_len (TextObject from n) h = refl
     object_len (Pointed v t) h = value_len v h
@@ -154,7 +154,7 @@ module _ (x : Making) (height : ℕ → ℕ) where
 
     pub value_len : (v : Value) (h : ℕ) → length (value_heights v h) ≡ length (value_code v x)
     value_len (Constant k n) h = refl
-    value_len (FunctionAddress number t) h = refl
+    value_len (FunctionAddress from number t) h = refl
     value_len (ReadOf o) h = len_app (object_heights o h) (if_true (is_read (object_type o)) (h + 1)) (object_code o x) (load_code (is_read (object_type o)) o) (object_len o h) (load_len (is_read (object_type o)) o (h + 1))
     value_len (AddressOf o t) h = object_len o h
     value_len (Convert t v) h = len_app (value_heights v h) (if_true (converts t v) (h + 1)) (value_code v x) (convert_code (converts t v) (kind_of t)) (value_len v h) (convert_len (converts t v) (kind_of t) (h + 1))
@@ -199,8 +199,8 @@ module _ (x : Making) (height : ℕ → ℕ) where
     values_len (MoreValues v vs) h = len_app (value_heights v h) (values_heights vs (h + 1)) (value_code v x) (values_code vs x) (value_len v h) (values_len vs (h + 1))
 
     pub callee_len : (f : Callee) (h : ℕ) → length (callee_heights f h) ≡ length (callee_code f x)
-    callee_len (SourceFunction number) h = refl
-    callee_len (BuiltinFunction b) h = refl
+    callee_len (SourceFunction from number) h = refl
+    callee_len (BuiltinFunction from b) h = refl
     callee_len (Through v) h = value_len v h
 
   -- ---- the first instruction
@@ -221,13 +221,13 @@ module _ (x : Making) (height : ℕ → ℕ) where
   sum_begins PointerMinus p i hp hi size h b c = begins_with p (i ++ (instr.Change (change.Negate I64) ∷ one (instr.Combine (combine.Index size)))) (hp h) (hi (h + 1) ++ ((h + 2) ∷ ((h + 2) ∷ []))) h b
 
   call_begins : (f : Callee) (n h k : ℕ) → h ≡ k → Begins (call_code f x n) (h ∷ []) k
-  call_begins (SourceFunction number) n h k e = one_begins (instr.Call number n) [] h k [] e
-  call_begins (BuiltinFunction b) n h k e = one_begins (instr.Call (number_of b) n) [] h k [] e
+  call_begins (SourceFunction from number) n h k e = one_begins (instr.Call number n) [] h k [] e
+  call_begins (BuiltinFunction from b) n h k e = one_begins (instr.Call (number_of b) n) [] h k [] e
   call_begins (Through v) n h k e = one_begins (instr.CallPointer (x.sig (target (value_type v))) n) [] h k [] e
 
   mutual
     pub object_begins : (o : Object) (h : ℕ) → Begins (object_code o x) (object_heights o h) h
-    object_begins (GlobalObject place t) h = one_begins (instr.Push (Global place)) [] h h [] refl
+    object_begins (GlobalObject from place t) h = one_begins (instr.Push (Global place)) [] h h [] refl
     object_begins (LocalObject place t) h = one_begins (instr.Push (Local (offset_of x.against place))) [] h h [] refl
     object_begins (TextObject from n) h = one_begins (instr.Push (Text (order_of from x.against.source.texts))) [] h h [] refl
     object_begins (Pointed v t) h = value_begins v h
@@ -236,7 +236,7 @@ module _ (x : Making) (height : ℕ → ℕ) where
 
     pub value_begins : (v : Value) (h : ℕ) → Begins (value_code v x) (value_heights v h) h
     value_begins (Constant k n) h = one_begins (instr.Push (Number (written n))) [] h h [] refl
-    value_begins (FunctionAddress number t) h = one_begins (instr.Push (Number (function_address number))) [] h h [] refl
+    value_begins (FunctionAddress from number t) h = one_begins (instr.Push (Number (function_address number))) [] h h [] refl
     value_begins (ReadOf o) h = begins_with (object_code o x) (load_code (is_read (object_type o)) o) (object_heights o h) (if_true (is_read (object_type o)) (h + 1)) h (object_begins o h)
     value_begins (AddressOf o t) h = object_begins o h
     value_begins (Convert t v) h = begins_with (value_code v x) (convert_code (converts t v) (kind_of t)) (value_heights v h) (if_true (converts t v) (h + 1)) h (value_begins v h)
@@ -264,8 +264,8 @@ module _ (x : Making) (height : ℕ → ℕ) where
         begins_with (object_code o x) (loads o ∷ (first ++ inner)) (object_heights o h) ((h + 1) ∷ (if_true (reconverts own k) (h + 2) ++ inner_heights)) h (object_begins o h)
     value_begins (Moved o w i size) h = begins_with (object_code o x) (loads o ∷ (value_code i x ++ (move_code w size ++ one (stores o)))) (object_heights o h) ((h + 1) ∷ (value_heights i (h + 2) ++ (move_heights w (h + 3) ++ ((h + 2) ∷ [])))) h (object_begins o h)
     value_begins (Stepped o w g size) h = begins_with (object_code o x) (loads o ∷ one (instr.StoreStep (kind_of (object_type o)) (step_by w size) (keeps_old g) (origin o))) (object_heights o h) ((h + 1) ∷ ((h + 2) ∷ [])) h (object_begins o h)
-    value_begins (CallOf (SourceFunction number) vs t) h = values_begin vs (call_code (SourceFunction number) x (count vs)) (SourceFunction number) h (call_begins (SourceFunction number) (count vs))
-    value_begins (CallOf (BuiltinFunction b) vs t) h = values_begin vs (call_code (BuiltinFunction b) x (count vs)) (BuiltinFunction b) h (call_begins (BuiltinFunction b) (count vs))
+    value_begins (CallOf (SourceFunction from number) vs t) h = values_begin vs (call_code (SourceFunction from number) x (count vs)) (SourceFunction from number) h (call_begins (SourceFunction from number) (count vs))
+    value_begins (CallOf (BuiltinFunction from b) vs t) h = values_begin vs (call_code (BuiltinFunction from b) x (count vs)) (BuiltinFunction from b) h (call_begins (BuiltinFunction from b) (count vs))
     value_begins (CallOf (Through v) vs t) h = begins_with (value_code v x) (values_code vs x ++ call_code (Through v) x (count vs)) (value_heights v h) (values_heights vs (h + 1) ++ ((h + 1 + count vs) ∷ [])) h (value_begins v h)
 
     pub values_begin : (vs : Values) (last : List Instr) (f : Callee) (h : ℕ) → ((m k : ℕ) → m ≡ k → Begins last (m ∷ []) k) → Begins (values_code vs x ++ last) (values_heights vs h ++ ((h + count vs) ∷ [])) h
@@ -277,7 +277,7 @@ module _ (x : Making) (height : ℕ → ℕ) where
 
   mutual
     pub object_some : (o : Object) → 1 ≤ object_depth o
-    object_some (GlobalObject place t) = omega arith
+    object_some (GlobalObject from place t) = omega arith
     object_some (LocalObject place t) = omega arith
     object_some (TextObject from n) = omega arith
     object_some (Pointed v t) = value_some v
@@ -288,7 +288,7 @@ module _ (x : Making) (height : ℕ → ℕ) where
 
     pub value_some : (v : Value) → 1 ≤ value_depth v
     value_some (Constant k n) = omega arith
-    value_some (FunctionAddress number t) = omega arith
+    value_some (FunctionAddress from number t) = omega arith
     value_some (ReadOf o) = object_some o
     value_some (AddressOf o t) = object_some o
     value_some (Convert t v) = value_some v
@@ -309,8 +309,8 @@ module _ (x : Making) (height : ℕ → ℕ) where
     value_some (Changed o op k v) = omega arith
     value_some (Moved o w i size) = omega arith
     value_some (Stepped o w g size) = omega arith
-    value_some (CallOf (SourceFunction number) vs t) = omega arith
-    value_some (CallOf (BuiltinFunction b) vs t) = omega arith
+    value_some (CallOf (SourceFunction from number) vs t) = omega arith
+    value_some (CallOf (BuiltinFunction from b) vs t) = omega arith
     value_some (CallOf (Through v) vs t) = omega arith
 
   -- ---- code that makes a value
@@ -418,8 +418,8 @@ module _ (x : Making) (height : ℕ → ℕ) where
   )
 
   call_kept : (f : Callee) (n h at : ℕ) → CalleeCalls f x n → height at ≡ under_args f h + n → under_args f h + n ≤ 64 → Leads code height (at + 1) (h + 1) → Kept code height at (call_code f x n)
-  call_kept (SourceFunction number) n h at t e le to = (k_call number n at h e le t to, tt)
-  call_kept (BuiltinFunction b) n h at t e le to = (k_call (number_of b) n at h e le t to, tt)
+  call_kept (SourceFunction from number) n h at t e le to = (k_call number n at h e le t to, tt)
+  call_kept (BuiltinFunction from b) n h at t e le to = (k_call (number_of b) n at h e le t to, tt)
   call_kept (Through v) n h at t e le to = (k_pointer (x.sig (target (value_type v))) n at h e le t.1 to, tt)
 
   move_begins : (w : Way) (size at h : ℕ) → Lies code.instrs at (move_code w size) → Stand height at (move_heights w h) → Leads code height at h
@@ -432,13 +432,13 @@ module _ (x : Making) (height : ℕ → ℕ) where
   CalleeRoom f h = Unit {0}
 
   callee_room : (f : Callee) (n h : ℕ) → h + call_depth f n ≤ 64 → CalleeRoom f h
-  callee_room (SourceFunction number) n h le = tt
-  callee_room (BuiltinFunction b) n h le = tt
+  callee_room (SourceFunction from number) n h le = tt
+  callee_room (BuiltinFunction from b) n h le = tt
   callee_room (Through v) n h le = omega (arith, le)
 
   call_room : (f : Callee) (vs : Values) (h : ℕ) → h + call_depth f (values_depth vs) ≤ 64 → under_args f h + values_depth vs ≤ 64
-  call_room (SourceFunction number) vs h le = omega (arith, le)
-  call_room (BuiltinFunction b) vs h le = omega (arith, le)
+  call_room (SourceFunction from number) vs h le = omega (arith, le)
+  call_room (BuiltinFunction from b) vs h le = omega (arith, le)
   call_room (Through v) vs h le = omega (arith, le)
 
   -- the evaluation stack is as deep as there are arguments
@@ -456,7 +456,7 @@ module _ (x : Making) (height : ℕ → ℕ) where
 
   mutual
     pub object_kept : (o : Object) (h : ℕ) → ObjectCalls o x → Keeping (object_code o x) (object_heights o h) h (object_depth o)
-    object_kept (GlobalObject place t) h u at l s to le = (k_push (Global place) at h s.0 (omega arith) to, tt)
+    object_kept (GlobalObject from place t) h u at l s to le = (k_push (Global place) at h s.0 (omega arith) to, tt)
     object_kept (LocalObject place t) h u at l s to le = (k_push (Local (offset_of x.against place)) at h s.0 (omega arith) to, tt)
     object_kept (TextObject from n) h u at l s to le = (k_push (Text (order_of from x.against.source.texts)) at h s.0 (omega arith) to, tt)
     object_kept (Pointed v t) h u at l s to le = value_kept v h u at l s to le
@@ -468,7 +468,7 @@ module _ (x : Making) (height : ℕ → ℕ) where
 
     pub value_kept : (v : Value) (h : ℕ) → ValueCalls v x → Keeping (value_code v x) (value_heights v h) h (value_depth v)
     value_kept (Constant k n) h u at l s to le = (k_push (Number (written n)) at h s.0 (omega arith) to, tt)
-    value_kept (FunctionAddress number t) h u at l s to le = (k_push (Number (function_address number)) at h s.0 (omega arith) to, tt)
+    value_kept (FunctionAddress from number t) h u at l s to le = (k_push (Number (function_address number)) at h s.0 (omega arith) to, tt)
     value_kept (ReadOf o) h u at l s to le = load_kept (is_read (object_type o)) o (object_code o x) (object_heights o h) h (object_depth o) (object_len o h) (object_some o) (object_kept o h u) at l s to le
     value_kept (AddressOf o t) h u at l s to le = object_kept o h u at l s to le
     value_kept (Convert t v) h u at l s to le = convert_kept (converts t v) (kind_of t) (value_code v x) (value_heights v h) h (value_depth v) (value_len v h) (value_some v) (value_kept v h u) at l s to le
@@ -627,6 +627,6 @@ module _ (x : Making) (height : ℕ → ℕ) where
         joined (value_code v x) (values_code vs x) at (value_kept v h u.0 at c.0 d.0 (values_lead vs (h + 1) m c.1 d.1 end) (omega arith)) (values_kept vs (h + 1) u.1 m c.1 d.1 end (omega arith))
 
     pub callee_kept : (f : Callee) (n h : ℕ) → CalleeCalls f x n → (at : ℕ) → Lies code.instrs at (callee_code f x) → Stand height at (callee_heights f h) → Leads code height (at + length (callee_code f x)) (under_args f h) → CalleeRoom f h → Kept code height at (callee_code f x)
-    callee_kept (SourceFunction number) n h u at l s to le = tt
-    callee_kept (BuiltinFunction b) n h u at l s to le = tt
+    callee_kept (SourceFunction from number) n h u at l s to le = tt
+    callee_kept (BuiltinFunction from b) n h u at l s to le = tt
     callee_kept (Through v) n h u at l s to le = value_kept v h u.0 at l s to le

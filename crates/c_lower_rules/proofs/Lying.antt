@@ -88,8 +88,8 @@ module _ (x : Making) where
   load_lies false o at h = omega arith
 
   call_lies : (f : Callee) (n at : ℕ) → HasSigs x → Lies code at (call_code f x n) → CallAt f x.against n at (at + length (call_code f x n))
-  call_lies (SourceFunction number) n at sigs h = has (instr.Call number n) [] at (at + 1) h refl
-  call_lies (BuiltinFunction b) n at sigs h = has (instr.Call (number_of b) n) [] at (at + 1) h refl
+  call_lies (SourceFunction from number) n at sigs h = has (instr.Call number n) [] at (at + 1) h refl
+  call_lies (BuiltinFunction from b) n at sigs h = has (instr.Call (number_of b) n) [] at (at + 1) h refl
   call_lies (Through v) n at sigs h = (x.sig (target (value_type v)), sigs (target (value_type v)), has (instr.CallPointer (x.sig (target (value_type v))) n) [] at (at + 1) h refl)
 
   module _ (sigs : HasSigs x) where
@@ -125,7 +125,7 @@ module _ (x : Making) where
 
     mutual
       pub object_lies : (o : Object) (at : ℕ) → Lies code at (object_code o x) → ObjectAt o x.against at (at + length (object_code o x))
-      object_lies (GlobalObject place t) at h = has (instr.Push (Global place)) [] at (at + 1) h refl
+      object_lies (GlobalObject from place t) at h = has (instr.Push (Global place)) [] at (at + 1) h refl
       object_lies (LocalObject place t) at h = has (instr.Push (Local (offset_of x.against place))) [] at (at + 1) h refl
       object_lies (TextObject from n) at h = record { here = h.0; after = refl }
       object_lies (Pointed v t) at h = value_lies v at h
@@ -135,7 +135,7 @@ module _ (x : Making) where
 
       pub value_lies : (v : Value) (at : ℕ) → Lies code at (value_code v x) → ValueAt v x.against at (at + length (value_code v x))
       value_lies (Constant k n) at h = record { here = h.0; after = refl }
-      value_lies (FunctionAddress number t) at h = record { here = h.0; after = refl }
+      value_lies (FunctionAddress from number t) at h = record { here = h.0; after = refl }
       value_lies (ReadOf o) at h =
           let last = load_code (is_read (object_type o)) o in
           let a = split (object_code o x) last at h in
@@ -261,8 +261,8 @@ module _ (x : Making) where
           (m, value_lies v at c.0, to_end (ValuesAt vs x.against m) (m + length (values_code vs x)) (at + length (value_code v x ++ values_code vs x)) (omega arith) (values_lie vs m c.1))
 
       pub callee_lies : (f : Callee) (at : ℕ) → Lies code at (callee_code f x) → CalleeAt f x.against at (at + length (callee_code f x))
-      callee_lies (SourceFunction number) at h = omega arith
-      callee_lies (BuiltinFunction b) at h = omega arith
+      callee_lies (SourceFunction from number) at h = omega arith
+      callee_lies (BuiltinFunction from b) at h = omega arith
       callee_lies (Through v) at h = value_lies v at h
 
     -- ---- statements
@@ -335,7 +335,7 @@ module _ (x : Making) where
             jumps instr.GoOn (length other) other n to d.1 (omega arith),
             ends z (n + 1) (n + 1 + length other) to (n + 1 + length other + stop) (to + stop) (n + 1 + length other + again) (to + again) (omega arith) (omega arith) (omega arith) (statement_lies z (n + 1) stop again d.1.1),
           )
-      statement_lies (While v s) at stop again h =
+      statement_lies (While from v s) at stop again h =
           let body = statement_code s x 1 0 in
           let back = one (instr.GoBack (length (value_code v x) + 1 + length body)) in
           let rest = instr.SkipIfZero (length body + 1) ∷ (body ++ back) in
@@ -345,7 +345,7 @@ module _ (x : Making) where
           let n = m + 1 + length body in
           let e = length-append (value_code v x) rest in
           let u = length-append body back in
-          let to = at + length (statement_code (While v s) x stop again) in (
+          let to = at + length (statement_code (While from v s) x stop again) in (
             m,
             n,
             h.0,
@@ -355,7 +355,7 @@ module _ (x : Making) where
             goes_back (length (value_code v x) + 1 + length body) [] n (at + 1) d.1 (omega arith),
             omega arith,
           )
-      statement_lies (Do s v) at stop again h =
+      statement_lies (Do from s v) at stop again h =
           let body = statement_code s x (length (value_code v x) + 2) 0 in
           let back = one (instr.GoBack (length body + length (value_code v x) + 1)) in
           let end = instr.SkipIfZero 1 ∷ back in
@@ -365,7 +365,7 @@ module _ (x : Making) where
           let n = m + length (value_code v x) in
           let e = length-append body (value_code v x ++ end) in
           let u = length-append (value_code v x) end in
-          let to = at + length (statement_code (Do s v) x stop again) in (
+          let to = at + length (statement_code (Do from s v) x stop again) in (
             m,
             n,
             h.0,
@@ -375,7 +375,7 @@ module _ (x : Making) where
             goes_back (length body + length (value_code v x) + 1) [] (n + 1) (at + 1) d.1.1 (omega arith),
             omega arith,
           )
-      statement_lies (For first v last s) at stop again h =
+      statement_lies (For from first v last s) at stop again h =
           let final = last_code last x in
           let body = statement_code s x (length final + 1) 0 in
           let test = test_code v x (length body + length final + 1) in
@@ -410,7 +410,7 @@ module _ (x : Making) where
           )
       statement_lies Break at stop again h = (jumps instr.GoOn stop [] at (at + 1 + stop) h refl, refl)
       statement_lies Continue at stop again h = (jumps instr.GoOn again [] at (at + 1 + again) h refl, refl)
-      statement_lies (Return v) at stop again h = return_lies v at h
+      statement_lies (Return from v) at stop again h = return_lies v at h
 
       pub statements_lie : (ss : Statements) (at stop again : ℕ) → Lies code at (statements_code ss x stop again)
           → StatementsAt ss x.against at (at + length (statements_code ss x stop again)) (at + length (statements_code ss x stop again) + stop) (at + length (statements_code ss x stop again) + again)

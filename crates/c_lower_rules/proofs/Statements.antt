@@ -105,7 +105,7 @@ module _ (r : Reading) (s : Source) (code : Flat) where
         value_agrees r s code v n p at h.0 (λ m. at_zero m (statement y (here_at r s code p) x) (statement z (here_at r s code p) x)) stack ws cs h.2
         (λ m. skips r s code n (statement y (here_at r s code p) x) (statement z (here_at r s code p) x) p h.0 (h.1 + 1) m stack ws h.3
         (statement_agrees y n p (h.1 + 1) to stop again x stack ws cs h.6 k) (statement_agrees z n p (h.0 + 1) h.1 stop again x stack ws cs h.4 first))
-    statement_agrees (While v z) n p at to stop again x stack ws cs h k =
+    statement_agrees (While from v z) n p at to stop again x stack ws cs h k =
         let body : Marks → Marks = λ q. statement z (here_at r s code p) (within x q) in
         loops n p (λ q. value v (here_at r s code p) (λ m. at_zero m x.next (body q))) (at + 1) stack ws (Going (stand p at) stack ws)
         (λ j lt q back.
@@ -116,7 +116,7 @@ module _ (r : Reading) (s : Source) (code : Flat) where
         (λ m. skips r s code j x.next (body q) p h.0 to m stack ws h.4 e.next
         (statement_agrees z j p (h.0 + 1) h.1 to h.1 (within x q) stack ws ds h.5 (record { next = looped; stops = e.next; goes = looped; gives = e.gives }))))
         (at_head p at stack ws h.2)
-    statement_agrees (Do z v) n p at to stop again x stack ws cs h k =
+    statement_agrees (Do from z v) n p at to stop again x stack ws cs h k =
         let test : Marks → Marks = λ q. value v (here_at r s code p) (λ m. at_zero m x.next q) in
         loops n p (λ q. statement z (here_at r s code p) (within x (test q))) (at + 1) stack ws (Going (stand p at) stack ws)
         (λ j lt q back.
@@ -127,7 +127,7 @@ module _ (r : Reading) (s : Source) (code : Flat) where
         value_agrees r s code v j p h.0 h.1 (λ m. at_zero m x.next q) stack ws ds h.4 (λ m. skips r s code j x.next q p h.1 to m stack ws h.5 e.next looped) in
         statement_agrees z j p (at + 1) h.0 to h.0 (within x (test q)) stack ws ds h.3 (record { next = tested; stops = e.next; goes = tested; gives = e.gives }))
         (at_head p at stack ws h.2)
-    statement_agrees (For first v last z) n p at to stop again x stack ws cs h k =
+    statement_agrees (For from first v last z) n p at to stop again x stack ws cs h k =
         let here = here_at r s code p in
         let ending : Marks → Marks = λ q. maybe last here (λ m. q) q in
         let body : Marks → Marks = λ q. statement z here (within x (ending q)) in
@@ -146,7 +146,7 @@ module _ (r : Reading) (s : Source) (code : Flat) where
         statements_agree first n p at h.0 stop again (record x { next = looping p.side round }) stack ws cs h.4 (record { next = looped; stops = k.stops; goes = k.goes; gives = k.gives })
     statement_agrees Break n p at to stop again x stack ws cs h k = goes_on r s code n x.stop p at stop stack ws h.0 k.stops
     statement_agrees Continue n p at to stop again x stack ws cs h k = goes_on r s code n x.again p at again stack ws h.0 k.goes
-    statement_agrees (Return v) n p at to stop again x stack ws cs h k = return_agrees v n p at to x.give stack ws cs h k.gives
+    statement_agrees (Return from v) n p at to stop again x stack ws cs h k = return_agrees v n p at to x.give stack ws cs h k.gives
 
     pub statements_agree : (zs : Statements) (n : ℕ) (p : Spot) (at to stop again : ℕ) (x : Exits) (stack : List ℕ) (ws : List Waiting) → CallsAgree r s code n p → StatementsAt zs (against_at r s code p) at to stop again → Leads n p x to stop again stack ws
         → Agree r lay n (statements zs (here_at r s code p) x) (Going (stand p at) stack ws)

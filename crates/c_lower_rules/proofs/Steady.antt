@@ -104,17 +104,17 @@ module _ (x : Making) (height : ℕ → ℕ) where
         let second = instr.GoOn (length other) ∷ other in
         len_app x height (value_heights v 0) (1 ∷ (statement_heights z ++ (0 ∷ statement_heights y))) (value_code v x) (instr.SkipIfZero (length body + 1) ∷ (body ++ second)) (value_len x height v 0)
         (ap suc (len_app x height (statement_heights z) (0 ∷ statement_heights y) body second (statement_len z (length other + 1 + stop) (length other + 1 + again)) (ap suc (statement_len y stop again))))
-    statement_len (While v z) stop again =
+    statement_len (While from v z) stop again =
         let body = statement_code z x 1 0 in
         let back = one (instr.GoBack (length (value_code v x) + 1 + length body)) in
         ap suc (len_app x height (value_heights v 0) (1 ∷ (statement_heights z ++ (0 ∷ []))) (value_code v x) (instr.SkipIfZero (length body + 1) ∷ (body ++ back)) (value_len x height v 0)
         (ap suc (len_app x height (statement_heights z) (0 ∷ []) body back (statement_len z 1 0) refl)))
-    statement_len (Do z v) stop again =
+    statement_len (Do from z v) stop again =
         let body = statement_code z x (length (value_code v x) + 2) 0 in
         let end = instr.SkipIfZero 1 ∷ one (instr.GoBack (length body + length (value_code v x) + 1)) in
         ap suc (len_app x height (statement_heights z) (value_heights v 0 ++ (1 ∷ (0 ∷ []))) body (value_code v x ++ end) (statement_len z (length (value_code v x) + 2) 0)
         (len_app x height (value_heights v 0) (1 ∷ (0 ∷ [])) (value_code v x) end (value_len x height v 0) refl))
-    statement_len (For first v last z) stop again =
+    statement_len (For from first v last z) stop again =
         let final = last_code last x in
         let body = statement_code z x (length final + 1) 0 in
         let over = length body + length final + 1 in
@@ -126,7 +126,7 @@ module _ (x : Making) (height : ℕ → ℕ) where
         (len_app x height (statement_heights z) (test_heights last ++ (0 ∷ [])) body (final ++ back) (statement_len z (length final + 1) 0) (len_app x height (test_heights last) (0 ∷ []) final back (last_len last) refl))))
     statement_len Break stop again = refl
     statement_len Continue stop again = refl
-    statement_len (Return v) stop again = return_len v
+    statement_len (Return from v) stop again = return_len v
 
     pub statements_len : (zs : Statements) (stop again : ℕ) → length (statements_heights zs) ≡ length (statements_code zs x stop again)
     statements_len NoStatements stop again = refl
@@ -149,9 +149,9 @@ module _ (x : Making) (height : ℕ → ℕ) where
         let other = statement_code y x stop again in
         let body = statement_code z x (length other + 1 + stop) (length other + 1 + again) in
         value_begins x height v 0 at (split x (value_code v x) (instr.SkipIfZero (length body + 1) ∷ (body ++ (instr.GoOn (length other) ∷ other))) at l).0 (split_stand x height (value_heights v 0) (1 ∷ (statement_heights z ++ (0 ∷ statement_heights y))) at s).0
-    statement_lead (While v z) stop again at l s to = leads_to x height at instr.Turn 0 l.0 s.0
-    statement_lead (Do z v) stop again at l s to = leads_to x height at instr.Turn 0 l.0 s.0
-    statement_lead (For first v last z) stop again at l s to =
+    statement_lead (While from v z) stop again at l s to = leads_to x height at instr.Turn 0 l.0 s.0
+    statement_lead (Do from z v) stop again at l s to = leads_to x height at instr.Turn 0 l.0 s.0
+    statement_lead (For from first v last z) stop again at l s to =
         let final = last_code last x in
         let body = statement_code z x (length final + 1) 0 in
         let test = test_code v x (length body + length final + 1) in
@@ -162,7 +162,7 @@ module _ (x : Making) (height : ℕ → ℕ) where
         statements_lead first (length loop + stop) (length loop + again) at c.0 d.0 (leads_to x height (at + length before) instr.Turn 0 c.1.0 d.1.0)
     statement_lead Break stop again at l s to = leads_to x height at (instr.GoOn stop) 0 l.0 s.0
     statement_lead Continue stop again at l s to = leads_to x height at (instr.GoOn again) 0 l.0 s.0
-    statement_lead (Return v) stop again at l s to = return_lead v at l s
+    statement_lead (Return from v) stop again at l s to = return_lead v at l s
 
     pub statements_lead : (zs : Statements) (stop again at : ℕ) → Lies code.instrs at (statements_code zs x stop again) → Stand height at (statements_heights zs) → Leads code height (at + length (statements_code zs x stop again)) 0 → Leads code height at 0
     statements_lead NoStatements stop again at l s to = leads_at x height (at + 0) at 0 0 (omega arith) refl to
@@ -231,7 +231,7 @@ module _ (x : Making) (height : ℕ → ℕ) where
               (statement_kept z on anew (m + 1) u.1 c2.0 d2.0 (omega arith) leaving (there (n + 1 + length other + stop) (n + on) (omega arith) stopping) (there (n + 1 + length other + again) (n + anew) (omega arith) going))
               (k_on x height (length other) n 0 (n + 1 + length other) d2.1.0 (omega arith) refl last, statement_kept y stop again (n + 1) u.2 c2.1.1 d2.1.1 (omega arith) last stopping going),
         )
-    statement_kept (While v z) stop again at u l s le to st ag =
+    statement_kept (While from v z) stop again at u l s le to st ag =
         let body = statement_code z x 1 0 in
         let by = length (value_code v x) + 1 + length body in
         let back = one (instr.GoBack by) in
@@ -245,7 +245,7 @@ module _ (x : Making) (height : ℕ → ℕ) where
         let e = length-append (value_code v x) rest in
         let e2 = length-append body back in
         let head = value_begins x height v 0 (at + 1) c.0 d.0 in
-        let last = there (at + length (statement_code (While v z) x stop again)) (n + 1) (omega (arith, e, e2)) to in
+        let last = there (at + length (statement_code (While from v z) x stop again)) (n + 1) (omega (arith, e, e2)) to in
         let returning = leads_to x height n (instr.GoBack by) 0 c2.1.0 d2.1.0 in (
           k_turn at s.0 head,
           joined x height (value_code v x) rest (at + 1) (value_kept x height v 0 u.0 (at + 1) c.0 d.0 (leads_to x height m (instr.SkipIfZero (length body + 1)) (0 + 1) c.1.0 (d.1.0 ∙ one_more)) (omega arith)) (
@@ -253,7 +253,7 @@ module _ (x : Making) (height : ℕ → ℕ) where
             joined x height body back (m + 1) (statement_kept z 1 0 (m + 1) u.1 c2.0 d2.0 (omega arith) returning last (there n (n + 0) (omega arith) returning)) (k_back by n at d2.1.0 (omega arith) l.0 head, tt),
           ),
         )
-    statement_kept (Do z v) stop again at u l s le to st ag =
+    statement_kept (Do from z v) stop again at u l s le to st ag =
         let over = length (value_code v x) + 2 in
         let body = statement_code z x over 0 in
         let by = length body + length (value_code v x) + 1 in
@@ -269,13 +269,13 @@ module _ (x : Making) (height : ℕ → ℕ) where
         let e2 = length-append (value_code v x) end in
         let testing = value_begins x height v 0 m c2.0 d2.0 in
         let head = statement_lead z over 0 (at + 1) c.0 d.0 testing in
-        let last = there (at + length (statement_code (Do z v) x stop again)) (n + 1 + 1) (omega (arith, e, e2)) to in (
+        let last = there (at + length (statement_code (Do from z v) x stop again)) (n + 1 + 1) (omega (arith, e, e2)) to in (
           k_turn at s.0 head,
           joined x height body rest (at + 1) (statement_kept z over 0 (at + 1) u.0 c.0 d.0 (omega arith) testing (there (n + 1 + 1) (m + over) (omega arith) last) (there m (m + 0) (omega arith) testing))
               (joined x height (value_code v x) end m (value_kept x height v 0 u.1 m c2.0 d2.0 (leads_to x height n (instr.SkipIfZero 1) (0 + 1) c2.1.0 (d2.1.0 ∙ one_more)) (omega arith))
               (k_skip x height 1 n 0 (n + 1 + 1) (d2.1.0 ∙ one_more) (omega arith) refl (leads_to x height (n + 1) (instr.GoBack by) 0 c2.1.1.0 d2.1.1.0) last, (k_back by (n + 1) at d2.1.1.0 (omega arith) l.0 head, tt))),
         )
-    statement_kept (For first v last z) stop again at u l s le to st ag =
+    statement_kept (For from first v last z) stop again at u l s le to st ag =
         let final = last_code last x in
         let leave = length final + 1 in
         let body = statement_code z x leave 0 in
@@ -320,7 +320,7 @@ module _ (x : Making) (height : ℕ → ℕ) where
         )
     statement_kept Break stop again at u l s le to st ag = (k_on x height stop at 0 (at + 1 + stop) s.0 (omega arith) refl st, tt)
     statement_kept Continue stop again at u l s le to st ag = (k_on x height again at 0 (at + 1 + again) s.0 (omega arith) refl ag, tt)
-    statement_kept (Return v) stop again at u l s le to st ag = return_kept v at u l s (omega arith)
+    statement_kept (Return from v) stop again at u l s le to st ag = return_kept v at u l s (omega arith)
 
     pub statements_kept : (zs : Statements) (stop again at : ℕ) → StatementsCall zs x → Lies code.instrs at (statements_code zs x stop again) → Stand height at (statements_heights zs) → statements_depth zs ≤ 64
         → Leads code height (at + length (statements_code zs x stop again)) 0 → Leads code height (at + length (statements_code zs x stop again) + stop) 0 → Leads code height (at + length (statements_code zs x stop again) + again) 0

@@ -49,13 +49,13 @@ load_code true o = one (instr.Load (kind_of (object_type o)) (origin o))
 load_code false o = []
 
 abbrev pub call_code : Callee → Making → (count : ℕ) → List Instr
-call_code (SourceFunction number) x n = one (instr.Call number n)
-call_code (BuiltinFunction b) x n = one (instr.Call (number_of b) n)
+call_code (SourceFunction from number) x n = one (instr.Call number n)
+call_code (BuiltinFunction from b) x n = one (instr.Call (number_of b) n)
 call_code (Through v) x n = one (instr.CallPointer (x.sig (target (value_type v))) n)
 
 abbrev mutual
   pub object_code : Object → Making → List Instr
-  object_code (GlobalObject place t) x = one (instr.Push (Global place))
+  object_code (GlobalObject from place t) x = one (instr.Push (Global place))
   object_code (LocalObject place t) x = one (instr.Push (Local (offset_of x.against place)))
   object_code (TextObject from n) x = one (instr.Push (Text (order_of from x.against.source.texts)))
   object_code (Pointed v t) x = value_code v x
@@ -64,7 +64,7 @@ abbrev mutual
 
   pub value_code : Value → Making → List Instr
   value_code (Constant k n) x = one (instr.Push (Number (written n)))
-  value_code (FunctionAddress number t) x = one (instr.Push (Number (function_address number)))
+  value_code (FunctionAddress from number t) x = one (instr.Push (Number (function_address number)))
   value_code (ReadOf o) x = object_code o x ++ load_code (is_read (object_type o)) o
   value_code (AddressOf o t) x = object_code o x
   value_code (Convert t v) x = value_code v x ++ convert_code (converts t v) (kind_of t)
@@ -92,8 +92,8 @@ abbrev mutual
   values_code (MoreValues v vs) x = value_code v x ++ values_code vs x
 
   pub callee_code : Callee → Making → List Instr
-  callee_code (SourceFunction number) x = []
-  callee_code (BuiltinFunction b) x = []
+  callee_code (SourceFunction from number) x = []
+  callee_code (BuiltinFunction from b) x = []
   callee_code (Through v) x = value_code v x
 
 -- ---- statements; `stop` and `again` say how far after the statement's end a `break` and a `continue` lead
@@ -123,13 +123,13 @@ abbrev mutual
       let other = statement_code z x stop again in
       let body = statement_code s x (length other + 1 + stop) (length other + 1 + again) in
       value_code v x ++ (instr.SkipIfZero (length body + 1) ∷ (body ++ (instr.GoOn (length other) ∷ other)))
-  statement_code (While v s) x stop again =
+  statement_code (While from v s) x stop again =
       let body = statement_code s x 1 0 in
       instr.Turn ∷ (value_code v x ++ (instr.SkipIfZero (length body + 1) ∷ (body ++ one (instr.GoBack (length (value_code v x) + 1 + length body)))))
-  statement_code (Do s v) x stop again =
+  statement_code (Do from s v) x stop again =
       let body = statement_code s x (length (value_code v x) + 2) 0 in
       instr.Turn ∷ (body ++ (value_code v x ++ (instr.SkipIfZero 1 ∷ one (instr.GoBack (length body + length (value_code v x) + 1)))))
-  statement_code (For first v last s) x stop again =
+  statement_code (For from first v last s) x stop again =
       let final = last_code last x in
       let body = statement_code s x (length final + 1) 0 in
       let test = test_code v x (length body + length final + 1) in
@@ -137,7 +137,7 @@ abbrev mutual
       statements_code first x (length loop + stop) (length loop + again) ++ loop
   statement_code Break x stop again = one (instr.GoOn stop)
   statement_code Continue x stop again = one (instr.GoOn again)
-  statement_code (Return v) x stop again = return_code v x
+  statement_code (Return from v) x stop again = return_code v x
 
   pub statements_code : Statements → Making → (stop again : ℕ) → List Instr
   statements_code NoStatements x stop again = []

@@ -25,7 +25,7 @@ sum_depth PointerMinus p i = pair_depth p i
 abbrev mutual
   -- the greatest depth of the evaluation stack, above what is on it before
   pub object_depth : Object → ℕ
-  object_depth (GlobalObject place t) = 1
+  object_depth (GlobalObject from place t) = 1
   object_depth (LocalObject place t) = 1
   object_depth (TextObject from n) = 1
   object_depth (Pointed v t) = value_depth v
@@ -34,7 +34,7 @@ abbrev mutual
 
   pub value_depth : Value → ℕ
   value_depth (Constant k n) = 1
-  value_depth (FunctionAddress number t) = 1
+  value_depth (FunctionAddress from number t) = 1
   value_depth (ReadOf o) = object_depth o
   value_depth (AddressOf o t) = object_depth o
   value_depth (Convert t v) = value_depth v
@@ -60,8 +60,8 @@ abbrev mutual
   values_depth (MoreValues v vs) = pair_depth (value_depth v) (values_depth vs)
 
   pub call_depth : Callee → ℕ → ℕ
-  call_depth (SourceFunction number) n = max 1 n
-  call_depth (BuiltinFunction b) n = max 1 n
+  call_depth (SourceFunction from number) n = max 1 n
+  call_depth (BuiltinFunction from b) n = max 1 n
   call_depth (Through v) n = pair_depth (value_depth v) n
 
 -- the function of the number is known, and takes so many arguments
@@ -71,7 +71,7 @@ Takes code f n = (info : FuncInfo) × (func_of code f ≡ Some info) × (length 
 abbrev mutual
   -- each call has one value per parameter
   pub ObjectCalls : Object → Making → Type 0
-  ObjectCalls (GlobalObject place t) x = Unit {0}
+  ObjectCalls (GlobalObject from place t) x = Unit {0}
   ObjectCalls (LocalObject place t) x = Unit {0}
   ObjectCalls (TextObject from n) x = Unit {0}
   ObjectCalls (Pointed v t) x = ValueCalls v x
@@ -80,7 +80,7 @@ abbrev mutual
 
   pub ValueCalls : Value → Making → Type 0
   ValueCalls (Constant k n) x = Unit {0}
-  ValueCalls (FunctionAddress number t) x = Unit {0}
+  ValueCalls (FunctionAddress from number t) x = Unit {0}
   ValueCalls (ReadOf o) x = ObjectCalls o x
   ValueCalls (AddressOf o t) x = ObjectCalls o x
   ValueCalls (Convert t v) x = ValueCalls v x
@@ -106,8 +106,8 @@ abbrev mutual
   ValuesCall (MoreValues v vs) x = ValueCalls v x × ValuesCall vs x
 
   pub CalleeCalls : Callee → Making → (count : ℕ) → Type 0
-  CalleeCalls (SourceFunction number) x n = Takes x.against.code number n
-  CalleeCalls (BuiltinFunction b) x n = Takes x.against.code (number_of b) n
+  CalleeCalls (SourceFunction from number) x n = Takes x.against.code number n
+  CalleeCalls (BuiltinFunction from b) x n = Takes x.against.code (number_of b) n
   CalleeCalls (Through v) x n = ValueCalls v x × ((f : ℕ) (info : FuncInfo) → func_of x.against.code f ≡ Some info → info.sig ≡ x.sig (target (value_type v)) → length info.params ≡ n)
 
 abbrev pub MaybeCalls : MaybeValue → Making → Type 0
@@ -125,12 +125,12 @@ abbrev mutual
   StatementCalls (Initialise place t v) x = ValueCalls v x
   StatementCalls (If v s) x = ValueCalls v x × StatementCalls s x
   StatementCalls (IfElse v s z) x = ValueCalls v x × StatementCalls s x × StatementCalls z x
-  StatementCalls (While v s) x = ValueCalls v x × StatementCalls s x
-  StatementCalls (Do s v) x = StatementCalls s x × ValueCalls v x
-  StatementCalls (For first v last s) x = StatementsCall first x × MaybeCalls v x × MaybeCalls last x × StatementCalls s x
+  StatementCalls (While from v s) x = ValueCalls v x × StatementCalls s x
+  StatementCalls (Do from s v) x = StatementCalls s x × ValueCalls v x
+  StatementCalls (For from first v last s) x = StatementsCall first x × MaybeCalls v x × MaybeCalls last x × StatementCalls s x
   StatementCalls Break x = Unit {0}
   StatementCalls Continue x = Unit {0}
-  StatementCalls (Return v) x = MaybeCalls v x
+  StatementCalls (Return from v) x = MaybeCalls v x
 
   pub StatementsCall : Statements → Making → Type 0
   StatementsCall NoStatements x = Unit {0}
@@ -144,12 +144,12 @@ abbrev mutual
   statement_depth (Initialise place t v) = value_depth v
   statement_depth (If v s) = max (value_depth v) (statement_depth s)
   statement_depth (IfElse v s z) = max (value_depth v) (max (statement_depth s) (statement_depth z))
-  statement_depth (While v s) = max (value_depth v) (statement_depth s)
-  statement_depth (Do s v) = max (statement_depth s) (value_depth v)
-  statement_depth (For first v last s) = max (statements_depth first) (max (maybe_depth v) (max (maybe_depth last) (statement_depth s)))
+  statement_depth (While from v s) = max (value_depth v) (statement_depth s)
+  statement_depth (Do from s v) = max (statement_depth s) (value_depth v)
+  statement_depth (For from first v last s) = max (statements_depth first) (max (maybe_depth v) (max (maybe_depth last) (statement_depth s)))
   statement_depth Break = 0
   statement_depth Continue = 0
-  statement_depth (Return v) = max 1 (maybe_depth v)
+  statement_depth (Return from v) = max 1 (maybe_depth v)
 
   pub statements_depth : Statements → ℕ
   statements_depth NoStatements = 0
@@ -169,8 +169,8 @@ move_heights Down h = h ∷ h ∷ []
 
 -- the depth of the evaluation stack below the arguments
 abbrev pub under_args : Callee → ℕ → ℕ
-under_args (SourceFunction number) h = h
-under_args (BuiltinFunction b) h = h
+under_args (SourceFunction from number) h = h
+under_args (BuiltinFunction from b) h = h
 under_args (Through v) h = h + 1
 
 abbrev pub if_true : Bool → ℕ → List ℕ
@@ -179,7 +179,7 @@ if_true false h = []
 
 abbrev mutual
   pub object_heights : Object → ℕ → List ℕ
-  object_heights (GlobalObject place t) h = h ∷ []
+  object_heights (GlobalObject from place t) h = h ∷ []
   object_heights (LocalObject place t) h = h ∷ []
   object_heights (TextObject from n) h = h ∷ []
   object_heights (Pointed v t) h = value_heights v h
@@ -188,7 +188,7 @@ abbrev mutual
 
   pub value_heights : Value → ℕ → List ℕ
   value_heights (Constant k n) h = h ∷ []
-  value_heights (FunctionAddress number t) h = h ∷ []
+  value_heights (FunctionAddress from number t) h = h ∷ []
   value_heights (ReadOf o) h = object_heights o h ++ if_true (is_read (object_type o)) (h + 1)
   value_heights (AddressOf o t) h = object_heights o h
   value_heights (Convert t v) h = value_heights v h ++ if_true (converts t v) (h + 1)
@@ -216,8 +216,8 @@ abbrev mutual
   values_heights (MoreValues v vs) h = value_heights v h ++ values_heights vs (h + 1)
 
   pub callee_heights : Callee → ℕ → List ℕ
-  callee_heights (SourceFunction number) h = []
-  callee_heights (BuiltinFunction b) h = []
+  callee_heights (SourceFunction from number) h = []
+  callee_heights (BuiltinFunction from b) h = []
   callee_heights (Through v) h = value_heights v h
 
 -- ---- statements, before which no value waits
@@ -237,12 +237,12 @@ abbrev mutual
   statement_heights (Initialise place t v) = value_heights v 0 ++ (1 ∷ [])
   statement_heights (If v s) = value_heights v 0 ++ (1 ∷ statement_heights s)
   statement_heights (IfElse v s z) = value_heights v 0 ++ (1 ∷ (statement_heights s ++ (0 ∷ statement_heights z)))
-  statement_heights (While v s) = 0 ∷ (value_heights v 0 ++ (1 ∷ (statement_heights s ++ (0 ∷ []))))
-  statement_heights (Do s v) = 0 ∷ (statement_heights s ++ (value_heights v 0 ++ (1 ∷ (0 ∷ []))))
-  statement_heights (For first v last s) = statements_heights first ++ (0 ∷ (test_heights v ++ (statement_heights s ++ (test_heights last ++ (0 ∷ [])))))
+  statement_heights (While from v s) = 0 ∷ (value_heights v 0 ++ (1 ∷ (statement_heights s ++ (0 ∷ []))))
+  statement_heights (Do from s v) = 0 ∷ (statement_heights s ++ (value_heights v 0 ++ (1 ∷ (0 ∷ []))))
+  statement_heights (For from first v last s) = statements_heights first ++ (0 ∷ (test_heights v ++ (statement_heights s ++ (test_heights last ++ (0 ∷ [])))))
   statement_heights Break = 0 ∷ []
   statement_heights Continue = 0 ∷ []
-  statement_heights (Return v) = return_heights v
+  statement_heights (Return from v) = return_heights v
 
   pub statements_heights : Statements → List ℕ
   statements_heights NoStatements = []

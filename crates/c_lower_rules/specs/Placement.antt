@@ -85,7 +85,7 @@ stores o = instr.Store (kind_of (object_type o)) (origin o)
 abbrev mutual
   -- the address of an object
   pub ObjectAt : Object → Against → ℕ → ℕ → Type 0
-  ObjectAt (GlobalObject place t) x at to = Has (instrs x) at (instr.Push (Global place)) to
+  ObjectAt (GlobalObject from place t) x at to = Has (instrs x) at (instr.Push (Global place)) to
   ObjectAt (LocalObject place t) x at to = Has (instrs x) at (instr.Push (Local (offset_of x place))) to
   ObjectAt (TextObject from n) x at to = Has (instrs x) at (instr.Push (Text (order_of from x.source.texts))) to
   ObjectAt (Pointed v t) x at to = ValueAt v x at to
@@ -94,7 +94,7 @@ abbrev mutual
 
   pub ValueAt : Value → Against → ℕ → ℕ → Type 0
   ValueAt (Constant k n) x at to = Has (instrs x) at (instr.Push (Number (written n))) to
-  ValueAt (FunctionAddress number t) x at to = Has (instrs x) at (instr.Push (Number (function_address number))) to
+  ValueAt (FunctionAddress from number t) x at to = Has (instrs x) at (instr.Push (Number (function_address number))) to
   ValueAt (ReadOf o) x at to = (m : ℕ) × ObjectAt o x at m × LoadAt x (is_read (object_type o)) o m to
   ValueAt (AddressOf o t) x at to = ObjectAt o x at to
   ValueAt (Convert t v) x at to = (m : ℕ) × ValueAt v x at m × ConvertAt x (converts t v) (kind_of t) m to
@@ -126,13 +126,13 @@ abbrev mutual
 
   -- the value of a pointer to what is called; a name has none
   pub CalleeAt : Callee → Against → ℕ → ℕ → Type 0
-  CalleeAt (SourceFunction number) x at to = at ≡ to
-  CalleeAt (BuiltinFunction b) x at to = at ≡ to
+  CalleeAt (SourceFunction from number) x at to = at ≡ to
+  CalleeAt (BuiltinFunction from b) x at to = at ≡ to
   CalleeAt (Through v) x at to = ValueAt v x at to
 
   pub CallAt : Callee → Against → (count : ℕ) → ℕ → ℕ → Type 0
-  CallAt (SourceFunction number) x n at to = Has (instrs x) at (instr.Call number n) to
-  CallAt (BuiltinFunction b) x n at to = Has (instrs x) at (instr.Call (number_of b) n) to
+  CallAt (SourceFunction from number) x n at to = Has (instrs x) at (instr.Call number n) to
+  CallAt (BuiltinFunction from b) x n at to = Has (instrs x) at (instr.Call (number_of b) n) to
   CallAt (Through v) x n at to = (sig : ℕ) × IsSigOf x.source x.code (target (value_type v)) sig × Has (instrs x) at (instr.CallPointer sig n) to
 
 -- ---- statements; `stop` is where a `break` leads, and `again` where a `continue` does
@@ -158,15 +158,15 @@ abbrev mutual
   StatementAt (If v s) x at to stop again = (m : ℕ) × ValueAt v x at m × Jumps (instrs x) m instr.SkipIfZero to × StatementAt s x (m + 1) to stop again
   StatementAt (IfElse v s z) x at to stop again =
       (m n : ℕ) × ValueAt v x at m × Jumps (instrs x) m instr.SkipIfZero (n + 1) × StatementAt s x (m + 1) n stop again × Jumps (instrs x) n instr.GoOn to × StatementAt z x (n + 1) to stop again
-  StatementAt (While v s) x at to stop again =
+  StatementAt (While from v s) x at to stop again =
       (m n : ℕ) × (slice_get (instrs x) at ≡ Some instr.Turn) × ValueAt v x (at + 1) m × Jumps (instrs x) m instr.SkipIfZero to × StatementAt s x (m + 1) n to n × GoesBack (instrs x) n (at + 1) × (n + 1 ≡ to)
-  StatementAt (Do s v) x at to stop again =
+  StatementAt (Do from s v) x at to stop again =
       (m n : ℕ) × (slice_get (instrs x) at ≡ Some instr.Turn) × StatementAt s x (at + 1) m to m × ValueAt v x m n × Jumps (instrs x) n instr.SkipIfZero to × GoesBack (instrs x) (n + 1) (at + 1) × (n + 2 ≡ to)
-  StatementAt (For first v last s) x at to stop again =
+  StatementAt (For from first v last s) x at to stop again =
       (h m n q : ℕ) × StatementsAt first x at h stop again × (slice_get (instrs x) h ≡ Some instr.Turn) × TestAt v x (h + 1) m to × StatementAt s x m n to n × LastAt last x n q × GoesBack (instrs x) q (h + 1) × (q + 1 ≡ to)
   StatementAt Break x at to stop again = Jumps (instrs x) at instr.GoOn stop × (at + 1 ≡ to)
   StatementAt Continue x at to stop again = Jumps (instrs x) at instr.GoOn again × (at + 1 ≡ to)
-  StatementAt (Return v) x at to stop again = ReturnAt v x at to
+  StatementAt (Return from v) x at to stop again = ReturnAt v x at to
 
   pub StatementsAt : Statements → Against → ℕ → ℕ → (stop again : ℕ) → Type 0
   StatementsAt NoStatements x at to stop again = at ≡ to

@@ -43,9 +43,9 @@ module _ (t : CType) (h : Here) (give other : ℕ → Marks) (same : SameGiven t
     statement_same (Initialise place u v) x c = refl
     statement_same (If v s) x c = λ i. value v h (λ n. at_zero n x.next (statement_same s x c i))
     statement_same (IfElse v s z) x c = λ i. value v h (λ n. at_zero n (statement_same z x c.1 i) (statement_same s x c.0 i))
-    statement_same (While v s) x c = λ i. looping h.side (λ again. value v h (λ n. at_zero n x.next (statement_same s (within x again) c i)))
-    statement_same (Do s v) x c = λ i. looping h.side (λ again. statement_same s (within x (value v h (λ n. at_zero n x.next again))) c i)
-    statement_same (For first v last s) x c =
+    statement_same (While from v s) x c = λ i. looping h.side (λ again. value v h (λ n. at_zero n x.next (statement_same s (within x again) c i)))
+    statement_same (Do from s v) x c = λ i. looping h.side (λ again. statement_same s (within x (value v h (λ n. at_zero n x.next again))) c i)
+    statement_same (For from first v last s) x c =
         let round : Exits → Marks → Marks = λ z again. let body = statement s h (within z (maybe last h (λ n. again) again)) in maybe v h (λ n. at_zero n z.next body) body in
         let rounds : (again : Marks) → round (with_give give x) again ≡ round (with_give other x) again =
         λ again. ap (λ body. maybe v h (λ n. at_zero n x.next body) body) (statement_same s (within x (maybe last h (λ n. again) again)) c.1) in
@@ -53,7 +53,7 @@ module _ (t : CType) (h : Here) (give other : ℕ → Marks) (same : SameGiven t
         statements_same first (record x { next = looping h.side (round (with_give give x)) }) c.0 ∙ ap (λ p. statements first h (record x { next = p; give = other })) looped
     statement_same Break x c = refl
     statement_same Continue x c = refl
-    statement_same (Return v) x c = maybe_same v c
+    statement_same (Return from v) x c = maybe_same v c
 
     statements_same : (ss : Statements) (x : Exits) → AllConvert t ss → statements ss h (with_give give x) ≡ statements ss h (with_give other x)
     statements_same NoStatements x c = refl

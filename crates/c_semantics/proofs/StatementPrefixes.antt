@@ -60,14 +60,14 @@ mutual
   statement_cut R (IfElse v s z) k h m x y cs c =
       value_cut R v k h m (λ n. at_zero n (statement z h x) (statement s h x)) (λ n. at_zero n (statement z (making_calls h m) y) (statement s (making_calls h m) y)) cs
       (λ n. cut_at_zero R k n (statement z h x) (statement z (making_calls h m) y) (statement s h x) (statement s (making_calls h m) y) (statement_cut R z k h m x y cs c) (statement_cut R s k h m x y cs c))
-  statement_cut R (While v s) k h m x y cs c =
+  statement_cut R (While from v s) k h m x y cs c =
       looping_cut R k h.side (λ p. value v h (λ n. at_zero n x.next (statement s h (within x p)))) (λ q. value v (making_calls h m) (λ n. at_zero n y.next (statement s (making_calls h m) (within y q)))) cs.plain
       (λ j le p q d.
       let ds = fewer R j k h m le cs in
       let e = fewer_exits R j k x y le c in
       value_cut R v j h m (λ n. at_zero n x.next (statement s h (within x p))) (λ n. at_zero n y.next (statement s (making_calls h m) (within y q))) ds
       (λ n. cut_at_zero R j n x.next y.next (statement s h (within x p)) (statement s (making_calls h m) (within y q)) e.next (statement_cut R s j h m (within x p) (within y q) ds (within_cut R j x y p q e d))))
-  statement_cut R (Do s v) k h m x y cs c =
+  statement_cut R (Do from s v) k h m x y cs c =
       looping_cut R k h.side (λ p. statement s h (within x (value v h (λ n. at_zero n x.next p)))) (λ q. statement s (making_calls h m) (within y (value v (making_calls h m) (λ n. at_zero n y.next q)))) cs.plain
       (λ j le p q d.
       let ds = fewer R j k h m le cs in
@@ -75,7 +75,7 @@ mutual
       statement_cut R s j h m (within x (value v h (λ n. at_zero n x.next p))) (within y (value v (making_calls h m) (λ n. at_zero n y.next q))) ds
       (within_cut R j x y (value v h (λ n. at_zero n x.next p)) (value v (making_calls h m) (λ n. at_zero n y.next q)) e
       (value_cut R v j h m (λ n. at_zero n x.next p) (λ n. at_zero n y.next q) ds (λ n. cut_at_zero R j n x.next y.next p q e.next d))))
-  statement_cut R (For first v last s) k h m x y cs c =
+  statement_cut R (For from first v last s) k h m x y cs c =
       let body : Exits → Here → Marks → Marks = λ z g p. statement s g (within z (maybe last g (λ n. p) p)) in
       let round : Exits → Here → Marks → Marks = λ z g p. maybe v g (λ n. at_zero n z.next (body z g p)) (body z g p) in
       let body_cut : (j : Bounds) → AtMost j k → (p q : Marks) → R.rel j p q → R.rel j (body x h p) (body y (making_calls h m) q) =
@@ -94,7 +94,7 @@ mutual
       (record { next = looped; stop = c.stop; again = c.again; give = c.give })
   statement_cut R Break k h m x y cs c = c.stop
   statement_cut R Continue k h m x y cs c = c.again
-  statement_cut R (Return v) k h m x y cs c = maybe_cut R v k h m x.give y.give (x.give 0) (y.give 0) cs c.give (c.give 0)
+  statement_cut R (Return from v) k h m x y cs c = maybe_cut R v k h m x.give y.give (x.give 0) (y.give 0) cs c.give (c.give 0)
 
   pub statements_cut : (R : Relation) → (ss : Statements) (k : Bounds) (h : Here) (m : Makes) (x y : Exits) → CallsCut R k h m → ExitsCut R k x y → R.rel k (statements ss h x) (statements ss (making_calls h m) y)
   statements_cut R NoStatements k h m x y cs c = c.next

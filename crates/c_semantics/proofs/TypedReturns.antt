@@ -7,7 +7,8 @@ use Rattle.c_types_rules.specs.Environment.{Environment, inner}
 use Rattle.c_types_rules.specs.Operators.{assigned, fits}
 use Rattle.c_types_rules.specs.TypedTree.{Value, MaybeValue, Statements, Convert, joined, value_type}
 use Rattle.c_types_rules.specs.TypedTree as typed
-use Rattle.c_types_rules.specs.Statements.{Declared, Surroundings, condition_in, entries, entry, first, first_value, local, locals_of, looping, maybe_condition, maybe_in, outside, returned, start_of, statement, value_in}
+use Rattle.c_types_rules.specs.Expressions.{start_of}
+use Rattle.c_types_rules.specs.Statements.{Declared, Surroundings, condition_in, entries, entry, first, first_value, local, locals_of, looping, maybe_condition, maybe_in, outside, returned, start_of_stmt, statement, value_in}
 use Rattle.c_types_rules.specs.Sources.{block_of, body_of, result_of}
 use Rattle.c_semantics.specs.Returned.{IsConverted, Converts, AllConvert}
 use Rattle.c_semantics.specs.Values.{is_read}
@@ -57,20 +58,20 @@ scalar_fits (FunctionOf t ts) u v e = absurd cc
 assigned_converts : (from : ℕ) (t : CType) (v : Value) → Holds (IsConverted t) (assigned from t v)
 assigned_converts from t v = holds_kept (IsConverted t) from 6 (fits t (value_type v) v) (Fine (Convert t v)) (λ e. (refl, scalar_fits t (value_type v) v e))
 
-returned_value : (env : Environment) (t : CType) (x : Expr) → Holds (Converts t) (value_in env x >>= (λ v. assigned (start_of x) t v >>= (λ w. Fine (typed.Return (typed.OneValue w)))))
-returned_value env t x =
-    holds_on (Converts t) (value_in env x) (λ v. assigned (start_of x) t v >>= (λ w. Fine (typed.Return (typed.OneValue w))))
-    (λ v. holds_then (IsConverted t) (Converts t) (assigned (start_of x) t v) (λ w. Fine (typed.Return (typed.OneValue w))) (assigned_converts (start_of x) t v) (λ w h. h))
+returned_value : (env : Environment) (from : ℕ) (t : CType) (x : Expr) → Holds (Converts t) (value_in env x >>= (λ v. assigned (start_of x) t v >>= (λ w. Fine (typed.Return from (typed.OneValue w)))))
+returned_value env from t x =
+    holds_on (Converts t) (value_in env x) (λ v. assigned (start_of x) t v >>= (λ w. Fine (typed.Return from (typed.OneValue w))))
+    (λ v. holds_then (IsConverted t) (Converts t) (assigned (start_of x) t v) (λ w. Fine (typed.Return from (typed.OneValue w))) (assigned_converts (start_of x) t v) (λ w h. h))
 
 returned_converts : (env : Environment) (from : ℕ) (t : CType) (x : MaybeExpr) → Holds (Converts t) (returned env from t x)
-returned_converts env from t NoExpr = holds_after (Converts t) (keep from 12 _) (Fine (typed.Return typed.NoValue)) tt
+returned_converts env from t NoExpr = holds_after (Converts t) (keep from 12 _) (Fine (typed.Return from typed.NoValue)) tt
 returned_converts env from Void (OneExpr x) = tt
-returned_converts env from (Integer k) (OneExpr x) = returned_value env (Integer k) x
-returned_converts env from (PointerTo t) (OneExpr x) = returned_value env (PointerTo t) x
-returned_converts env from (ArrayOf n t) (OneExpr x) = returned_value env (ArrayOf n t) x
-returned_converts env from (StructOf n) (OneExpr x) = returned_value env (StructOf n) x
-returned_converts env from (UndefinedStruct tag) (OneExpr x) = returned_value env (UndefinedStruct tag) x
-returned_converts env from (FunctionOf t ts) (OneExpr x) = returned_value env (FunctionOf t ts) x
+returned_converts env from (Integer k) (OneExpr x) = returned_value env from (Integer k) x
+returned_converts env from (PointerTo t) (OneExpr x) = returned_value env from (PointerTo t) x
+returned_converts env from (ArrayOf n t) (OneExpr x) = returned_value env from (ArrayOf n t) x
+returned_converts env from (StructOf n) (OneExpr x) = returned_value env from (StructOf n) x
+returned_converts env from (UndefinedStruct tag) (OneExpr x) = returned_value env from (UndefinedStruct tag) x
+returned_converts env from (FunctionOf t ts) (OneExpr x) = returned_value env from (FunctionOf t ts) x
 
 -- ---- statements
 
@@ -135,17 +136,17 @@ mutual
       (λ c. holds_then (Made p.result) (Made p.result) (statement s p d) (λ a. statement z p (outside d.env a.0) >>= (λ b. Fine (b.0, typed.IfElse c a.1 b.1))) (statement_converts s p d)
       (λ a h. holds_then (Made p.result) (Made p.result) (statement z p (outside d.env a.0)) (λ b. Fine (b.0, typed.IfElse c a.1 b.1)) (statement_converts z p (outside d.env a.0)) (λ b k. (h, k))))
   statement_converts (While from x s) p d =
-      holds_on (Made p.result) (condition_in d.env x) (λ c. statement s (looping p) d >>= (λ a. Fine (a.0, typed.While c a.1)))
-      (λ c. holds_then (Made p.result) (Made p.result) (statement s (looping p) d) (λ a. Fine (a.0, typed.While c a.1)) (statement_converts s (looping p) d) (λ a h. h))
+      holds_on (Made p.result) (condition_in d.env x) (λ c. statement s (looping p) d >>= (λ a. Fine (a.0, typed.While from c a.1)))
+      (λ c. holds_then (Made p.result) (Made p.result) (statement s (looping p) d) (λ a. Fine (a.0, typed.While from c a.1)) (statement_converts s (looping p) d) (λ a h. h))
   statement_converts (Do from s x) p d =
-      holds_then (Made p.result) (Made p.result) (statement s (looping p) d) (λ a. condition_in d.env x >>= (λ c. Fine (a.0, typed.Do a.1 c))) (statement_converts s (looping p) d)
-      (λ a h. holds_on (Made p.result) (condition_in d.env x) (λ c. Fine (a.0, typed.Do a.1 c)) (λ c. h))
+      holds_then (Made p.result) (Made p.result) (statement s (looping p) d) (λ a. condition_in d.env x >>= (λ c. Fine (a.0, typed.Do from a.1 c))) (statement_converts s (looping p) d)
+      (λ a h. holds_on (Made p.result) (condition_in d.env x) (λ c. Fine (a.0, typed.Do from a.1 c)) (λ c. h))
   statement_converts (For from f x y s) p d =
       holds_then (Declares p.result) (Made p.result) (first f p (inside d))
-      (λ a. maybe_condition a.0.env x >>= (λ c. maybe_in a.0.env y >>= (λ z. statement s (looping p) a.0 >>= (λ b. Fine (b.0, typed.For a.1 c z b.1))))) (first_part_converts f p (inside d))
-      (λ a h. holds_on (Made p.result) (maybe_condition a.0.env x) (λ c. maybe_in a.0.env y >>= (λ z. statement s (looping p) a.0 >>= (λ b. Fine (b.0, typed.For a.1 c z b.1))))
-      (λ c. holds_on (Made p.result) (maybe_in a.0.env y) (λ z. statement s (looping p) a.0 >>= (λ b. Fine (b.0, typed.For a.1 c z b.1)))
-      (λ z. holds_then (Made p.result) (Made p.result) (statement s (looping p) a.0) (λ b. Fine (b.0, typed.For a.1 c z b.1)) (statement_converts s (looping p) a.0) (λ b k. (h, k)))))
+      (λ a. maybe_condition a.0.env x >>= (λ c. maybe_in a.0.env y >>= (λ z. statement s (looping p) a.0 >>= (λ b. Fine (b.0, typed.For from a.1 c z b.1))))) (first_part_converts f p (inside d))
+      (λ a h. holds_on (Made p.result) (maybe_condition a.0.env x) (λ c. maybe_in a.0.env y >>= (λ z. statement s (looping p) a.0 >>= (λ b. Fine (b.0, typed.For from a.1 c z b.1))))
+      (λ c. holds_on (Made p.result) (maybe_in a.0.env y) (λ z. statement s (looping p) a.0 >>= (λ b. Fine (b.0, typed.For from a.1 c z b.1)))
+      (λ z. holds_then (Made p.result) (Made p.result) (statement s (looping p) a.0) (λ b. Fine (b.0, typed.For from a.1 c z b.1)) (statement_converts s (looping p) a.0) (λ b k. (h, k)))))
   statement_converts (Break from) p d = holds_after (Made p.result) (keep from 11 p.in_loop) (Fine (d.locals, typed.Break)) tt
   statement_converts (Continue from) p d = holds_after (Made p.result) (keep from 11 p.in_loop) (Fine (d.locals, typed.Continue)) tt
   statement_converts (Return from x) p d = holds_then (Converts p.result) (Made p.result) (returned d.env from p.result x) (λ s. Fine (d.locals, s)) (returned_converts d.env from p.result x) (λ s h. h)
@@ -179,5 +180,5 @@ Gives t b = Converts (result_of t) b.statements
 pub body_gives : (env : Environment) (t : CType) (ps : Parts) (s : Stmt) → Holds (Gives t) (body_of env t ps s)
 body_gives env t ps s = search (holds_on, then_block)
   where
-    then_block : (d : Declared) → Holds (Gives t) (block_of s (record { result = result_of t; in_loop = false }) d >>= (λ a. Fine (record { locals = a.0; statements = a.1 })))
-    then_block d = holds_then (Made (result_of t)) (Gives t) (block_of s (record { result = result_of t; in_loop = false }) d) (λ a. Fine (record { locals = a.0; statements = a.1 })) (block_converts s (record { result = result_of t; in_loop = false }) d) (λ a h. h)
+    then_block : (d : Declared) → Holds (Gives t) (block_of s (record { result = result_of t; in_loop = false }) d >>= (λ a. Fine (record { from = start_of_stmt s; locals = a.0; statements = a.1 })))
+    then_block d = holds_then (Made (result_of t)) (Gives t) (block_of s (record { result = result_of t; in_loop = false }) d) (λ a. Fine (record { from = start_of_stmt s; locals = a.0; statements = a.1 })) (block_converts s (record { result = result_of t; in_loop = false }) d) (λ a h. h)

@@ -72,7 +72,7 @@ ListCuts R k go on = (vs : List ℕ) → R.rel k (go vs) (on vs)
 
 mutual
   pub address_cut : (R : Relation) → (o : Object) (k : Bounds) (h : Here) (m : Makes) (go on : ℕ → Marks) → CallsCut R k h m → Cuts R k go on → R.rel k (address o h go) (address o (making_calls h m) on)
-  address_cut R (GlobalObject place t) k h m go on cs c = c (global_address h.source place)
+  address_cut R (GlobalObject from place t) k h m go on cs c = c (global_address h.source place)
   address_cut R (LocalObject place t) k h m go on cs c = c (local_address h place)
   address_cut R (TextObject from n) k h m go on cs c = c (text_address h.source from)
   address_cut R (Pointed v t) k h m go on cs c = value_cut R v k h m go on cs c
@@ -84,7 +84,7 @@ mutual
 
   pub value_cut : (R : Relation) → (v : Value) (k : Bounds) (h : Here) (m : Makes) (go on : ℕ → Marks) → CallsCut R k h m → Cuts R k go on → R.rel k (value v h go) (value v (making_calls h m) on)
   value_cut R (Constant kind n) k h m go on cs c = c (written n)
-  value_cut R (FunctionAddress number t) k h m go on cs c = c (function_address number)
+  value_cut R (FunctionAddress from number t) k h m go on cs c = c (function_address number)
   value_cut R (ReadOf o) k h m go on cs c = address_cut R o k h m (load h (origin o) (object_type o) go) (load (making_calls h m) (origin o) (object_type o) on) cs (load_cut R k h m (origin o) (object_type o) go on cs.plain c)
   value_cut R (AddressOf o t) k h m go on cs c = address_cut R o k h m go on cs c
   value_cut R (Convert t v) k h m go on cs c = value_cut R v k h m (λ x. go (converted_to t x)) (λ x. on (converted_to t x)) cs (λ x. c (converted_to t x))
@@ -142,7 +142,7 @@ mutual
 
   pub called_cut : (R : Relation) → (f : Callee) (k : Bounds) (h : Here) (m : Makes) (go on : (List ℕ → (ℕ → Marks) → Marks) → Marks) → CallsCut R k h m
       → ((a b : List ℕ → (ℕ → Marks) → Marks) → ((xs : List ℕ) (p q : ℕ → Marks) → Cuts R k p q → R.rel k (a xs p) (b xs q)) → R.rel k (go a) (on b)) → R.rel k (called f h go) (called f (making_calls h m) on)
-  called_cut R (SourceFunction number) k h m go on cs c = c (h.call number) (m.call number) (λ xs p q d. cs.named k (itself k) number xs p q d)
-  called_cut R (BuiltinFunction b) k h m go on cs c = c (h.call (number_of b)) (m.call (number_of b)) (λ xs p q d. cs.named k (itself k) (number_of b) xs p q d)
+  called_cut R (SourceFunction from number) k h m go on cs c = c (h.call number) (m.call number) (λ xs p q d. cs.named k (itself k) number xs p q d)
+  called_cut R (BuiltinFunction from b) k h m go on cs c = c (h.call (number_of b)) (m.call (number_of b)) (λ xs p q d. cs.named k (itself k) (number_of b) xs p q d)
   called_cut R (Through v) k h m go on cs c =
       value_cut R v k h m (λ a. go (h.call_at (target (value_type v)) a)) (λ a. on (m.call_at (target (value_type v)) a)) cs (λ a. c (h.call_at (target (value_type v)) a) (m.call_at (target (value_type v)) a) (λ xs p q d. cs.pointed k (itself k) (target (value_type v)) a xs p q d))

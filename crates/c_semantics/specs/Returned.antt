@@ -29,12 +29,12 @@ abbrev mutual
   Converts t (Initialise place u v) = Unit {0}
   Converts t (If v s) = Converts t s
   Converts t (IfElse v s z) = Converts t s × Converts t z
-  Converts t (While v s) = Converts t s
-  Converts t (Do s v) = Converts t s
-  Converts t (For first v last s) = AllConvert t first × Converts t s
+  Converts t (While from v s) = Converts t s
+  Converts t (Do from s v) = Converts t s
+  Converts t (For from first v last s) = AllConvert t first × Converts t s
   Converts t Break = Unit {0}
   Converts t Continue = Unit {0}
-  Converts t (Return v) = IsReturned t v
+  Converts t (Return from v) = IsReturned t v
 
   pub AllConvert : CType → Statements → Type 0
   AllConvert t NoStatements = Unit {0}

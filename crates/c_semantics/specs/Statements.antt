@@ -38,9 +38,9 @@ abbrev mutual
   statement (Initialise place t v) h x = value v h (λ n. store h None t (local_address h place) n x.next)
   statement (If v s) h x = value v h (λ n. at_zero n x.next (statement s h x))
   statement (IfElse v s z) h x = value v h (λ n. at_zero n (statement z h x) (statement s h x))
-  statement (While v s) h x = looping h.side (λ again. value v h (λ n. at_zero n x.next (statement s h (within x again))))
-  statement (Do s v) h x = looping h.side (λ again. statement s h (within x (value v h (λ n. at_zero n x.next again))))
-  statement (For first v last s) h x =
+  statement (While from v s) h x = looping h.side (λ again. value v h (λ n. at_zero n x.next (statement s h (within x again))))
+  statement (Do from s v) h x = looping h.side (λ again. statement s h (within x (value v h (λ n. at_zero n x.next again))))
+  statement (For from first v last s) h x =
       statements first h (record x {
         next = looping h.side (λ again.
             let body = statement s h (within x (maybe last h (λ n. again) again)) in
@@ -48,7 +48,7 @@ abbrev mutual
       })
   statement Break h x = x.stop
   statement Continue h x = x.again
-  statement (Return v) h x = maybe v h x.give (x.give 0)
+  statement (Return from v) h x = maybe v h x.give (x.give 0)
 
   pub statements : Statements → Here → Exits → Marks
   statements NoStatements h x = x.next

@@ -99,7 +99,7 @@ decayed t u = false
 -- the global that a path of subscripts, in either order, and members begins with
 abbrev mutual
   pub origin : Object → Option ℕ
-  origin (GlobalObject place t) = Some place
+  origin (GlobalObject from place t) = Some place
   origin (Element PointerPlus p i t) = array_origin p
   origin (Element PlusPointer p i t) = array_origin p
   origin (MemberOf o number t) = origin o
@@ -127,7 +127,7 @@ given Old old new = old
 abbrev mutual
   -- the marks of an object's address
   pub address : Object → Here → (ℕ → Marks) → Marks
-  address (GlobalObject place t) h go = go (global_address h.source place)
+  address (GlobalObject from place t) h go = go (global_address h.source place)
   address (LocalObject place t) h go = go (local_address h place)
   address (TextObject from n) h go = go (text_address h.source from)
   address (Pointed v t) h go = value v h go
@@ -136,7 +136,7 @@ abbrev mutual
 
   pub value : Value → Here → (ℕ → Marks) → Marks
   value (Constant k n) h go = go (written n)
-  value (FunctionAddress number t) h go = go (function_address number)
+  value (FunctionAddress from number t) h go = go (function_address number)
   value (ReadOf o) h go = address o h (load h (origin o) (object_type o) go)
   value (AddressOf o t) h go = address o h go
   value (Convert t v) h go = value v h (λ x. go (converted_to t x))
@@ -166,6 +166,6 @@ abbrev mutual
 
   -- what is called, before its arguments: a pointer has marks of its own
   pub called : Callee → Here → ((List ℕ → (ℕ → Marks) → Marks) → Marks) → Marks
-  called (SourceFunction number) h go = go (h.call number)
-  called (BuiltinFunction b) h go = go (h.call (number_of b))
+  called (SourceFunction from number) h go = go (h.call number)
+  called (BuiltinFunction from b) h go = go (h.call (number_of b))
   called (Through v) h go = value v h (λ a. go (h.call_at (target (value_type v)) a))

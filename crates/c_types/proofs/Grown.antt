@@ -22,7 +22,7 @@ module _ (t u : Table) (k : Keeps t u) where
       ap (λ c. c ∷ types_in u.types ids) first ∙ ap (λ cs. type_at t.types id ∷ cs) rest
 
   pub body_kept : (b : Body) → IsBody t (Some b) → body_in u b ≡ body_in t b
-  body_kept b h = ap (λ cs. record { locals = cs; statements = statement_in u b.statements }) (types_kept b.locals h.0) ∙ ap (λ s. record { locals = types_in t.types b.locals; statements = s }) (statement_kept t u k b.statements h.1)
+  body_kept b h = ap (λ cs. record { from = b.from; locals = cs; statements = statement_in u b.statements }) (types_kept b.locals h.0) ∙ ap (λ s. record { from = b.from; locals = types_in t.types b.locals; statements = s }) (statement_kept t u k b.statements h.1)
 
   pub is_body_kept : (b : Option Body) → IsBody t b → IsBody u b
   is_body_kept None h = tt

@@ -1,6 +1,7 @@
 -- Sizes that are too great for 64 bits count as the greatest of them wherever types have a size.
 use Rattle.std.proofs.Common.{◌≡◌, ◌&&◌, ℕ, Bool, List, map, Option, Some, None, is_some, refl, sym, ap, ◌∙◌, subst}
 use Rattle.std.specs.Option.{option_map}
+use Rattle.std.specs.Prelude.{if◌then◌else◌}
 use Rattle.r2_num.specs.declared.kinds.IntKind.TheVariants.{I64}
 use Rattle.r2_num.specs.declared.operations.Op.{Op}
 use Rattle.r2_num.specs.declared.operations.Op.TheVariants.{Add, Sub}
@@ -13,7 +14,7 @@ use Rattle.c_types_table.proofs.Extents.{extents_capped}
 use Rattle.c_types_operators.specs.Answers.{IsSizeOf}
 use Rattle.c_types_rules.specs.Checked.{Checked, Fine, Large, Broken, keep, large, ◌>>=◌, ◌>>◌}
 use Rattle.c_types_rules.specs.TypeTests.{is_complete, is_integer, same_type}
-use Rattle.c_types_rules.specs.Operators.{assignment, assignment_of, binary, compound_of, difference, difference_of, left_object, moved, operator_in, pointer_difference, pointer_sum, size_in, step, step_of, sum, sum_of, to_kind}
+use Rattle.c_types_rules.specs.Operators.{assignment, assignment_of, binary, compound_of, difference, difference_is_integer, difference_of, is_unfit, left_object, moved, operator_in, pointer_difference, pointer_sum, rule_of_right, size_in, step, step_of, sum, sum_is_pointer, sum_of, to_kind}
 use Rattle.c_types_rules.specs.Expressions.{a_value, complete, element, is_small, pointed, pointed_of, postfixed, prefixed, rule_of_incomplete, subscript, subscript_of}
 use Rattle.c_types_rules.specs.TypedTree.{Object, Value, Typed, Sum, Way, Given, Up, Down, Moved, Stepped, PointerSum, PointerDifference, AnObject, AFunction, Element, Pointed, Through, PointerPlus, PlusPointer, PointerMinus, New, Old, object_type, value_of, value_type}
 
@@ -110,9 +111,27 @@ compound_of_capped es from Add o (PointerTo t) b = moved_capped es from Up o t b
 compound_of_capped es from Sub o (PointerTo t) b = moved_capped es from Down o t b
 compound_of_capped es from _ o _ b = refl
 
+pointer_capped : (es : List Extent) (t u : CType) → sum_is_pointer (cap_all es) t u ≡ sum_is_pointer es t u
+pointer_capped es (Integer j) (PointerTo u) = complete_capped es u
+pointer_capped es _ _ = refl
+
+integer_capped : (es : List Extent) (t u : CType) → difference_is_integer (cap_all es) t u ≡ difference_is_integer es t u
+integer_capped es (PointerTo t) (PointerTo u) = ap (λ b. same_type t u && b) (complete_capped es t)
+integer_capped es _ _ = refl
+
+unfit_capped : (es : List Extent) (op : Op) (t u : CType) → is_unfit (cap_all es) op t u ≡ is_unfit es op t u
+unfit_capped es Add t u = pointer_capped es t u
+unfit_capped es Sub t u = integer_capped es t u
+unfit_capped es _ t u = refl
+
+right_capped : (es : List Extent) (op : Op) (t u : CType) → rule_of_right (cap_all es) op t u ≡ rule_of_right es op t u
+right_capped es op t u = ap (λ b. if b then 6 else 5) (unfit_capped es op t u)
+
 assignment_of_capped : (es : List Extent) (from : ℕ) (op : Option Op) (o : Object) (b : Value) → assignment_of (cap_all es) from op o b ≡ assignment_of es from op o b
 assignment_of_capped es from None o b = refl
-assignment_of_capped es from (Some op) o b = compound_of_capped es from op o (object_type o) b
+assignment_of_capped es from (Some op) o b =
+    ap (λ n. keep from n (is_integer (value_type b)) >> compound_of (cap_all es) from op o (object_type o) b) (right_capped es op (object_type o) (value_type b))
+    ∙ ap (λ c. keep from (rule_of_right es op (object_type o) (value_type b)) (is_integer (value_type b)) >> c) (compound_of_capped es from op o (object_type o) b)
 
 assigned_left : (es : List Extent) (from : ℕ) (op : Option Op) (b : Value) (c : Checked Object) → (c >>= (λ o. assignment_of (cap_all es) from op o b)) ≡ (c >>= (λ o. assignment_of es from op o b))
 assigned_left es from op b (Fine o) = assignment_of_capped es from op o b

@@ -8,11 +8,11 @@ use Rattle.c_types_rules.specs.TypedTree.{Typed, AnObject, AFunction, GlobalObje
 use Rattle.c_types_operators.specs.declared.error.TypeError.{TypeError}
 use Rattle.c_types_operators.specs.declared.error.TypeError.TheVariants.{Rule}
 
--- what a name is by what it means (C11 6.5.1)
-abbrev pub typed_by : Meaning → Typed
-typed_by (FunctionNamed number t) = AFunction (SourceFunction number) t
-typed_by (GlobalNamed place t) = AnObject (GlobalObject place t)
-typed_by (LocalNamed place t) = AnObject (LocalObject place t)
+-- what a name at this offset is by what it means (C11 6.5.1)
+abbrev pub typed_by : (from : ℕ) → Meaning → Typed
+typed_by from (FunctionNamed number t) = AFunction (SourceFunction from number) t
+typed_by from (GlobalNamed place t) = AnObject (GlobalObject from place t)
+typed_by from (LocalNamed place t) = AnObject (LocalObject place t)
 
 -- the rule that an unknown name breaks: that of a builtin isn't called here, any other isn't declared
 abbrev pub unknown_name_error : (from : ℕ) → Option Builtin → TypeError

@@ -26,9 +26,9 @@ impl Environment {
         c_types_operators::called(&mut self.table, from, node)
     }
 
-    /// What a call of a builtin calls.
+    /// What a call of a builtin calls, whose name stands at `from`.
     pub fn builtin_called(&mut self, from: u32, builtin: Builtin) -> Result<CallTarget, TypeError>
-        ensures agrees { Agrees (IsCalled self.new.table) (called_by_rules from (AFunction (BuiltinFunction builtin) (prototype_of builtin))) result }
+        ensures agrees { Agrees (IsCalled self.new.table) (called_by_rules from (AFunction (BuiltinFunction from builtin) (prototype_of builtin))) result }
         ensures kept { KeepsAll self.old self.new }
     {
         c_types_operators::builtin_called(self.alloc, &mut self.table, from, builtin)

@@ -42,15 +42,15 @@ fn unknown(from: u32, name: &[u8]) -> TypeError
 }
 
 impl Environment {
-    // A node for what a name means.
-    fn add_meant(&mut self, meaning: Meaning) -> Result<NodeId, AllocError>
+    // A node for what a name at this offset means.
+    fn add_meant(&mut self, from: u32, meaning: Meaning) -> Result<NodeId, AllocError>
         requires ty { IsMeaningBelow (length self.old.table.types) meaning }
-        ensures added { IfOk result (StandsAt self.new.table (typed_by (meaning_by (types_of self.old.table.types) meaning))) }
+        ensures added { IfOk result (StandsAt self.new.table (typed_by from (meaning_by (types_of self.old.table.types) meaning))) }
         ensures kept { KeepsAll self.old self.new }
     {
         self.add(match meaning {
-            Meaning::Function(number, ty) => Node::SourceFunction(number, ty),
-            Meaning::Global(place, ty) => Node::GlobalObject(place, ty),
+            Meaning::Function(number, ty) => Node::SourceFunction { from, number, ty },
+            Meaning::Global(place, ty) => Node::GlobalObject { from, place, ty },
             Meaning::Local(place, ty) => Node::LocalObject(place, ty),
         })
     }
@@ -65,7 +65,7 @@ impl Environment {
         let Some(meaning) = self.find(name) else {
             return Err(unknown(from, name));
         };
-        Ok(self.add_meant(meaning)?)
+        Ok(self.add_meant(from, meaning)?)
     }
 
     /// The builtin that a name means which stands as what is called; `None` where the name is declared, or is no builtin's.

@@ -10,7 +10,7 @@ use Rattle.c_syntax.specs.Syntax.{Expr, Exprs, Decl, Decls, Parts, Rest, Stmt, E
 use Rattle.c_types_model.specs.Types.{CType}
 use Rattle.c_types_model.specs.declared.extent.Extent.{Extent}
 use Rattle.c_types_rules.specs.Checked.{Checked, Fine, Large, Broken}
-use Rattle.c_types_rules.specs.TypedTree.{Typed, typed_type, value_of}
+use Rattle.c_types_rules.specs.TypedTree.{Typed, AValue, BuiltinFunction, CallOf, typed_type, value_of}
 use Rattle.c_types_rules.specs.Constants.{integer_constant}
 use Rattle.c_types_rules.specs.Environment.{Environment}
 use Rattle.c_types_rules.specs.Expressions.{expression}
@@ -83,6 +83,14 @@ type_of x = type_found (expression x nowhere)
 -- its value, where it is an integer constant expression
 abbrev pub constant_of : Expr → Option ℤ
 constant_of x = constant_found (expression x nowhere)
+
+abbrev name_found : Checked Typed → Option ℕ
+name_found (Fine (AValue (CallOf (BuiltinFunction from b) vs t))) = Some from
+name_found _ = None
+
+-- where the name of the builtin stands that an expression calls
+abbrev pub called_at : Expr → Option ℕ
+called_at x = name_found (expression x nowhere)
 
 -- ---- sources
 

@@ -3,9 +3,9 @@
 ghost use Rattle.std.specs.Prelude.{◌≡◌, codes, pos, negsuc, [], ◌∷◌, true, Some, None};
 ghost use Rattle.r2_num.specs.declared.kinds.IntKind.TheVariants.{I8, I32, I64, U32, U64};
 ghost use Rattle.c_lexer.specs.declared.token.Sign.TheVariants as signs;
-ghost use Rattle.c_syntax.specs.Syntax.{NoExprs, MoreExprs, NoParts, Pointer, SizeofExpr};
+ghost use Rattle.c_syntax.specs.Syntax.{Call, Cast, Declare, MoreExprs, Name, NoAnnots, NoExprs, NoParts, NoRest, Pointer, SizeofExpr};
 ghost use Rattle.c_types_model.specs.Types.{Integer, PointerTo};
-ghost use Rattle.c_types_examples.specs.Small.{call, cast_to, char_base, choose, constant_of, int_base, is_typed, long_base, main_giving, minus, name, num, num_l, num_u, rule_of, two, type_of, unsigned_char_base};
+ghost use Rattle.c_types_examples.specs.Small.{call, called_at, cast_to, char_base, choose, constant_of, int_base, is_typed, long_base, main_giving, minus, name, num, num_l, num_u, rule_of, two, type_of, unsigned_char_base};
 
 /// Small kinds are promoted to int, and two operands get their common kind (C11 6.3.1.1, 6.3.1.8).
 pub fn operands_are_converted()
@@ -42,5 +42,7 @@ pub fn casts_and_calls_keep_their_rules()
     ensures builtin { rule_of (main_giving (name (codes "r2_lock")) ∷ []) ≡ Some (30, 19) }
     ensures called { is_typed (main_giving (call (codes "r2_lock") (MoreExprs (num 1) NoExprs)) ∷ []) ≡ true }
     ensures too_few { rule_of (main_giving (call (codes "r2_lock") NoExprs) ∷ []) ≡ Some (30, 9) }
+    ensures wrong_argument { rule_of (main_giving (Call 40 (Name 41 (codes "r2_join")) (MoreExprs (Cast 45 (Declare 46 NoAnnots char_base (Pointer 47 NoParts) None NoRest) (num_l 0)) NoExprs)) ∷ []) ≡ Some (45, 6) }
+    ensures name_in_brackets { called_at (Call 40 (Name 41 (codes "r2_unlock")) (MoreExprs (num 0) NoExprs)) ≡ Some 41 }
     ensures pointer_given { rule_of (main_giving (cast_to char_base (Pointer 31 NoParts) (num_l 0)) ∷ []) ≡ Some (30, 6) }
 {}

@@ -7,7 +7,7 @@ use Rattle.c_syntax.specs.Stands.{Stands, StandExprs}
 use Rattle.c_types_model.specs.Types.{CType, CTypes, NoTypes, MoreTypes}
 use Rattle.c_types_rules.specs.Checked.{Checked, Fine, Large, Broken, ◌>>=◌}
 use Rattle.c_types_rules.specs.Environment.{Environment}
-use Rattle.c_types_rules.specs.Expressions.{arguments, expression}
+use Rattle.c_types_rules.specs.Expressions.{arguments, expression, start_of}
 use Rattle.c_types_rules.specs.Operators.{assigned}
 use Rattle.c_types_rules.specs.TypedTree.{Value, Values, NoValues, MoreValues, value_of}
 use Rattle.c_types_nodes.specs.declared.ids.NodeId.{NodeId}
@@ -67,9 +67,9 @@ rest_is : (x : Expr) (xs : Exprs) (E : Environment) (from : ℕ) (us : CTypes) (
 rest_is x xs E from NoTypes K = refl
 rest_is x xs E from (MoreTypes t ts) K =
     in_turn (expression x E) _ K
-    ∙ (same_steps (expression x E) _ _ (λ a. in_turn (assigned from t (value_of a)) _ K
-    ∙ same_steps (assigned from t (value_of a)) _ _ (λ v. in_turn (arguments xs E from ts) (λ vs. Fine (MoreValues v vs)) K))
-    ∙ sym (in_turn (expression x E) (λ a. argument from t a) (λ v. arguments xs E from ts >>= (λ vs. K (MoreValues v vs)))))
+    ∙ (same_steps (expression x E) _ _ (λ a. in_turn (assigned (start_of x) t (value_of a)) _ K
+    ∙ same_steps (assigned (start_of x) t (value_of a)) _ _ (λ v. in_turn (arguments xs E from ts) (λ vs. Fine (MoreValues v vs)) K))
+    ∙ sym (in_turn (expression x E) (λ a. argument (start_of x) t a) (λ v. arguments xs E from ts >>= (λ vs. K (MoreValues v vs)))))
 
 -- a value that is found is there
 there_now : (t : Table) (id : NodeId) (c : Checked Value) (f g : Bool) → Found f g (IsAt t) c (Ok id) → IsAt t (value_at t id) id

@@ -1,5 +1,5 @@
 -- Calls: what is called, each argument, and the call of them.
-use Rattle.std.proofs.Common.{◌≡◌, ◌<◌, ℕ, Bool, List, [], ◌∷◌, length, Option, Some, None, Result, Ok, Err, refl, sym, ap, ◌∙◌}
+use Rattle.std.proofs.Common.{◌≡◌, ◌<◌, ℕ, Bool, List, [], ◌∷◌, length, Option, Some, None, Result, Ok, Err, refl, sym, ap, ◌∙◌, subst}
 use Rattle.std.specs.List.{All}
 use Rattle.std.proofs.lemmas.List.Elements.{All-nil, All-cons}
 use Rattle.c_syntax.specs.Syntax.{Call, Expr, Exprs}
@@ -9,7 +9,7 @@ use Rattle.c_types_model.specs.Types.{CType, CTypes, FunctionOf, NoTypes, MoreTy
 use Rattle.c_types_table.specs.Tables.{type_at}
 use Rattle.c_types_rules.specs.Checked.{Checked, Fine, ◌>>=◌}
 use Rattle.c_types_rules.specs.Environment.{Environment}
-use Rattle.c_types_rules.specs.Expressions.{arguments, builtin_in, called, expression}
+use Rattle.c_types_rules.specs.Expressions.{arguments, builtin_in, called, expression, start_of}
 use Rattle.c_types_rules.specs.TypedTree.{Callee, Values, AFunction, AValue, BuiltinFunction, CallOf, NoValues, MoreValues, typed_type}
 use Rattle.c_types_nodes.specs.declared.ids.NodeId.{NodeId}
 use Rattle.c_types_nodes.specs.declared.node.Node.TheVariants as nodes
@@ -31,16 +31,17 @@ use Rattle.c_types_expressions.proofs.Arms.{one_goes_on}
 -- ---- what is called
 
 abbrev chosen : Option Builtin → Expr → Environment → (from : ℕ) → Checked (Callee × CType × CTypes)
-chosen o x E from = elim o [ Some b ↦ called from (AFunction (BuiltinFunction b) (prototype_of b)) | None ↦ expression x E >>= called from ]
+chosen o x E from = elim o [ Some b ↦ called (start_of x) (AFunction (BuiltinFunction (start_of x) b) (prototype_of b)) | None ↦ expression x E >>= called from ]
 
 target_by : (o : Option Builtin) (x : Expr) (E : Environment) (from : ℕ) → o ≡ builtin_in E x → call_target x E from ≡ chosen o x E from
 target_by o x E from e = ap (λ p. chosen p x E from) (sym e)
 
-pub builtin_target : (b : Builtin) (x : Expr) (old new : State) (from : ℕ) (r : Result CallTarget TypeError) → Some b ≡ builtin_in old.env x → Agrees (IsCalled new.table) (called from (AFunction (BuiltinFunction b) (prototype_of b))) r →
+pub builtin_target : (b : Builtin) (x : Expr) (old new : State) (from at : ℕ) (r : Result CallTarget TypeError) → Some b ≡ builtin_in old.env x → at ≡ start_of x → Agrees (IsCalled new.table) (called at (AFunction (BuiltinFunction at b) (prototype_of b))) r →
     new.found_large ≡ old.found_large → Finds old new (IsCalled new.table) (call_target x old.env from) r
-builtin_target b x old new from r e h l =
+builtin_target b x old new from at r e s h l =
+    let P : ℕ → Type 0 = λ n. Agrees (IsCalled new.table) (called n (AFunction (BuiltinFunction n b) (prototype_of b))) r in
     passed old.found_large new.found_large (IsCalled new.table) _ _ r (target_by (Some b) x old.env from e)
-    (noted_nothing old.found_large new.found_large (IsCalled new.table) (called from (AFunction (BuiltinFunction b) (prototype_of b))) r l h)
+    (noted_nothing old.found_large new.found_large (IsCalled new.table) (called (start_of x) (AFunction (BuiltinFunction (start_of x) b) (prototype_of b))) r l (subst P s h))
 
 pub callee_stops : (x : Expr) (old new : State) (from : ℕ) (e : TypeError) → None ≡ builtin_in old.env x → Finds old new (StandsAt new.table) (expression x old.env) (Err e) → Finds old new (IsCalled new.table) (call_target x old.env from) (Err e)
 callee_stops x old new from e none h =
@@ -55,7 +56,7 @@ callee_target x old mid new from callee r none p e h l =
 
 -- ---- an argument
 
-argument_is : (x : Expr) (E : Environment) (from : ℕ) (us : CTypes) (t : CType) (ts : CTypes) → us ≡ MoreTypes t ts → argument_of x E from us ≡ (expression x E >>= argument from t)
+argument_is : (x : Expr) (E : Environment) (from : ℕ) (us : CTypes) (t : CType) (ts : CTypes) → us ≡ MoreTypes t ts → argument_of x E from us ≡ (expression x E >>= argument (start_of x) t)
 argument_is x E from us t ts e = ap (argument_of x E from) e
 
 pub too_many : (x : Expr) (old : State) (from : ℕ) (us : CTypes) (t : Table) → us ≡ NoTypes → Finds old old (IsAt t) (argument_of x old.env from us) (Err (Rule from 9))
@@ -65,13 +66,14 @@ pub argument_stops : (x : Expr) (old new : State) (from : ℕ) (us : CTypes) (t 
     Finds old new (IsAt new.table) (argument_of x old.env from us) (Err e)
 argument_stops x old new from us t ts e more h =
     passed old.found_large new.found_large (IsAt new.table) _ _ (Err e) (argument_is x old.env from us t ts more)
-    (stopped_in old.found_large new.found_large new.found_large (StandsAt new.table) (IsAt new.table) (expression x old.env) (argument from t) e h)
+    (stopped_in old.found_large new.found_large new.found_large (StandsAt new.table) (IsAt new.table) (expression x old.env) (argument (start_of x) t) e h)
 
-pub argument_made : (x : Expr) (old mid new : State) (from : ℕ) (us : CTypes) (t u : CType) (ts : CTypes) (operand : NodeId) (r : Result NodeId TypeError) → us ≡ MoreTypes t ts → u ≡ t → Finds old mid (StandsAt mid.table) (expression x old.env) (Ok operand) → mid.env ≡ old.env →
-    Agrees (IsAt new.table) (argument from u (node_at mid.table operand)) r → new.found_large ≡ mid.found_large → Finds old new (IsAt new.table) (argument_of x old.env from us) r
-argument_made x old mid new from us t u ts operand r more same p e h l =
+pub argument_made : (x : Expr) (old mid new : State) (from at : ℕ) (us : CTypes) (t u : CType) (ts : CTypes) (operand : NodeId) (r : Result NodeId TypeError) → us ≡ MoreTypes t ts → u ≡ t → at ≡ start_of x → Finds old mid (StandsAt mid.table) (expression x old.env) (Ok operand) → mid.env ≡ old.env →
+    Agrees (IsAt new.table) (argument at u (node_at mid.table operand)) r → new.found_large ≡ mid.found_large → Finds old new (IsAt new.table) (argument_of x old.env from us) r
+argument_made x old mid new from at us t u ts operand r more same starts p e h l =
     passed old.found_large new.found_large (IsAt new.table) _ _ r (argument_is x old.env from us t ts more)
-    (one_goes_on IsAt (λ E. argument from t) old mid new (expression x old.env) operand r p e (agrees_as (IsAt new.table) _ _ r (ap (λ c. argument from c (node_at mid.table operand)) (sym same)) h) l)
+    (one_goes_on IsAt (λ E. argument (start_of x) t) old mid new (expression x old.env) operand r p e
+    (agrees_as (IsAt new.table) _ _ r (ap (λ c. argument (start_of x) c (node_at mid.table operand)) (sym same) ∙ ap (λ n. argument n u (node_at mid.table operand)) (sym starts)) h) l)
 
 -- ---- a call
 

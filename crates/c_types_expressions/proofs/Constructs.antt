@@ -18,7 +18,7 @@ use Rattle.c_types_rules.specs.Environment.{Environment, base_type, extents}
 use Rattle.c_types_rules.specs.Expressions.{expression, declared_type, declarator_type, annotation_types, parameter_type, parameter_scope, with_parameter, member, prefixed, postfixed}
 use Rattle.c_types_rules.specs.TypedTree.{Typed, typed_type}
 use Rattle.c_syntax_laws.specs.Numbers.{FitsExpr, FitsExprs, FitsDecl, FitsAnnots, FitsParts}
-use Rattle.c_types_expressions.specs.Pieces.{binary_of, assignment_of, choice_of, subscript_of, cast_of, arrow_from, size_constant, parameter}
+use Rattle.c_types_expressions.specs.Pieces.{binary_of, assignment_of, choice_of, subscript_of, cast_of, arrow_from, size_constant, parameter, whole_type}
 use Rattle.c_types_expressions.specs.Walks.{IsExpr, IsDecl}
 
 -- of one operand
@@ -184,7 +184,7 @@ pub record OfDecl (N : Nodes) (v : DeclNode) (d : Decl) : Type 0 where
   pub parts : Parts
   pub on_annots : StandAnnots N v.annots annots
   pub on_parts : StandParts N v.parts parts
-  pub declared : (E : Environment) → declared_type d E ≡ declarator_type parts E (base_type E v.base)
+  pub declared : (E : Environment) → declared_type d E ≡ whole_type parts E (base_type E v.base)
   pub as_parameter : (E : Environment) → parameter_type d E ≡ (annotation_types annots E >> (declarator_type parts E (base_type E v.base) >>= (λ t. parameter v.from t)))
   pub scope : (E : Environment) (place : ℕ) (t : CType) → parameter_scope d E place t ≡ with_parameter E v.from place v.name t
   pub fits : FitsDecl d → FitsAnnots annots × FitsParts parts
@@ -200,7 +200,7 @@ decl_parts N i v at (Declare f an b ps n r) (w, there, e, p, k, q, l, _) =
       parts = ps;
       on_annots = subst (λ u. StandAnnots N u.annots an) same p;
       on_parts = subst (λ u. StandParts N u.parts ps) same q;
-      declared = λ E. ap (λ u. declarator_type ps E (base_type E u)) base;
+      declared = λ E. ap (λ u. whole_type ps E (base_type E u)) base;
       as_parameter = λ E. ap (λ u. annotation_types an E >> (declarator_type ps E (base_type E u) >>= (λ t. parameter f t))) base ∙ ap (λ g. annotation_types an E >> (declarator_type ps E (base_type E v.base) >>= (λ t. parameter g t))) from;
       scope = λ E place t. ap (λ g. with_parameter E g place n t) from ∙ ap (λ m. with_parameter E v.from place m t) name;
       fits = λ g. (g.0, g.1);

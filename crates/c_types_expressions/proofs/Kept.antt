@@ -41,6 +41,10 @@ then_all a b c p q = record { numbers = then_kept _ _ _ p.numbers q.numbers; env
 pub stay_around : (a b : State) → Stays a b → StaysAround a b
 stay_around a b s = record { numbers = s.numbers; tags = ap (λ e. e.tags) s.env; structs = ap (λ e. e.structs) s.env; depth = ap (λ e. length e.scopes) s.env; outer = ap (λ e. drop 1 e.scopes) s.env }
 
+-- where a size may have been noted
+pub sized_stays : (a b : State) → b.table ≡ a.table → b.env ≡ a.env → Stays a b
+sized_stays a b e f = record { numbers = subst (Keeps a.table) (sym e) (same_table a.table); env = f }
+
 pub then_stay_around : (a b c : State) → StaysAround a b → StaysAround b c → StaysAround a c
 then_stay_around a b c p q = record { numbers = then_kept _ _ _ p.numbers q.numbers; tags = q.tags ∙ p.tags; structs = q.structs ∙ p.structs; depth = q.depth ∙ p.depth; outer = q.outer ∙ p.outer }
 

@@ -3,6 +3,7 @@ pub mod Kept
 pub mod Operands
 pub mod Rests
 pub mod Constructs
+pub mod Starts
 pub mod Fits
 pub mod Arms
 pub mod Wholes

@@ -4,7 +4,7 @@ use Rattle.c_syntax.specs.declared.declaration.Part.{Part}
 use Rattle.c_syntax.specs.Nodes.{Nodes}
 use Rattle.c_syntax.specs.Syntax.{Parts, NoParts, Pointer, Array, Params}
 use Rattle.c_syntax.specs.Stands.{StandParts}
-use Rattle.c_types_model.specs.Types.{CType, ArrayOf, FunctionOf}
+use Rattle.c_types_model.specs.Types.{CType, ArrayOf, FunctionOf, PointerTo}
 use Rattle.c_types_table.specs.declared.ids.TypeId.{TypeId}
 use Rattle.c_types_table.specs.Tables.{type_at}
 use Rattle.c_types_rules.specs.Checked.{Fine, keep, small, ◌>>=◌, ◌>>◌}
@@ -40,7 +40,7 @@ first_part N v vs (Pointer f ps) (w, ws, e, from, kind, q) =
       others = ps;
       on_one = (w, [], ap (λ u. u ∷ []) (sym same), from, kind, refl);
       on_others = subst (λ us. StandParts N us ps) all q;
-      is = λ E t. refl;
+      is = λ E t. sym (in_turn_after (small (is_small (extents E) t)) (Fine (PointerTo t)) (declarator_type ps E));
       fits = λ g. (tt, g);
     }
 first_part N v vs (Array f x ps) (w, a, ws, e, from, kind, p, q) =
@@ -51,9 +51,9 @@ first_part N v vs (Array f x ps) (w, a, ws, e, from, kind, p, q) =
       on_one = (w, a, [], ap (λ u. u ∷ []) (sym same), from, kind, p, refl);
       on_others = subst (λ us. StandParts N us ps) all q;
       is = λ E t. sym (in_turn_after (complete (extents E) f t) _ (declarator_type ps E)
-          ∙ ap (λ c. complete (extents E) f t >> c) (in_turn (expression x E) _ (declarator_type ps E)
-          ∙ same_steps (expression x E) _ _ (λ a. in_turn (length_of f (integer_constant (value_of a))) _ (declarator_type ps E)
-          ∙ same_steps (length_of f (integer_constant (value_of a))) _ _ (λ n. in_turn_after (small (is_small (extents E) (ArrayOf n t))) (Fine (ArrayOf n t)) (declarator_type ps E)))));
+          ∙ ap (λ c. complete (extents E) f t >> c) (in_turn_after (small (is_small (extents E) t)) _ (declarator_type ps E)
+          ∙ ap (λ c. small (is_small (extents E) t) >> c) (in_turn (expression x E) _ (declarator_type ps E)
+          ∙ same_steps (expression x E) _ _ (λ a. in_turn (length_of f (integer_constant (value_of a))) (λ n. Fine (ArrayOf n t)) (declarator_type ps E)))));
       fits = λ g. ((g.0, tt), g.1);
     }
 first_part N v vs (Params f ds ps) (w, is, ws, e, from, kind, p, q) =

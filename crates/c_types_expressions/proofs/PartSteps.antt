@@ -1,5 +1,5 @@
 -- One part of a declarator: a pointer, an array or a function.
-use Rattle.std.proofs.Common.{◌≡◌, ◌<◌, ℕ, Bool, List, [], ◌∷◌, length, Result, Ok, Err, false, true, refl, sym, ap, ◌∙◌, subst}
+use Rattle.std.proofs.Common.{◌≡◌, ◌<◌, ◌||◌, ℕ, Bool, not, List, [], ◌∷◌, length, Result, Ok, Err, false, true, refl, sym, ap, ◌∙◌, subst}
 use Rattle.std.specs.List.{All}
 use Rattle.std.proofs.lemmas.List.Elements.{All-nil, All-cons}
 use Rattle.c_syntax.specs.declared.id.DeclId.{DeclId}
@@ -12,10 +12,10 @@ use Rattle.c_syntax.specs.Stands.{Stands, StandDecls, StandParts}
 use Rattle.c_types_model.specs.Types.{CType, CTypes, FunctionOf, PointerTo, NoTypes, MoreTypes}
 use Rattle.c_types_table.specs.declared.ids.TypeId.{TypeId}
 use Rattle.c_types_table.specs.Tables.{IsBelow, all_at, type_at, types_of}
-use Rattle.c_types_rules.specs.Checked.{Checked, Fine, keep, ◌>>=◌, ◌>>◌}
+use Rattle.c_types_rules.specs.Checked.{Checked, Fine, keep, small, ◌>>=◌, ◌>>◌}
 use Rattle.c_types_rules.specs.TypeTests.{is_result}
 use Rattle.c_types_rules.specs.Environment.{Environment, extents, inner}
-use Rattle.c_types_rules.specs.Expressions.{complete, declarator_type, expression, parameter_types}
+use Rattle.c_types_rules.specs.Expressions.{complete, declarator_type, expression, is_small, parameter_types}
 use Rattle.c_types_nodes.specs.declared.ids.NodeId.{NodeId}
 use Rattle.c_types_nodes.specs.Tables.{Table, Names, node_at}
 use Rattle.c_types_operators.specs.declared.error.TypeError.{TypeError}
@@ -24,10 +24,11 @@ use Rattle.c_types_operators.specs.Answers.{Agrees, IsNothing, StandsAt}
 use Rattle.c_types_environment.specs.States.{State, KeepsAll}
 use Rattle.c_syntax_laws.specs.Numbers.{FitsParts}
 use Rattle.c_types_expressions.specs.Found.{Found, Finds, Stays, IsType, AreTypes}
-use Rattle.c_types_expressions.specs.Pieces.{array_of}
+use Rattle.c_types_expressions.specs.Pieces.{array_of, whole_type}
 use Rattle.c_types_expressions.specs.Walks.{AreDecls, AreParts, IsExpr}
-use Rattle.c_types_expressions.proofs.Sequences.{passed, noted_nothing, gone_on, gone_on_after, stopped_in, stopped_before, kept, not_kept, since, there}
+use Rattle.c_types_expressions.proofs.Sequences.{passed, after_note, noted_nothing, gone_on, gone_on_after, stopped_in, stopped_before, kept, not_kept, since, there}
 use Rattle.c_types_expressions.proofs.Kept.{node_is, type_stays}
+use Rattle.c_types_expressions.proofs.Operands.{agrees_as}
 use Rattle.c_types_expressions.proofs.Lists.{no_part}
 
 -- ---- what one part is
@@ -64,44 +65,47 @@ params_stand N v is k (ps, s, f) = let p = function_part N v is ps k s in let g 
 
 -- ---- a pointer
 
-pub pointer_made : (N : Nodes) (v : Part) (ps : Parts) (old new : State) (t : CType) (id : TypeId) → v.kind ≡ parts.Pointer → StandParts N (v ∷ []) ps → Names new.table.types id (PointerTo t) → new.found_large ≡ old.found_large →
-    Finds old new (IsType new.table) (declarator_type ps old.env t) (Ok id)
-pointer_made N v ps old new t id k s h l = passed old.found_large new.found_large (IsType new.table) _ _ (Ok id) (ap (λ qs. declarator_type qs old.env t) (pointer_part N v ps k s)) (h, l)
+pub pointer_made : (N : Nodes) (v : Part) (ps : Parts) (old mid new : State) (ty id : TypeId) → v.kind ≡ parts.Pointer → StandParts N (v ∷ []) ps →
+    mid.table ≡ old.table → mid.found_large ≡ (not (is_small (extents old.env) (type_at old.table.types ty)) || old.found_large) →
+    Names new.table.types id (PointerTo (type_at mid.table.types ty)) → new.found_large ≡ mid.found_large → Finds old new (IsType new.table) (declarator_type ps old.env (type_at old.table.types ty)) (Ok id)
+pointer_made N v ps old mid new ty id k s same n h l =
+    let t = type_at old.table.types ty in
+    let names : Names new.table.types id (PointerTo t) = subst (λ (u : Table). Names new.table.types id (PointerTo (type_at u.types ty))) same h in
+    passed old.found_large new.found_large (IsType new.table) _ _ (Ok id) (ap (λ qs. declarator_type qs old.env t) (pointer_part N v ps k s))
+    (after_note old.found_large mid.found_large new.found_large (IsType new.table) (is_small (extents old.env) t) (Fine (PointerTo t)) (Ok id) n (names, l))
 
 -- ---- an array
 
 -- an array by its element and its size
-pub array_is : (from : ℕ) (x : Expr) (E : Environment) (t : CType) → declarator_type (Array from x NoParts) E t ≡ (complete (extents E) from t >> (expression x E >>= array_of E from t))
+pub array_is : (from : ℕ) (x : Expr) (E : Environment) (t : CType) → declarator_type (Array from x NoParts) E t ≡ (complete (extents E) from t >> (small (is_small (extents E) t) >> (expression x E >>= array_of from t)))
 array_is from x E t = refl
 
 pub element_stops : (old : State) (from : ℕ) (x : Expr) (t : CType) (u : Table) (e : TypeError) → Agrees IsNothing (complete (extents old.env) from t) (Err e) → Finds old old (IsType u) (declarator_type (Array from x NoParts) old.env t) (Err e)
 element_stops old from x t u e h =
-    stopped_before old.found_large old.found_large old.found_large IsNothing (IsType u) (complete (extents old.env) from t) (expression x old.env >>= array_of old.env from t) e
+    stopped_before old.found_large old.found_large old.found_large IsNothing (IsType u) (complete (extents old.env) from t) (small (is_small (extents old.env) t) >> (expression x old.env >>= array_of from t)) e
     (noted_nothing old.found_large old.found_large IsNothing (complete (extents old.env) from t) (Err e) refl h)
 
--- what goes on after a complete element
-after_element : (old new : State) (from : ℕ) (x : Expr) (t : CType) (r : Result TypeId TypeError) → Agrees IsNothing (complete (extents old.env) from t) (Ok tt) →
-    Finds old new (IsType new.table) (expression x old.env >>= array_of old.env from t) r → Finds old new (IsType new.table) (declarator_type (Array from x NoParts) old.env t) r
-after_element old new from x t r h p =
-    gone_on_after old.found_large old.found_large new.found_large IsNothing (IsType new.table) (complete (extents old.env) from t) (expression x old.env >>= array_of old.env from t) tt r
-    (noted_nothing old.found_large old.found_large IsNothing (complete (extents old.env) from t) (Ok tt) refl h) p
+module _ (old mid : State) (from : ℕ) (x : Expr) (t : CType) (whole : Agrees IsNothing (complete (extents old.env) from t) (Ok tt)) (same : mid.env ≡ old.env) (noted : mid.found_large ≡ (not (is_small (extents old.env) t) || old.found_large)) where
+  -- what goes on after a complete element
+  after_element : (new : State) (r : Result TypeId TypeError) → Finds mid new (IsType new.table) (expression x old.env >>= array_of from t) r → Finds old new (IsType new.table) (declarator_type (Array from x NoParts) old.env t) r
+  after_element new r p =
+      gone_on_after old.found_large old.found_large new.found_large IsNothing (IsType new.table) (complete (extents old.env) from t) (small (is_small (extents old.env) t) >> (expression x old.env >>= array_of from t)) tt r
+      (noted_nothing old.found_large old.found_large IsNothing (complete (extents old.env) from t) (Ok tt) refl whole)
+      (after_note old.found_large mid.found_large new.found_large (IsType new.table) (is_small (extents old.env) t) (expression x old.env >>= array_of from t) r noted p)
 
-pub size_stops : (old new : State) (from : ℕ) (x : Expr) (t : CType) (e : TypeError) → Agrees IsNothing (complete (extents old.env) from t) (Ok tt) → Finds old new (StandsAt new.table) (expression x old.env) (Err e) →
-    Finds old new (IsType new.table) (declarator_type (Array from x NoParts) old.env t) (Err e)
-size_stops old new from x t e h p =
-    after_element old new from x t (Err e) h (stopped_in old.found_large new.found_large new.found_large (StandsAt new.table) (IsType new.table) (expression x old.env) (array_of old.env from t) e p)
+  pub size_stops : (new : State) (e : TypeError) → Finds mid new (StandsAt new.table) (expression x mid.env) (Err e) → Finds old new (IsType new.table) (declarator_type (Array from x NoParts) old.env t) (Err e)
+  size_stops new e p =
+      after_element new (Err e) (stopped_in mid.found_large new.found_large new.found_large (StandsAt new.table) (IsType new.table) (expression x old.env) (array_of from t) e
+      (passed mid.found_large new.found_large (StandsAt new.table) _ _ (Err e) (ap (expression x) (sym same)) p))
 
-pub array_made : (old mid new : State) (from : ℕ) (x : Expr) (element : TypeId) (size : NodeId) (r : Result TypeId TypeError) → element.0 < length old.table.types →
-    Agrees IsNothing (complete (extents old.env) from (type_at old.table.types element)) (Ok tt) → Finds old mid (StandsAt mid.table) (expression x old.env) (Ok size) → Stays old mid →
-    Finds mid new (IsType new.table) (array_of mid.env from (type_at mid.table.types element) (node_at mid.table size)) r →
-    Finds old new (IsType new.table) (declarator_type (Array from x NoParts) old.env (type_at old.table.types element)) r
-array_made old mid new from x element size r inside h p s q =
-    let t = type_at old.table.types element in
-    after_element old new from x t r h
-    (gone_on old.found_large mid.found_large new.found_large (StandsAt mid.table) (IsType new.table) (expression x old.env) (array_of old.env from t) size r p (λ y at.
-    passed mid.found_large new.found_large (IsType new.table) _ _ r
-    (ap (λ F. array_of F from t y) (sym s.env) ∙ (ap (λ c. array_of mid.env from c y) (sym (type_stays old.table mid.table element s.numbers inside)) ∙ ap (array_of mid.env from (type_at mid.table.types element)) (sym (node_is mid.table size y at))))
-    q))
+  pub array_made : (sized new : State) (element : TypeId) (size : NodeId) (r : Result TypeId TypeError) → Finds mid sized (StandsAt sized.table) (expression x mid.env) (Ok size) → type_at sized.table.types element ≡ t →
+      Agrees (IsType new.table) (array_of from (type_at sized.table.types element) (node_at sized.table size)) r → new.found_large ≡ sized.found_large → Finds old new (IsType new.table) (declarator_type (Array from x NoParts) old.env t) r
+  array_made sized new element size r p type q l =
+      after_element new r
+      (gone_on mid.found_large sized.found_large new.found_large (StandsAt sized.table) (IsType new.table) (expression x old.env) (array_of from t) size r
+      (passed mid.found_large sized.found_large (StandsAt sized.table) _ _ (Ok size) (ap (expression x) (sym same)) p) (λ y at.
+      noted_nothing sized.found_large new.found_large (IsType new.table) (array_of from t y) r l
+      (agrees_as (IsType new.table) _ _ r (ap (λ c. array_of from c y) (sym type) ∙ ap (array_of from (type_at sized.table.types element)) (sym (node_is sized.table size y at))) q)))
 
 -- ---- a function
 
@@ -154,3 +158,21 @@ pub declared_from : (old mid new : State) (ps : Parts) (c : CType) (base : TypeI
 declared_from old mid new ps c base r h k p =
     since mid.found_large old.found_large new.found_large (IsType new.table) (declarator_type ps old.env c) r k.large
     (passed mid.found_large new.found_large (IsType new.table) _ _ r (ap (λ F. declarator_type ps F c) (sym k.env) ∙ ap (declarator_type ps mid.env) (sym h.is)) p)
+
+-- ---- a whole declaration
+
+module _ (old mid end : State) (ps : Parts) (c : CType) (base : TypeId) (names : Names mid.table.types base c) (one : KeepsAll old mid) where
+  pub declared_stops : (e : TypeError) → Finds mid end (IsType end.table) (declarator_type ps mid.env (type_at mid.table.types base)) (Err e) → Finds old end (IsType end.table) (whole_type ps old.env c) (Err e)
+  declared_stops e p =
+      stopped_in old.found_large end.found_large end.found_large (IsType end.table) (IsType end.table) (declarator_type ps old.env c) (λ t. small (is_small (extents old.env) t) >> Fine t) e
+      (declared_from old mid end ps c base (Err e) names one p)
+
+  pub declared_made : (new : State) (ty : TypeId) → Finds mid end (IsType end.table) (declarator_type ps mid.env (type_at mid.table.types base)) (Ok ty) → end.env ≡ mid.env → new.table ≡ end.table →
+      new.found_large ≡ (not (is_small (extents end.env) (type_at end.table.types ty)) || end.found_large) → Finds old new (IsType new.table) (whole_type ps old.env c) (Ok ty)
+  declared_made new ty p same table noted =
+      gone_on old.found_large end.found_large new.found_large (IsType end.table) (IsType new.table) (declarator_type ps old.env c) (λ t. small (is_small (extents old.env) t) >> Fine t) ty (Ok ty)
+      (declared_from old mid end ps c base (Ok ty) names one p) (λ t at.
+      let large : new.found_large ≡ (not (is_small (extents old.env) t) || end.found_large) =
+      noted ∙ (ap (λ E. not (is_small (extents E) (type_at end.table.types ty)) || end.found_large) (same ∙ one.env) ∙ ap (λ u. not (is_small (extents old.env) u) || end.found_large) at.is) in
+      let there : Names new.table.types ty t = subst (λ (u : Table). Names u.types ty t) (sym table) at in
+      after_note end.found_large new.found_large new.found_large (IsType new.table) (is_small (extents old.env) t) (Fine t) (Ok ty) large (there, refl))

@@ -1,5 +1,5 @@
 -- How answers go on one from another.
-use Rattle.std.proofs.Common.{◌≡◌, ℕ, Bool, true, false, Result, Ok, Err, refl, sym, ap, subst}
+use Rattle.std.proofs.Common.{◌≡◌, ◌||◌, ℕ, Bool, true, false, not, Result, Ok, Err, refl, sym, ap, subst}
 use Rattle.c_types_rules.specs.Checked.{Checked, Fine, Large, Broken, large, keep, small, ◌>>=◌, ◌>>◌}
 use Rattle.c_types_operators.specs.declared.error.TypeError.{TypeError}
 use Rattle.c_types_operators.specs.declared.error.TypeError.TheVariants.{Rule, Memory}
@@ -96,6 +96,11 @@ is_small f h js b d r e p = passed f h js _ d r (ap (λ t. small t >> d) e) p
 
 pub is_large : {C D : Type 0} (f h : Bool) (js : C → D → Type 0) (b : Bool) (d : Checked C) (r : Result D TypeError) → b ≡ false → Found true h js d r → Found f h js (small b >> d) r
 is_large f h js b d r e p = passed f h js _ (large d) r (ap (λ t. small t >> d) e) (noted_before f h js d r p)
+
+-- something is noted as it should be
+pub after_note : {C D : Type 0} (f g h : Bool) (js : C → D → Type 0) (b : Bool) (d : Checked C) (r : Result D TypeError) → g ≡ (not b || f) → Found g h js d r → Found f h js (small b >> d) r
+after_note f g h js true d r e p = subst (λ z. Found z h js d r) e p
+after_note f g h js false d r e p = noted_before f h js d r (subst (λ z. Found z h js d r) e p)
 
 -- ---- laws of sequences
 

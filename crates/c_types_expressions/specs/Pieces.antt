@@ -2,7 +2,7 @@
 use Rattle.std.specs.Prelude.{ℕ, pos, List, Some, None}
 use Rattle.r2_num.specs.declared.kinds.IntKind.TheVariants.{U64}
 use Rattle.c_lexer.specs.declared.token.Sign.{Sign}
-use Rattle.c_syntax.specs.Syntax.{Expr}
+use Rattle.c_syntax.specs.Syntax.{Expr, Parts}
 use Rattle.c_builtins.specs.Table.{prototype_of}
 use Rattle.c_types_model.specs.Types.{CType, CTypes, ArrayOf, NoTypes, MoreTypes}
 use Rattle.c_types_model.specs.declared.extent.Extent.{Extent}
@@ -12,7 +12,7 @@ use Rattle.c_types_rules.specs.TypeTests.{is_complete, is_scalar}
 use Rattle.c_types_rules.specs.Operators.{assigned, assignment, binary, cast, choice, size_in}
 use Rattle.c_types_rules.specs.TypedTree.{Value, Typed, Callee, Constant, AValue, AFunction, BuiltinFunction, value_of, value_type}
 use Rattle.c_types_rules.specs.Environment.{Environment, extents}
-use Rattle.c_types_rules.specs.Expressions.{expression, a_value, subscript, arrow_of, adjusted, builtin_in, called, is_small, length_of}
+use Rattle.c_types_rules.specs.Expressions.{expression, declarator_type, a_value, subscript, arrow_of, adjusted, builtin_in, called, is_small, length_of, start_of}
 
 -- two operands, the left one first
 abbrev pub operands : Expr → Expr → Environment → Checked (Typed × Typed)
@@ -51,9 +51,9 @@ size_constant structs from t = sized structs from t >> Fine (AValue (Constant U6
 
 -- what is called, what it gives and what it takes; a builtin is only found where it is called
 abbrev pub call_target : Expr → Environment → (from : ℕ) → Checked (Callee × CType × CTypes)
-call_target x env from = elim (builtin_in env x) [ Some b ↦ called from (AFunction (BuiltinFunction b) (prototype_of b)) | None ↦ expression x env >>= called from ]
+call_target x env from = elim (builtin_in env x) [ Some b ↦ called (start_of x) (AFunction (BuiltinFunction (start_of x) b) (prototype_of b)) | None ↦ expression x env >>= called from ]
 
--- a value, converted to the type of a parameter
+-- a value at an offset, converted to the type of a parameter
 abbrev pub argument : (from : ℕ) → CType → Typed → Checked Value
 argument from t a = assigned from t (value_of a)
 
@@ -62,15 +62,21 @@ abbrev pub parameter : (from : ℕ) → CType → Checked CType
 parameter from t = keep from 3 (is_scalar (adjusted t)) >> Fine (adjusted t)
 
 -- an array of elements of a type, with this length
-abbrev pub array_of : Environment → (from : ℕ) → CType → Typed → Checked CType
-array_of env from t a = do
+abbrev pub array_of : (from : ℕ) → CType → Typed → Checked CType
+array_of from t a = do
   n ← length_of from (integer_constant (value_of a))
-  small (is_small (extents env) (ArrayOf n t))
   Fine (ArrayOf n t)
+
+-- what a declarator makes of the type that the words of its declaration make
+abbrev pub whole_type : Parts → Environment → CType → Checked CType
+whole_type ps env c = do
+  t ← declarator_type ps env c
+  small (is_small (extents env) t)
+  Fine t
 
 -- an argument of a call, which is converted to the first of the types that are left
 abbrev pub argument_of : Expr → Environment → (from : ℕ) → CTypes → Checked Value
 argument_of x env from NoTypes = Broken from 9
 argument_of x env from (MoreTypes t ts) = do
   a ← expression x env
-  argument from t a
+  argument (start_of x) t a

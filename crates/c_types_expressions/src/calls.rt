@@ -15,6 +15,7 @@ ghost use Rattle.c_types_expressions.specs.Walks.{AreExprs, IsExpr};
 use crate::expressions::expression;
 use crate::growing::append;
 use crate::made::converted;
+use crate::offsets::start;
 use c_builtins::Builtin;
 use c_syntax::{ExprId, ExprKind, Tree};
 use c_types_environment::Environment;
@@ -69,7 +70,7 @@ fn call_target(
     ensures kept { Stays env.old env.new }
 {
     match builtin_named(env, tree, id) {
-        Some(builtin) => env.builtin_called(from, builtin),
+        Some(builtin) => env.builtin_called(start(tree, id), builtin),
         None => {
             let callee = expression(env, tree, id)?;
             env.called(from, callee)
@@ -120,7 +121,7 @@ fn argument(
     match env.parameter(function, number) {
         Some(ty) => {
             let operand = expression(env, tree, id)?;
-            converted(env, from, ty, operand)
+            converted(env, start(tree, id), ty, operand)
         }
         None => Err(TypeError::Rule(from, 9)),
     }

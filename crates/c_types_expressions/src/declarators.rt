@@ -10,7 +10,7 @@ ghost use Rattle.c_types_expressions.specs.Walks.{AreDecls, AreParts, IsDecl, Is
 
 use crate::expressions::expression;
 use crate::parameters::parameter_types;
-use crate::sizes::{array_of_length, is_result};
+use crate::sizes::{array_of_length, is_result, note_size};
 use c_syntax::{DeclId, ExprId, Part, PartKind, Tree};
 use c_types_environment::Environment;
 use c_types_operators::TypeError;
@@ -18,7 +18,8 @@ use c_types_table::{Ty, TypeId};
 
 /// The type that a declaration gives its name, or that a type name names.
 ///
-/// `Rule` names the first rule that is broken in it, with the offset of the node that breaks it. Notes where an array is too large.
+/// `Rule` names the first rule that is broken in it, with the offset of the node that breaks it. Notes where the type, or one that it
+/// consists of, is that of too large an object.
 #[cycle(walk)]
 pub fn declared_type(env: &mut Environment, tree: &Tree, id: DeclId) -> Result<TypeId, TypeError>
     requires { IsDecl tree.now id }
@@ -27,7 +28,9 @@ pub fn declared_type(env: &mut Environment, tree: &Tree, id: DeclId) -> Result<T
 {
     let decl = tree.decl(id);
     let base = env.base_type(&decl.base)?;
-    declarator(env, tree, decl.parts.as_slice(), base)
+    let ty = declarator(env, tree, decl.parts.as_slice(), base)?;
+    note_size(env, ty);
+    Ok(ty)
 }
 
 /// The type that a declarator makes of another, from the part farthest from the name to the nearest. Errors are as for
@@ -65,7 +68,10 @@ fn part_type(
     ensures kept { Stays env.old env.new }
 {
     match &part.kind {
-        PartKind::Pointer => Ok(env.add_type(Ty::Pointer(ty))?),
+        PartKind::Pointer => {
+            note_size(env, ty);
+            Ok(env.add_type(Ty::Pointer(ty))?)
+        }
         PartKind::Array(size) => array(env, tree, part.from, *size, ty),
         PartKind::Params(params) => function(env, tree, part.from, params.as_slice(), ty),
     }
@@ -86,6 +92,7 @@ fn array(
     ensures kept { Stays env.old env.new }
 {
     env.complete(from, element)?;
+    note_size(env, element);
     let size = expression(env, tree, size)?;
     array_of_length(env, from, element, size)
 }

@@ -8,10 +8,12 @@ mod declarators;
 mod expressions;
 mod growing;
 mod made;
+mod offsets;
 mod parameters;
 mod sizes;
 
 pub use annotations::annotation_types;
 pub use declarators::{declarator, declared_type};
 pub use expressions::expression;
+pub use offsets::start;
 pub use parameters::parameter_types;

@@ -1,14 +1,15 @@
 //! Sizes of types (C11 6.5.3.4), and arrays (C11 6.7.6.2).
 
-ghost use Rattle.std.specs.Prelude.{◌≡◌, ◌<◌, length};
+ghost use Rattle.std.specs.Prelude.{◌≡◌, ◌<◌, ◌||◌, length, not};
 ghost use Rattle.c_types_table.specs.Tables.{type_at};
 ghost use Rattle.c_types_rules.specs.Environment.{extents};
+ghost use Rattle.c_types_rules.specs.Expressions.{is_small};
 ghost use Rattle.c_types_rules.specs.TypedTree.{typed_type};
 ghost use Rattle.c_types_rules.specs.TypeTests.{is_result as is_result_type};
 ghost use Rattle.c_types_nodes.specs.Tables.{IsNode, node_at};
 ghost use Rattle.c_types_operators.specs.Answers.{Agrees, IsNothing, StandsAt};
 ghost use Rattle.c_types_environment.specs.States.{KeepsAll};
-ghost use Rattle.c_types_expressions.specs.Found.{Finds, IsType, Stays};
+ghost use Rattle.c_types_expressions.specs.Found.{IsType};
 ghost use Rattle.c_types_expressions.specs.Pieces.{array_of, parameter as parameter_by_rules, size_constant, sized as sized_by_rules};
 
 use c_types_environment::Environment;
@@ -50,8 +51,19 @@ pub fn size_of_node(env: &mut Environment, from: u32, operand: NodeId) -> Result
     size_of_type(env, from, ty)
 }
 
-/// An array of elements of a type, with the length that the node `size` gives, which must be a constant of 1 or more. Notes that it is too
-/// large.
+/// Notes that an object of a type is too large, where it is.
+pub fn note_size(env: &mut Environment, ty: TypeId)
+    requires { ty.0 < length env.old.table.types }
+    ensures table { env.new.table ≡ env.old.table }
+    ensures env { env.new.env ≡ env.old.env }
+    ensures noted { env.new.found_large ≡ (not (is_small (extents env.old.env) (type_at env.old.table.types ty)) || env.old.found_large) }
+{
+    if !env.is_small(ty) {
+        env.note_large();
+    }
+}
+
+/// An array of elements of a type, with the length that the node `size` gives, which must be a constant of 1 or more.
 pub fn array_of_length(
     env: &mut Environment,
     from: u32,
@@ -60,17 +72,12 @@ pub fn array_of_length(
 ) -> Result<TypeId, TypeError>
     requires element { element.0 < length env.old.table.types }
     requires size { IsNode env.old.table size }
-    ensures agrees { Finds env.old env.new (IsType env.new.table) (array_of env.old.env from (type_at env.old.table.types element) (node_at env.old.table size)) result }
-    ensures kept { Stays env.old env.new }
+    ensures agrees { Agrees (IsType env.new.table) (array_of from (type_at env.old.table.types element) (node_at env.old.table size)) result }
+    ensures kept { KeepsAll env.old env.new }
 {
     let value = env.value_of(size)?;
     let count = env.length_of(from, value)?;
-    let array = env.add_type(Ty::Array(element, count))?;
-    if env.is_small(array) {
-        return Ok(array);
-    }
-    env.note_large();
-    Ok(array)
+    Ok(env.add_type(Ty::Array(element, count))?)
 }
 
 /// Whether a function may give a value of this type, or nothing.

@@ -28,7 +28,7 @@ use Rattle.c_types_environment.specs.States.{State}
 use Rattle.c_types_expressions.specs.Found.{Finds}
 use Rattle.c_types_expressions.proofs.Sequences.{gone_on, stopped_in}
 use Rattle.c_types_initializers.specs.Values.{IsInitial, IsKnown}
-use Rattle.c_types_initializers.proofs.Starts.{start_is}
+use Rattle.c_types_expressions.proofs.Starts.{start_is}
 
 -- ---- arrays
 

@@ -24,11 +24,14 @@ fn address_known(env: &Environment, node: NodeId) -> Option<Known>
 {
     match env.table().get(node) {
         Node::TextObject { from, .. } => Some(Known::AddressOfText(*from)),
-        Node::GlobalObject(place, ty) => match env.table().types().get(*ty) {
+        Node::GlobalObject { place, ty, .. } => match env.table().types().get(*ty) {
             Ty::Array(..) => Some(Known::AddressOfGlobal(*place)),
             _ => None,
         },
-        Node::SourceFunction(number, _) => Some(Known::AddressOfFunction(*number)),
+        Node::SourceFunction { from, number, .. } => Some(Known::AddressOfFunction {
+            from: *from,
+            number: *number,
+        }),
         _ => None,
     }
 }
@@ -39,7 +42,7 @@ pub fn global_known(env: &Environment, node: NodeId) -> Option<Known>
     ensures { option_map known_in result ≡ global_by_rules (node_at env.now.table node) }
 {
     match env.table().get(node) {
-        Node::GlobalObject(place, _) => Some(Known::AddressOfGlobal(*place)),
+        Node::GlobalObject { place, .. } => Some(Known::AddressOfGlobal(*place)),
         _ => None,
     }
 }

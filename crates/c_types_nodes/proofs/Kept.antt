@@ -64,17 +64,17 @@ below m n t le h = omega arith
 
 -- a node may be put wherever there is more
 pub parts_kept : (few many : ℕ) (xs ys : List Typed) (node : Node) → few ≤ many → Extends xs ys → IsMadeOf few xs node → IsMadeOf many ys node
-parts_kept few many xs ys (nodes.GlobalObject place t) le e h = below few many t le h
+parts_kept few many xs ys (nodes.GlobalObject from place t) le e h = below few many t le h
 parts_kept few many xs ys (nodes.LocalObject place t) le e h = below few many t le h
 parts_kept few many xs ys (nodes.TextObject from bytes) le e h = h
 parts_kept few many xs ys (nodes.Pointed v t) le e h = (is_value_kept xs ys v e h.0, below few many t le h.1)
 parts_kept few many xs ys (nodes.Element s p i t) le e h = (is_value_kept xs ys p e h.0, is_value_kept xs ys i e h.1, below few many t le h.2)
 parts_kept few many xs ys (nodes.MemberOf o number t) le e h = (is_object_kept xs ys o e h.0, below few many t le h.1)
-parts_kept few many xs ys (nodes.SourceFunction number t) le e h = below few many t le h
-parts_kept few many xs ys (nodes.BuiltinFunction b t) le e h = below few many t le h
+parts_kept few many xs ys (nodes.SourceFunction from number t) le e h = below few many t le h
+parts_kept few many xs ys (nodes.BuiltinFunction from b t) le e h = below few many t le h
 parts_kept few many xs ys (nodes.Through v t) le e h = (is_value_kept xs ys v e h.0, below few many t le h.1)
 parts_kept few many xs ys (nodes.Constant k n) le e h = h
-parts_kept few many xs ys (nodes.FunctionAddress number t) le e h = below few many t le h
+parts_kept few many xs ys (nodes.FunctionAddress from number t) le e h = below few many t le h
 parts_kept few many xs ys (nodes.ReadOf o) le e h = is_object_kept xs ys o e h
 parts_kept few many xs ys (nodes.AddressOf o t) le e h = (is_object_kept xs ys o e h.0, below few many t le h.1)
 parts_kept few many xs ys (nodes.Convert t v) le e h = (is_value_kept xs ys v e h.0, below few many t le h.1)
@@ -97,17 +97,17 @@ parts_kept few many xs ys (nodes.CallOf f vs t) le e h = (is_function_kept xs ys
 
 -- a node stands for the same where its parts do
 pub made_like : (few : ℕ) (ts us : List CType) (zs xs ys : List Typed) (node : Node) → SameTypes few ts us → Alike zs xs ys → IsMadeOf few zs node → made us ys node ≡ made ts xs node
-made_like few ts us zs xs ys (nodes.GlobalObject place t) st al h = let e0 : at us t ≡ at ts t = st.same t h in cc
+made_like few ts us zs xs ys (nodes.GlobalObject from place t) st al h = let e0 : at us t ≡ at ts t = st.same t h in cc
 made_like few ts us zs xs ys (nodes.LocalObject place t) st al h = let e0 : at us t ≡ at ts t = st.same t h in cc
 made_like few ts us zs xs ys (nodes.TextObject from bytes) st al h = refl
 made_like few ts us zs xs ys (nodes.Pointed v t) st al h = let e0 : value ys v ≡ value xs v = al.values v h.0 in let e1 : at us t ≡ at ts t = st.same t h.1 in cc
 made_like few ts us zs xs ys (nodes.Element s p i t) st al h = let e0 : value ys p ≡ value xs p = al.values p h.0 in let e1 : value ys i ≡ value xs i = al.values i h.1 in let e2 : at us t ≡ at ts t = st.same t h.2 in cc
 made_like few ts us zs xs ys (nodes.MemberOf o number t) st al h = let e0 : object ys o ≡ object xs o = al.objects o h.0 in let e1 : at us t ≡ at ts t = st.same t h.1 in cc
-made_like few ts us zs xs ys (nodes.SourceFunction number t) st al h = let e0 : at us t ≡ at ts t = st.same t h in cc
-made_like few ts us zs xs ys (nodes.BuiltinFunction b t) st al h = let e0 : at us t ≡ at ts t = st.same t h in cc
+made_like few ts us zs xs ys (nodes.SourceFunction from number t) st al h = let e0 : at us t ≡ at ts t = st.same t h in cc
+made_like few ts us zs xs ys (nodes.BuiltinFunction from b t) st al h = let e0 : at us t ≡ at ts t = st.same t h in cc
 made_like few ts us zs xs ys (nodes.Through v t) st al h = let e0 : value ys v ≡ value xs v = al.values v h.0 in let e1 : at us t ≡ at ts t = st.same t h.1 in cc
 made_like few ts us zs xs ys (nodes.Constant k m) st al h = refl
-made_like few ts us zs xs ys (nodes.FunctionAddress number t) st al h = let e0 : at us t ≡ at ts t = st.same t h in cc
+made_like few ts us zs xs ys (nodes.FunctionAddress from number t) st al h = let e0 : at us t ≡ at ts t = st.same t h in cc
 made_like few ts us zs xs ys (nodes.ReadOf o) st al h = let e0 : object ys o ≡ object xs o = al.objects o h in cc
 made_like few ts us zs xs ys (nodes.AddressOf o t) st al h = let e0 : object ys o ≡ object xs o = al.objects o h.0 in let e1 : at us t ≡ at ts t = st.same t h.1 in cc
 made_like few ts us zs xs ys (nodes.Convert t v) st al h = let e0 : value ys v ≡ value xs v = al.values v h.0 in let e1 : at us t ≡ at ts t = st.same t h.1 in cc

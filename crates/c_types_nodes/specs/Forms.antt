@@ -13,17 +13,17 @@ use Rattle.c_types_nodes.specs.declared.forms.ValueSource.{ValueSource}
 use Rattle.c_types_nodes.specs.declared.forms.ValueSource.TheVariants.{Itself, Read, Address, Part}
 
 abbrev pub type_source : Node → TypeSource
-type_source (nodes.GlobalObject place t) = Carried t
+type_source (nodes.GlobalObject from place t) = Carried t
 type_source (nodes.LocalObject place t) = Carried t
 type_source (nodes.TextObject from length) = Chars (length + 1)
 type_source (nodes.Pointed v t) = Carried t
 type_source (nodes.Element s p i t) = Carried t
 type_source (nodes.MemberOf o n t) = Carried t
-type_source (nodes.SourceFunction n t) = Carried t
-type_source (nodes.BuiltinFunction b t) = Carried t
+type_source (nodes.SourceFunction from n t) = Carried t
+type_source (nodes.BuiltinFunction from b t) = Carried t
 type_source (nodes.Through v t) = Carried t
 type_source (nodes.Constant k n) = Integer k
-type_source (nodes.FunctionAddress n t) = PointerTo t
+type_source (nodes.FunctionAddress from n t) = PointerTo t
 type_source (nodes.ReadOf o) = TypeOf o
 type_source (nodes.AddressOf o t) = Carried t
 type_source (nodes.Convert t v) = Carried t
@@ -45,14 +45,14 @@ type_source (nodes.Stepped o w g size) = TypeOf o
 type_source (nodes.CallOf f vs t) = Carried t
 
 abbrev pub value_source : Node → ValueSource
-value_source (nodes.GlobalObject place t) = Read
+value_source (nodes.GlobalObject from place t) = Read
 value_source (nodes.LocalObject place t) = Read
 value_source (nodes.TextObject from length) = Read
 value_source (nodes.Pointed v t) = Read
 value_source (nodes.Element s p i t) = Read
 value_source (nodes.MemberOf o n t) = Read
-value_source (nodes.SourceFunction n t) = Address n t
-value_source (nodes.BuiltinFunction b t) = Address 0 t
+value_source (nodes.SourceFunction from n t) = Address from n t
+value_source (nodes.BuiltinFunction from b t) = Address from 0 t
 value_source (nodes.Through v t) = Part v
 value_source _ = Itself
 

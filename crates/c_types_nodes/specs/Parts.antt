@@ -37,7 +37,7 @@ given_in givens.Old = tree.Old
 -- the parts of what stands at a number, where it is an object, a value or a function; `made` reads only such
 abbrev pub object_in : Option Typed → Object
 object_in (Some (AnObject o)) = o
-object_in _ = tree.GlobalObject 0 Void
+object_in _ = tree.GlobalObject 0 0 Void
 
 abbrev pub value_in : Option Typed → Value
 value_in (Some (AValue v)) = v
@@ -45,7 +45,7 @@ value_in _ = tree.Constant I32 (pos 0)
 
 abbrev pub callee_in : Option Typed → Callee
 callee_in (Some (AFunction f t)) = f
-callee_in _ = tree.SourceFunction 0
+callee_in _ = tree.SourceFunction 0 0
 
 abbrev pub typed_in : Option Typed → Typed
 typed_in (Some x) = x
@@ -81,17 +81,17 @@ IsFunction xs id = part xs id ≡ Some (AFunction (callee xs id) (typed_type (ty
 
 -- what a node stands for
 abbrev pub made : (ts : List CType) → (xs : List Typed) → Node → Typed
-made ts xs (nodes.GlobalObject place t) = AnObject (tree.GlobalObject place (at ts t))
+made ts xs (nodes.GlobalObject from place t) = AnObject (tree.GlobalObject from place (at ts t))
 made ts xs (nodes.LocalObject place t) = AnObject (tree.LocalObject place (at ts t))
 made ts xs (nodes.TextObject from length) = AnObject (tree.TextObject from length)
 made ts xs (nodes.Pointed v t) = AnObject (tree.Pointed (value xs v) (at ts t))
 made ts xs (nodes.Element s p i t) = AnObject (tree.Element (sum_in s) (value xs p) (value xs i) (at ts t))
 made ts xs (nodes.MemberOf o n t) = AnObject (tree.MemberOf (object xs o) n (at ts t))
-made ts xs (nodes.SourceFunction n t) = AFunction (tree.SourceFunction n) (at ts t)
-made ts xs (nodes.BuiltinFunction b t) = AFunction (tree.BuiltinFunction b) (at ts t)
+made ts xs (nodes.SourceFunction from n t) = AFunction (tree.SourceFunction from n) (at ts t)
+made ts xs (nodes.BuiltinFunction from b t) = AFunction (tree.BuiltinFunction from b) (at ts t)
 made ts xs (nodes.Through v t) = AFunction (tree.Through (value xs v)) (at ts t)
 made ts xs (nodes.Constant k n) = AValue (tree.Constant k n)
-made ts xs (nodes.FunctionAddress n t) = AValue (tree.FunctionAddress n (at ts t))
+made ts xs (nodes.FunctionAddress from n t) = AValue (tree.FunctionAddress from n (at ts t))
 made ts xs (nodes.ReadOf o) = AValue (tree.ReadOf (object xs o))
 made ts xs (nodes.AddressOf o t) = AValue (tree.AddressOf (object xs o) (at ts t))
 made ts xs (nodes.Convert t v) = AValue (tree.Convert (at ts t) (value xs v))
@@ -121,17 +121,17 @@ IsRightType op k t = t ≡ Integer k
 -- the parts of a node are among n types and `xs`, and each is what the node has there; a constant is in the range of its
 -- kind, operands are of the kind of their operator, and both arms of a choice have one type
 abbrev pub IsMadeOf : (n : ℕ) → (xs : List Typed) → Node → Type 0
-IsMadeOf n xs (nodes.GlobalObject place t) = IsBelow n t
+IsMadeOf n xs (nodes.GlobalObject from place t) = IsBelow n t
 IsMadeOf n xs (nodes.LocalObject place t) = IsBelow n t
 IsMadeOf n xs (nodes.TextObject from length) = Unit {0}
 IsMadeOf n xs (nodes.Pointed v t) = IsAValue xs v × IsBelow n t
 IsMadeOf n xs (nodes.Element s p i t) = IsAValue xs p × IsAValue xs i × IsBelow n t
 IsMadeOf n xs (nodes.MemberOf o number t) = IsObject xs o × IsBelow n t
-IsMadeOf n xs (nodes.SourceFunction number t) = IsBelow n t
-IsMadeOf n xs (nodes.BuiltinFunction b t) = IsBelow n t
+IsMadeOf n xs (nodes.SourceFunction from number t) = IsBelow n t
+IsMadeOf n xs (nodes.BuiltinFunction from b t) = IsBelow n t
 IsMadeOf n xs (nodes.Through v t) = IsAValue xs v × IsBelow n t
 IsMadeOf n xs (nodes.Constant k m) = IsValue k m
-IsMadeOf n xs (nodes.FunctionAddress number t) = IsBelow n t
+IsMadeOf n xs (nodes.FunctionAddress from number t) = IsBelow n t
 IsMadeOf n xs (nodes.ReadOf o) = IsObject xs o
 IsMadeOf n xs (nodes.AddressOf o t) = IsObject xs o × IsBelow n t
 IsMadeOf n xs (nodes.Convert t v) = IsAValue xs v × IsBelow n t

@@ -29,8 +29,8 @@ pub enum ValueSource {
     Itself,
     /// The node is an object.
     Read,
-    /// The node is a function with this number and type.
-    Address(u32, TypeId),
+    /// The node is a function, which is named at this offset, with this number and type.
+    Address { from: u32, number: u32, ty: TypeId },
     /// The node is what this pointer points to.
     Part(NodeId),
 }
@@ -51,19 +51,19 @@ impl Node {
         ensures { result ≡ type_source_of self.now }
     {
         match self {
-            Node::GlobalObject(_, ty)
+            Node::GlobalObject { ty, .. }
             | Node::LocalObject(_, ty)
             | Node::Pointed(_, ty)
             | Node::Element { ty, .. }
             | Node::MemberOf(_, _, ty)
-            | Node::SourceFunction(_, ty)
-            | Node::BuiltinFunction(_, ty)
+            | Node::SourceFunction { ty, .. }
+            | Node::BuiltinFunction { ty, .. }
             | Node::Through(_, ty)
             | Node::AddressOf(_, ty)
             | Node::Convert(ty, _)
             | Node::CallOf { result: ty, .. } => TypeSource::Carried(*ty),
             Node::TextObject { length, .. } => TypeSource::Chars(u64::from(*length) + 1),
-            Node::FunctionAddress(_, ty) => TypeSource::PointerTo(*ty),
+            Node::FunctionAddress { ty, .. } => TypeSource::PointerTo(*ty),
             Node::Constant(kind, _) | Node::Negate(kind, _) | Node::Complement(kind, _) =>
                 TypeSource::Integer(*kind),
             Node::Arithmetic(op, kind, _, _) => TypeSource::Integer(result_kind(*op, *kind)),
@@ -86,14 +86,22 @@ impl Node {
         ensures { result ≡ value_source_of self.now }
     {
         match self {
-            Node::GlobalObject(..)
+            Node::GlobalObject { .. }
             | Node::LocalObject(..)
             | Node::TextObject { .. }
             | Node::Pointed(..)
             | Node::Element { .. }
             | Node::MemberOf(..) => ValueSource::Read,
-            Node::SourceFunction(number, ty) => ValueSource::Address(*number, *ty),
-            Node::BuiltinFunction(_, ty) => ValueSource::Address(0, *ty),
+            Node::SourceFunction { from, number, ty } => ValueSource::Address {
+                from: *from,
+                number: *number,
+                ty: *ty,
+            },
+            Node::BuiltinFunction { from, ty, .. } => ValueSource::Address {
+                from: *from,
+                number: 0,
+                ty: *ty,
+            },
             Node::Through(value, _) => ValueSource::Part(*value),
             _ => ValueSource::Itself,
         }

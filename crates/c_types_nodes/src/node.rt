@@ -32,8 +32,12 @@ pub enum Given {
 /// The first six are objects (C11 6.3.2.1, 1), the next three functions, and all others values.
 #[derive(Drop)]
 pub enum Node {
-    /// The global of this place, in the order of the source.
-    GlobalObject(u32, TypeId),
+    /// The global of this place, in the order of the source, where its name stands at this offset.
+    GlobalObject {
+        from: u32,
+        place: u32,
+        ty: TypeId,
+    },
     /// The parameter or local of this place: first the parameters and then all locals of the function, in the order of
     /// the source.
     LocalObject(u32, TypeId),
@@ -53,14 +57,27 @@ pub enum Node {
     },
     /// The member of this number, in the order of the struct's definition.
     MemberOf(NodeId, u32, TypeId),
-    /// A function of the source, by its number.
-    SourceFunction(u32, TypeId),
-    BuiltinFunction(Builtin, TypeId),
+    /// A function of the source, by its number, where its name stands at this offset.
+    SourceFunction {
+        from: u32,
+        number: u32,
+        ty: TypeId,
+    },
+    /// A builtin, where its name stands at this offset.
+    BuiltinFunction {
+        from: u32,
+        builtin: Builtin,
+        ty: TypeId,
+    },
     /// The function that a pointer points to.
     Through(NodeId, TypeId),
     Constant(IntKind, i128),
-    /// The address of a function of the source, with the function's type.
-    FunctionAddress(u32, TypeId),
+    /// The address of a function of the source, which is named at this offset, with the function's type.
+    FunctionAddress {
+        from: u32,
+        number: u32,
+        ty: TypeId,
+    },
     /// What is read from an object that is no array; of a struct nothing is read.
     ReadOf(NodeId),
     /// A pointer of this type to an object, or to an array's first element.

@@ -23,7 +23,7 @@ impl TypedTable {
     {
         match self.get(id).value_source() {
             ValueSource::Read => Sort::Object,
-            ValueSource::Address(..) | ValueSource::Part(_) => Sort::Function,
+            ValueSource::Address { .. } | ValueSource::Part(_) => Sort::Function,
             ValueSource::Itself => Sort::Value,
         }
     }

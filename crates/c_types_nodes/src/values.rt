@@ -37,7 +37,11 @@ impl TypedTable {
         match self.get(id).value_source() {
             ValueSource::Itself => Ok(id),
             ValueSource::Read => self.read(id),
-            ValueSource::Address(number, ty) => self.add(Node::FunctionAddress(number, ty)),
+            ValueSource::Address { from, number, ty } => self.add(Node::FunctionAddress {
+                from,
+                number,
+                ty,
+            }),
             ValueSource::Part(value) => Ok(value),
         }
     }

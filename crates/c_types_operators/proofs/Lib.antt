@@ -6,3 +6,4 @@ mod Parameters
 mod Rules
 mod Targets
 mod Values
+mod RightSides

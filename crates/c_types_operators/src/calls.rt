@@ -76,18 +76,18 @@ pub fn called(table: &mut TypedTable, from: u32, node: NodeId) -> Result<CallTar
     }
 }
 
-/// What a call of a builtin calls, whose type is put into the table.
+/// What a call of a builtin calls, whose name stands at `from`, and whose type is put into the table.
 pub fn builtin_called(
     alloc: Global,
     table: &mut TypedTable,
     from: u32,
     builtin: Builtin,
 ) -> Result<CallTarget, TypeError>
-    ensures agrees { Agrees (IsCalled table.new) (called_by_rules from (AFunction (BuiltinFunction builtin) (prototype_of builtin))) result }
+    ensures agrees { Agrees (IsCalled table.new) (called_by_rules from (AFunction (BuiltinFunction from builtin) (prototype_of builtin))) result }
     ensures kept { Keeps table.old table.new }
 {
     let ty = add_prototype(alloc, table, builtin)?;
-    let callee = table.add(Node::BuiltinFunction(builtin, ty))?;
+    let callee = table.add(Node::BuiltinFunction { from, builtin, ty })?;
     of_function(table, from, callee)
 }
 

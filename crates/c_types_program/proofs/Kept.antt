@@ -53,12 +53,12 @@ module _ (t u : Table) (k : Keeps t u) where
     is_statement_kept (statements.Initialise place ty v) h = (is_type_kept ty h.0, is_value_kept v h.1)
     is_statement_kept (statements.If' v p s) h = (is_value_kept v h.0, is_statement_kept s h.1)
     is_statement_kept (statements.IfElse' v p s q z) h = (is_value_kept v h.0, is_statement_kept s h.1, is_statement_kept z h.2)
-    is_statement_kept (statements.While' v p s) h = (is_value_kept v h.0, is_statement_kept s h.1)
-    is_statement_kept (statements.Do' p s v) h = (is_statement_kept s h.0, is_value_kept v h.1)
-    is_statement_kept (statements.For' shape first v last p s) h = (are_statements_kept first h.0, is_maybe_kept v h.1, is_maybe_kept last h.2, is_statement_kept s h.3)
+    is_statement_kept (statements.While' from v p s) h = (is_value_kept v h.0, is_statement_kept s h.1)
+    is_statement_kept (statements.Do' from p s v) h = (is_statement_kept s h.0, is_value_kept v h.1)
+    is_statement_kept (statements.For' from shape first v last p s) h = (are_statements_kept first h.0, is_maybe_kept v h.1, is_maybe_kept last h.2, is_statement_kept s h.3)
     is_statement_kept statements.Break h = tt
     is_statement_kept statements.Continue h = tt
-    is_statement_kept (statements.Return v) h = is_maybe_kept v h
+    is_statement_kept (statements.Return from v) h = is_maybe_kept v h
 
     are_statements_kept : {m : Count} (ss : Row_of-Statement m) → AreStatements t ss → AreStatements u ss
     are_statements_kept end_of-Statement h = tt
@@ -73,15 +73,15 @@ module _ (t u : Table) (k : Keeps t u) where
     statement_kept (statements.IfElse' v p s q z) h =
         ap (λ x. tree.IfElse x (statement_in u s) (statement_in u z)) (value_kept v h.0)
         ∙ (ap (λ x. tree.IfElse (value_at t v) x (statement_in u z)) (statement_kept s h.1) ∙ ap (tree.IfElse (value_at t v) (statement_in t s)) (statement_kept z h.2))
-    statement_kept (statements.While' v p s) h = ap (λ x. tree.While x (statement_in u s)) (value_kept v h.0) ∙ ap (tree.While (value_at t v)) (statement_kept s h.1)
-    statement_kept (statements.Do' p s v) h = ap (λ x. tree.Do x (value_at u v)) (statement_kept s h.0) ∙ ap (tree.Do (statement_in t s)) (value_kept v h.1)
-    statement_kept (statements.For' shape first v last p s) h =
-        ap (λ x. tree.For x (maybe_at u v) (maybe_at u last) (statement_in u s)) (row_kept first h.0)
-        ∙ (ap (λ x. tree.For (row_in t first) x (maybe_at u last) (statement_in u s)) (maybe_kept v h.1)
-        ∙ (ap (λ x. tree.For (row_in t first) (maybe_at t v) x (statement_in u s)) (maybe_kept last h.2) ∙ ap (tree.For (row_in t first) (maybe_at t v) (maybe_at t last)) (statement_kept s h.3)))
+    statement_kept (statements.While' from v p s) h = ap (λ x. tree.While from x (statement_in u s)) (value_kept v h.0) ∙ ap (tree.While from (value_at t v)) (statement_kept s h.1)
+    statement_kept (statements.Do' from p s v) h = ap (λ x. tree.Do from x (value_at u v)) (statement_kept s h.0) ∙ ap (tree.Do from (statement_in t s)) (value_kept v h.1)
+    statement_kept (statements.For' from shape first v last p s) h =
+        ap (λ x. tree.For from x (maybe_at u v) (maybe_at u last) (statement_in u s)) (row_kept first h.0)
+        ∙ (ap (λ x. tree.For from (row_in t first) x (maybe_at u last) (statement_in u s)) (maybe_kept v h.1)
+        ∙ (ap (λ x. tree.For from (row_in t first) (maybe_at t v) x (statement_in u s)) (maybe_kept last h.2) ∙ ap (tree.For from (row_in t first) (maybe_at t v) (maybe_at t last)) (statement_kept s h.3)))
     statement_kept statements.Break h = refl
     statement_kept statements.Continue h = refl
-    statement_kept (statements.Return v) h = ap tree.Return (maybe_kept v h)
+    statement_kept (statements.Return from v) h = ap (tree.Return from) (maybe_kept v h)
 
     row_kept : {m : Count} (ss : Row_of-Statement m) → AreStatements t ss → row_in u ss ≡ row_in t ss
     row_kept end_of-Statement h = refl

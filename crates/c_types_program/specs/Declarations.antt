@@ -29,7 +29,7 @@ abbrev pub known_in : Known → initials.Known
 known_in (knowns.Number n) = initials.Number n
 known_in (knowns.AddressOfText from) = initials.AddressOfText from
 known_in (knowns.AddressOfGlobal place) = initials.AddressOfGlobal place
-known_in (knowns.AddressOfFunction number) = initials.AddressOfFunction number
+known_in (knowns.AddressOfFunction from number) = initials.AddressOfFunction from number
 
 abbrev mutual
   -- what the value of a global stands for
@@ -55,7 +55,7 @@ abbrev pub types_in : List Ty → List TypeId → List CType
 types_in types ids = map (type_at types) ids
 
 abbrev pub body_in : Table → Body → tree.Body
-body_in t b = record { locals = types_in t.types b.locals; statements = statement_in t b.statements }
+body_in t b = record { from = b.from; locals = types_in t.types b.locals; statements = statement_in t b.statements }
 
 abbrev pub function_in : Table → Function → sources.Function
 function_in t f = record { name = f.name; type = type_at t.types f.ty; body = option_map (body_in t) f.body }

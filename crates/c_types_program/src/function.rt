@@ -4,10 +4,11 @@ use crate::statement::Statement;
 use c_lexer::Text;
 use c_types_table::{TypeId, TypeIds};
 
-/// What a function does: the types of its parameters and then of all its locals, in the order of the source, and its
-/// statements.
+/// What a function does: the offset of its outermost block, the types of its parameters and then of all its locals, in the
+/// order of the source, and its statements.
 #[derive(Drop)]
 pub struct Body {
+    pub from: u32,
     pub locals: TypeIds,
     pub statements: Statement,
 }

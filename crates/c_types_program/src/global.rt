@@ -11,8 +11,8 @@ pub enum Known {
     AddressOfText(u32),
     /// That of the global of this place.
     AddressOfGlobal(u32),
-    /// That of the function of this number.
-    AddressOfFunction(u32),
+    /// That of the function of this number, which is named at this offset.
+    AddressOfFunction { from: u32, number: u32 },
 }
 
 /// What an object has before a run (C11 6.7.9); what isn't given is zero.

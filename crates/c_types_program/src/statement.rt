@@ -17,9 +17,19 @@ pub enum Statement {
     },
     If(NodeId, Box<Statement>),
     IfElse(NodeId, Box<Statement>, Box<Statement>),
-    While(NodeId, Box<Statement>),
-    Do(Box<Statement>, NodeId),
+    /// Loops, whose first word stands at this offset.
+    While {
+        from: u32,
+        condition: NodeId,
+        body: Box<Statement>,
+    },
+    Do {
+        from: u32,
+        body: Box<Statement>,
+        condition: NodeId,
+    },
     For {
+        from: u32,
         first: Vec<Statement>,
         condition: Option<NodeId>,
         last: Option<NodeId>,
@@ -27,5 +37,9 @@ pub enum Statement {
     },
     Break,
     Continue,
-    Return(Option<NodeId>),
+    /// `return` at this offset.
+    Return {
+        from: u32,
+        value: Option<NodeId>,
+    },
 }

@@ -1,12 +1,11 @@
 -- Integer constant expressions (C11 6.6).
-use Rattle.std.specs.Prelude.{ℕ, ℤ, pos, negsuc, ◌-ℤ◌, Bool, true, false, ◌&&◌, if◌then◌else◌, Option, Some, None, Result, Ok, Err, option_map}
-use Rattle.r2_num.specs.declared.kinds.IntKind.{IntKind}
+use Rattle.std.specs.Prelude.{ℤ, pos, negsuc, ◌-ℤ◌, Bool, true, false, ◌&&◌, if◌then◌else◌, Option, Some, None, Result, Ok, Err, option_map}
 use Rattle.r2_num.specs.declared.operations.Arith.{Arith}
 use Rattle.r2_num.specs.Conversions.{wrapped}
 use Rattle.r2_num.specs.Operations.{binary_of, equal, truth}
 use Rattle.c_types_model.specs.Types.{CType, Integer}
 use Rattle.c_types_rules.specs.TypeTests.{is_integer}
-use Rattle.c_types_rules.specs.TypedTree.{Value, Constant, FunctionAddress, ReadOf, AddressOf, Convert, Negate, Complement, Arithmetic, PointerSum, PointerDifference, PointerComparison, Not, Both, Either, Choice, Sequence, Assigned, Changed, Moved, Stepped, CallOf}
+use Rattle.c_types_rules.specs.TypedTree.{Value, Constant, Convert, Negate, Complement, Arithmetic, Not, Both, Either, Choice}
 
 -- every part is of integer constants, also one that isn't evaluated
 abbrev pub is_of_constants : Value → Bool

@@ -1,24 +1,43 @@
 -- The types of expressions and declarators (C11 6.5, 6.7.6, 6.7.7).
-use Rattle.std.specs.Prelude.{ℕ, zero, suc, ℤ, pos, negsuc, ◌+◌, nat_lt, nat_le, Bool, true, false, if◌then◌else◌, List, [], ◌∷◌, length, Option, Some, None, is_some, ◌^◌}
+use Rattle.std.specs.Prelude.{ℕ, zero, suc, ℤ, pos, ◌+◌, nat_lt, nat_le, Bool, true, false, if◌then◌else◌, List, [], ◌∷◌, length, Option, Some, None, ◌^◌}
 use Rattle.r2_num.specs.declared.kinds.IntKind.{IntKind}
 use Rattle.r2_num.specs.declared.kinds.IntKind.TheVariants.{I32, U32, I64, U64}
 use Rattle.c_lexer.specs.declared.token.Sign.{Sign}
 use Rattle.c_lexer.specs.declared.token.Sign.TheVariants as signs
 use Rattle.c_lexer.specs.declared.token.Suffix.{Suffix}
 use Rattle.c_lexer.specs.declared.token.Suffix.TheVariants as suffixes
-use Rattle.c_syntax.specs.Syntax.{Expr, Exprs, Decl, Decls, Annots, Annot, Items, Item, Atom, Parts, Name, Number, Char, Text, Binary, Assign, Cond, Prefix, Postfix, SizeofExpr, SizeofType, Cast, Index, Call, Member, Arrow, NoExprs, MoreExprs, Declare, NoDecls, MoreDecls, NoAnnots, MoreAnnots, Annotate, NoItems, MoreItems, OneFactor, TwoFactors, NameAtom, NumberAtom, ReturnAtom, SizeofAtom, NoParts, Pointer, Array, Params}
-use Rattle.c_types_model.specs.Types.{CType, CTypes, Void, Integer, PointerTo, ArrayOf, StructOf, UndefinedStruct, FunctionOf, NoTypes, MoreTypes}
+use Rattle.c_syntax.specs.Syntax.{Expr, Exprs, Decl, Decls, Annots, Annot, Items, Item, Atom, Parts, Name, Number, Char, Text, Binary, Assign, Cond, Prefix, Postfix, SizeofExpr, SizeofType, Cast, Index, Call, Member, Arrow, NoExprs, MoreExprs, Declare, NoDecls, MoreDecls, NoAnnots, MoreAnnots, Annotate, NoItems, MoreItems, OneFactor, TwoFactors, SizeofAtom, NoParts, Pointer, Array, Params}
+use Rattle.c_types_model.specs.Types.{CType, CTypes, PointerTo, ArrayOf, StructOf, UndefinedStruct, FunctionOf, NoTypes, MoreTypes}
 use Rattle.c_types_model.specs.Limits.{greatest_object}
 use Rattle.c_types_model.specs.declared.extent.Extent.{Extent}
 use Rattle.c_builtins.specs.declared.builtin.Builtin.{Builtin}
 use Rattle.c_builtins.specs.Table.{prototype_of}
 use Rattle.c_scopes.specs.Scopes.{same_name, meaning_of}
 use Rattle.c_types_rules.specs.Checked.{Checked, Fine, Broken, keep, need, small, ◌>>=◌, ◌>>◌}
-use Rattle.c_types_rules.specs.TypeTests.{is_scalar, is_function, is_result, is_complete, is_integer}
+use Rattle.c_types_rules.specs.TypeTests.{is_scalar, is_result, is_complete, is_integer}
 use Rattle.c_types_rules.specs.Constants.{integer_constant}
-use Rattle.c_types_rules.specs.Operators.{assigned, assignment, binary, cast, choice, pointer_sum, signed_operand, size_in, step, to_kind}
-use Rattle.c_types_rules.specs.TypedTree.{Object, Value, Values, Callee, Typed, Sum, Way, GlobalObject, LocalObject, TextObject, Pointed, Element, MemberOf, Constant, FunctionAddress, AddressOf, Sequence, CallOf, NoValues, MoreValues, SourceFunction, BuiltinFunction, Through, AnObject, AFunction, AValue, PointerPlus, PlusPointer, New, Old, Up, Down, object_type, value_type, typed_type, value_of, address_of_callee}
+use Rattle.c_types_rules.specs.Operators.{assigned, assignment, binary, cast, choice, signed_operand, size_in, step, to_kind}
+use Rattle.c_types_rules.specs.TypedTree.{Object, Value, Values, Callee, Typed, Sum, GlobalObject, LocalObject, TextObject, Pointed, Element, MemberOf, Constant, AddressOf, CallOf, NoValues, MoreValues, SourceFunction, BuiltinFunction, Through, AnObject, AFunction, AValue, PointerPlus, PlusPointer, New, Old, Up, Down, object_type, value_type, typed_type, value_of, address_of_callee}
 use Rattle.c_types_rules.specs.Environment.{Environment, Meaning, Struct, FunctionNamed, GlobalNamed, LocalNamed, extents, base_type, builtin_of, inner, with_name, declarable}
+
+-- the offset of an expression's first token
+abbrev pub start_of : Expr → ℕ
+start_of (Name from n) = from
+start_of (Number from n s d) = from
+start_of (Char from n) = from
+start_of (Text from bytes) = from
+start_of (Binary from s x y) = from
+start_of (Assign from s x y) = from
+start_of (Cond from x y z) = from
+start_of (Prefix from s x) = from
+start_of (Postfix from s x) = from
+start_of (SizeofExpr from x) = from
+start_of (SizeofType from d) = from
+start_of (Cast from d x) = from
+start_of (Index from x y) = from
+start_of (Call from x xs) = from
+start_of (Member from x name) = from
+start_of (Arrow from x name) = from
 
 -- ---- names and constants (C11 6.5.1, 6.4.4.1)
 
@@ -27,8 +46,8 @@ unknown_name from (Some b) = Broken from 19
 unknown_name from None = Broken from 1
 
 abbrev pub meant : (from : ℕ) → (name : List ℕ) → Option Meaning → Checked Typed
-meant from name (Some (FunctionNamed number t)) = Fine (AFunction (SourceFunction number) t)
-meant from name (Some (GlobalNamed place t)) = Fine (AnObject (GlobalObject place t))
+meant from name (Some (FunctionNamed number t)) = Fine (AFunction (SourceFunction from number) t)
+meant from name (Some (GlobalNamed place t)) = Fine (AnObject (GlobalObject from place t))
 meant from name (Some (LocalNamed place t)) = Fine (AnObject (LocalObject place t))
 meant from name None = unknown_name from (builtin_of name)
 
@@ -146,10 +165,11 @@ called from (AFunction f t) = do
   Fine (f, g.0, g.1)
 called from x = called_value from (value_of x) (value_type (value_of x))
 
+-- a builtin, whose name stands at this offset
 abbrev pub builtin_called : (from : ℕ) → Builtin → Checked (Callee × CType × CTypes)
 builtin_called from b = do
   g ← function_type from (prototype_of b)
-  Fine (BuiltinFunction b, g.0, g.1)
+  Fine (BuiltinFunction from b, g.0, g.1)
 
 -- the builtin that an expression names; None of any other expression
 abbrev pub builtin_unless : Option Meaning → List ℕ → Option Builtin
@@ -239,7 +259,7 @@ abbrev mutual
     b ← expression y env
     subscript (extents env) from (value_of a) (value_of b)
   expression (Call from x xs) env = do
-    f ← elim (builtin_in env x) [ Some b ↦ builtin_called from b | None ↦ expression x env >>= called from ]
+    f ← elim (builtin_in env x) [ Some b ↦ builtin_called (start_of x) b | None ↦ expression x env >>= called from ]
     vs ← arguments xs env from f.2
     Fine (AValue (CallOf f.0 vs f.1))
   expression (Member from x name) env = do
@@ -256,23 +276,28 @@ abbrev mutual
   arguments (MoreExprs x xs) env from NoTypes = Broken from 9
   arguments (MoreExprs x xs) env from (MoreTypes t ts) = do
     a ← expression x env
-    v ← assigned from t (value_of a)
+    v ← assigned (start_of x) t (value_of a)
     vs ← arguments xs env from ts
     Fine (MoreValues v vs)
 
   -- the type that a declaration gives its name
   pub declared_type : Decl → Environment → Checked CType
-  declared_type (Declare from an b ps n r) env = declarator_type ps env (base_type env b)
+  declared_type (Declare from an b ps n r) env = do
+    t ← declarator_type ps env (base_type env b)
+    small (is_small (extents env) t)
+    Fine t
 
-  -- the type of a declarator, from the part farthest from the name to the nearest
+  -- the type of a declarator, from the part farthest from the name to the nearest; what a pointer leads to and an array consists of is small
   pub declarator_type : Parts → Environment → CType → Checked CType
   declarator_type NoParts env t = Fine t
-  declarator_type (Pointer from ps) env t = declarator_type ps env (PointerTo t)
+  declarator_type (Pointer from ps) env t = do
+    small (is_small (extents env) t)
+    declarator_type ps env (PointerTo t)
   declarator_type (Array from x ps) env t = do
     complete (extents env) from t
+    small (is_small (extents env) t)
     a ← expression x env
     n ← length_of from (integer_constant (value_of a))
-    small (is_small (extents env) (ArrayOf n t))
     declarator_type ps env (ArrayOf n t)
   declarator_type (Params from ds ps) env t = do
     keep from 3 (is_result t)

@@ -1,24 +1,24 @@
 -- The values of globals (C11 6.7.9), which are known before a run begins.
-use Rattle.std.specs.Prelude.{ℕ, zero, suc, ℤ, pos, ◌+◌, ◌&&◌, nat_le, Bool, true, false, List, [], ◌∷◌, length, Option, Some, None, if◌then◌else◌}
+use Rattle.std.specs.Prelude.{ℕ, zero, suc, ℤ, ◌+◌, nat_le, Bool, false, List, [], ◌∷◌, length, Option, Some, None}
 use Rattle.r2_num.specs.declared.kinds.IntKind.TheVariants.{I8}
+use Rattle.r2_num.specs.Conversions.{wrapped}
 use Rattle.c_lexer.specs.declared.token.Sign.TheVariants as signs
 use Rattle.c_syntax.specs.Syntax.{Expr, Value as Written, Values as Writtens, Plain, Braces, NoValues, MoreValues, Name, Prefix, Text}
-use Rattle.c_types_model.specs.Types.{CType, Integer, PointerTo, ArrayOf, StructOf}
+use Rattle.c_types_model.specs.Types.{CType, Integer, ArrayOf, StructOf}
 use Rattle.c_types_rules.specs.Checked.{Checked, Fine, Broken, keep, need, ◌>>=◌, ◌>>◌}
-use Rattle.c_types_rules.specs.TypeTests.{is_array, is_integer}
-use Rattle.c_types_rules.specs.Constants.{integer_constant, converted, is_null}
+use Rattle.c_types_rules.specs.Constants.{integer_constant}
 use Rattle.c_types_rules.specs.Operators.{assigned}
-use Rattle.c_types_rules.specs.TypedTree.{Object, Value, Callee, Typed, AnObject, AFunction, AValue, GlobalObject, TextObject, SourceFunction, Convert, object_type, value_of, value_type}
+use Rattle.c_types_rules.specs.TypedTree.{Typed, AnObject, AFunction, GlobalObject, TextObject, SourceFunction, value_of}
 use Rattle.c_types_rules.specs.Environment.{Environment, Struct}
-use Rattle.c_types_rules.specs.Expressions.{expression}
-use Rattle.c_types_rules.specs.Statements.{start_of}
+use Rattle.c_types_rules.specs.Expressions.{start_of, expression}
 
 -- what a scalar has before a run: a number, or an address
 pub data Known : Type 0 where
   Number : ℤ → Known
   AddressOfText : (from : ℕ) → Known
   AddressOfGlobal : (place : ℕ) → Known
-  AddressOfFunction : (number : ℕ) → Known
+  -- the function of this number, which is named at this offset
+  AddressOfFunction : (from number : ℕ) → Known
 
 mutual
   -- what an object has before a run; what isn't given is zero
@@ -36,12 +36,12 @@ mutual
 -- a string, a function or a global array as the value of a pointer
 abbrev pub address_known : Typed → Option Known
 address_known (AnObject (TextObject from length)) = Some (AddressOfText from)
-address_known (AnObject (GlobalObject place (ArrayOf n t))) = Some (AddressOfGlobal place)
-address_known (AFunction (SourceFunction number) t) = Some (AddressOfFunction number)
+address_known (AnObject (GlobalObject from place (ArrayOf n t))) = Some (AddressOfGlobal place)
+address_known (AFunction (SourceFunction from number) t) = Some (AddressOfFunction from number)
 address_known _ = None
 
 abbrev pub global_known : Typed → Option Known
-global_known (AnObject (GlobalObject place t)) = Some (AddressOfGlobal place)
+global_known (AnObject (GlobalObject from place t)) = Some (AddressOfGlobal place)
 global_known _ = None
 
 -- a name or string that is a pointer's value before a run
@@ -55,27 +55,37 @@ abbrev pub named_under_address : Expr → Option Expr
 named_under_address (Prefix from signs.Ampersand (Name at name)) = Some (Name at name)
 named_under_address _ = None
 
--- a pointer's value: the constant 0, or the address of what is named
-abbrev pub pointer_known : Environment → Expr → Typed → Option Expr → Checked Known
-pointer_known env x a (Some y) = do
+-- the address of what is named, or stands under `&`
+abbrev pub address_in : Environment → Expr → Typed → Option Expr → Checked Known
+address_in env x a (Some y) = do
   b ← expression y env
   need (start_of x) 16 (global_known b)
-pointer_known env x a None = if is_null (value_of a) then Fine (Number (pos 0)) else need (start_of x) 16 (known_by x a)
+address_in env x a None = need (start_of x) 16 (known_by x a)
 
-abbrev pub known_as : Environment → Expr → Typed → CType → Checked Known
-known_as env x a (Integer k) = do
-  n ← need (start_of x) 16 (integer_constant (value_of a))
-  m ← need (start_of x) 16 (converted (Integer k) n)
-  Fine (Number m)
-known_as env x a t = pointer_known env x a (named_under_address x)
+abbrev pub number_or : Option ℤ → Checked Known → Checked Known
+number_or (Some n) c = Fine (Number n)
+number_or None c = c
+
+-- what is known before a run, whatever the type of its object: an integer constant expression, or an address
+abbrev pub known_before : Environment → Expr → Typed → Checked Known
+known_before env x a = number_or (integer_constant (value_of a)) (address_in env x a (named_under_address x))
+
+-- a number as an object of a type has it
+abbrev pub number_as : CType → ℤ → ℤ
+number_as (Integer k) n = wrapped k n
+number_as t n = n
+
+abbrev pub stored_as : CType → Known → Known
+stored_as t (Number n) = Number (number_as t n)
+stored_as t k = k
 
 -- the value of a scalar: known before a run, and converted as if by assignment
 abbrev pub known : Environment → CType → Expr → Checked Known
 known env t x = do
   a ← expression x env
-  k ← known_as env x a t
+  k ← known_before env x a
   assigned (start_of x) t (value_of a)
-  Fine k
+  Fine (stored_as t k)
 
 -- a string with its ending zero fits into an array of char (C11 6.7.9, 14)
 abbrev pub text_fits : ℕ → CType → List ℕ → Bool

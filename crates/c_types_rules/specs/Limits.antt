@@ -1,11 +1,10 @@
 -- Limits that a source may not exceed, where it breaks no rule of types.
-use Rattle.std.specs.Prelude.{ℕ, suc, ◌+◌, Bool, true, false, ◌&&◌, nat_le, max, if◌then◌else◌, List, [], ◌∷◌, length, map, Option, Some, None}
+use Rattle.std.specs.Prelude.{ℕ, suc, Bool, true, false, ◌&&◌, nat_le, max, if◌then◌else◌, List, [], ◌∷◌, length, map, Option, Some, None}
 use Rattle.std.specs.Int.{next_multiple_of}
 use Rattle.c_syntax.specs.Syntax.{Decls}
 use Rattle.c_types_model.specs.Types.{CType, CTypes, NoTypes, MoreTypes}
-use Rattle.c_types_model.specs.Layouts.{extent_of, end_from, scalar}
+use Rattle.c_types_model.specs.Layouts.{end_from}
 use Rattle.c_types_model.specs.Limits.{greatest_object, most_members}
-use Rattle.c_types_model.specs.declared.extent.Extent.{Extent}
 use Rattle.c_types_rules.specs.Checked.{Checked, Fine, Large, Broken}
 use Rattle.c_types_rules.specs.TypedTree as typed
 use Rattle.c_types_rules.specs.Environment.{Struct}

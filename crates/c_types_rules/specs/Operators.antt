@@ -1,5 +1,5 @@
 -- What operators make of values, and which rules they break (C11 6.3 and 6.5). `from` is the offset of the node.
-use Rattle.std.specs.Prelude.{ℕ, ℤ, pos, Bool, true, false, ◌&&◌, ◌||◌, not, if◌then◌else◌, List, Option, Some, None, is_some}
+use Rattle.std.specs.Prelude.{ℕ, Bool, true, false, ◌&&◌, ◌||◌, not, if◌then◌else◌, List, Option, Some, None}
 use Rattle.r2_num.specs.declared.kinds.IntKind.{IntKind}
 use Rattle.r2_num.specs.declared.kinds.IntKind.TheVariants.{I64, U64}
 use Rattle.r2_num.specs.declared.operations.Op.{Op}
@@ -7,13 +7,13 @@ use Rattle.r2_num.specs.declared.operations.Op.TheVariants.{Add, Sub, Mul, Div, 
 use Rattle.r2_num.specs.Conversions.{common_of, promoted}
 use Rattle.c_lexer.specs.declared.token.Sign.{Sign}
 use Rattle.c_lexer.specs.declared.token.Sign.TheVariants as signs
-use Rattle.c_types_model.specs.Types.{CType, Void, Integer, PointerTo, ArrayOf, StructOf, UndefinedStruct, FunctionOf}
+use Rattle.c_types_model.specs.Types.{CType, Void, Integer, PointerTo}
 use Rattle.c_types_model.specs.Layouts.{extent_of, capped}
 use Rattle.c_types_model.specs.declared.extent.Extent.{Extent}
 use Rattle.c_types_rules.specs.Checked.{Checked, Fine, Broken, keep, need, ◌>>=◌, ◌>>◌}
 use Rattle.c_types_rules.specs.TypeTests.{same_type, is_void, is_scalar, is_object, kind_in, is_complete, is_integer}
 use Rattle.c_types_rules.specs.Constants.{is_null}
-use Rattle.c_types_rules.specs.TypedTree.{Object, Value, Typed, AnObject, AFunction, AValue, Sum, PointerPlus, PlusPointer, PointerMinus, Way, Up, Down, Given, New, Old, Convert, Negate, Complement, Arithmetic, PointerSum, PointerDifference, PointerComparison, Not, Both, Either, Choice, Sequence, Assigned, Changed, Moved, Stepped, value_type, object_type, int}
+use Rattle.c_types_rules.specs.TypedTree.{Object, Value, Typed, AnObject, Sum, PointerPlus, PlusPointer, PointerMinus, Way, Up, Down, Given, Convert, Negate, Complement, Arithmetic, PointerSum, PointerDifference, PointerComparison, Not, Both, Either, Choice, Sequence, Assigned, Changed, Moved, Stepped, value_type, object_type}
 
 -- the size of a complete object type
 abbrev pub size_in : (structs : List Extent) → CType → ℕ
@@ -186,11 +186,31 @@ compound_of structs from Add o (PointerTo t) b = moved structs from Up o t b
 compound_of structs from Sub o (PointerTo t) b = moved structs from Down o t b
 compound_of structs from op o t b = Broken from 5
 
+-- whether the sum of these is a pointer, and the difference of these an integer: neither fits the object on the left (C11 6.5.6)
+abbrev pub sum_is_pointer : (structs : List Extent) → (left right : CType) → Bool
+sum_is_pointer structs (Integer j) (PointerTo u) = is_complete structs u
+sum_is_pointer structs _ _ = false
+
+abbrev pub difference_is_integer : (structs : List Extent) → (left right : CType) → Bool
+difference_is_integer structs (PointerTo t) (PointerTo u) = same_type t u && is_complete structs t
+difference_is_integer structs _ _ = false
+
+abbrev pub is_unfit : (structs : List Extent) → Op → (left right : CType) → Bool
+is_unfit structs Add t u = sum_is_pointer structs t u
+is_unfit structs Sub t u = difference_is_integer structs t u
+is_unfit structs _ t u = false
+
+-- the rule that the right side of a compound assignment breaks which is no integer
+abbrev pub rule_of_right : (structs : List Extent) → Op → (left right : CType) → ℕ
+rule_of_right structs op t u = if is_unfit structs op t u then 6 else 5
+
 abbrev pub assignment_of : (structs : List Extent) → (from : ℕ) → Option Op → Object → Value → Checked Value
 assignment_of structs from None o b = do
   v ← assigned from (object_type o) b
   Fine (Assigned o v)
-assignment_of structs from (Some op) o b = compound_of structs from op o (object_type o) b
+assignment_of structs from (Some op) o b = do
+  keep from (rule_of_right structs op (object_type o) (value_type b)) (is_integer (value_type b))
+  compound_of structs from op o (object_type o) b
 
 -- C11 6.5.16
 abbrev pub assignment : (structs : List Extent) → (from : ℕ) → Sign → Typed → Value → Checked Value

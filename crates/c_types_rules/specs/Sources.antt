@@ -1,10 +1,9 @@
 -- Whole sources (C11 6.9): structs, functions and globals.
-use Rattle.std.specs.Prelude.{ℕ, zero, suc, ◌+◌, ◌-◌, ◌==◌, Bool, true, false, not, ◌&&◌, ◌||◌, nat_le, List, [], ◌∷◌, ◌++◌, length, map, is_some, codes, Option, Some, None}
+use Rattle.std.specs.Prelude.{ℕ, zero, suc, ◌+◌, ◌-◌, ◌==◌, Bool, false, not, ◌&&◌, ◌||◌, nat_le, List, [], ◌∷◌, ◌++◌, length, map, is_some, codes, Option, Some, None}
 use Rattle.r2_num.specs.declared.kinds.IntKind.TheVariants.{I32}
-use Rattle.c_syntax.specs.declared.declaration.Base.{Base}
 use Rattle.c_syntax.specs.declared.declaration.Base.TheVariants as bases
-use Rattle.c_syntax.specs.Syntax.{Decl, Decls, Annots, Parts, Rest, Stmt, Block, Value as Written, Declare, NoDecls, MoreDecls, NoParts, Pointer, Array, Params, NoRest, Initial, Body, Members}
-use Rattle.c_types_model.specs.Types.{CType, CTypes, Void, Integer, FunctionOf, NoTypes, MoreTypes}
+use Rattle.c_syntax.specs.Syntax.{Decl, Decls, Parts, Rest, Stmt, Block, Declare, NoDecls, MoreDecls, NoParts, Pointer, Array, Params, NoRest, Initial, Body, Members}
+use Rattle.c_types_model.specs.Types.{CType, CTypes, Integer, FunctionOf, NoTypes, MoreTypes}
 use Rattle.c_types_model.specs.Layouts.{extent_of, scalar, struct_of}
 use Rattle.c_types_model.specs.Limits.{greatest_object}
 use Rattle.c_types_model.specs.declared.extent.Extent.{Extent}
@@ -13,9 +12,9 @@ use Rattle.c_scopes.specs.Scopes.{Scope, same_name, meaning_in}
 use Rattle.c_types_rules.specs.Checked.{Checked, Fine, Broken, keep, small, ◌>>=◌, ◌>>◌}
 use Rattle.c_types_rules.specs.TypeTests.{same_type}
 use Rattle.c_types_rules.specs.TypedTree as typed
-use Rattle.c_types_rules.specs.Environment.{Environment, Meaning, Struct, FunctionNamed, GlobalNamed, LocalNamed, extents, place_in, is_reserved, inner, with_name, declarable}
+use Rattle.c_types_rules.specs.Environment.{Environment, Meaning, Struct, FunctionNamed, GlobalNamed, extents, place_in, is_reserved, inner, declarable}
 use Rattle.c_types_rules.specs.Expressions.{annotation_types, complete, declared_name, declared_type, with_parameter}
-use Rattle.c_types_rules.specs.Statements.{Declared, Surroundings, statement, entries}
+use Rattle.c_types_rules.specs.Statements.{Declared, Surroundings, start_of_stmt, statement, entries}
 use Rattle.c_types_rules.specs.Initials as initials
 
 pub record Function : Type 0 where
@@ -181,7 +180,7 @@ abbrev pub body_of : Environment → CType → Parts → Stmt → Checked typed.
 body_of env t ps s = do
   within ← parameters (nearest ps) (inner env) 0 (params_of t)
   a ← block_of s (record { result = result_of t; in_loop = false }) (record { env = within; locals = listed (params_of t) })
-  Fine (record { locals = a.0; statements = a.1 })
+  Fine (record { from = start_of_stmt s; locals = a.0; statements = a.1 })
 
 -- a function that has a body once at most
 abbrev pub function_defined : List (List ℕ) → Program → (from place : ℕ) → (name : List ℕ) → CType → Parts → Stmt → Checked Program

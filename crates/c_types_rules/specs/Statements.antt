@@ -1,8 +1,6 @@
 -- Statements and the locals of functions (C11 6.8, 6.7.9).
-use Rattle.std.specs.Prelude.{ℕ, Bool, true, false, List, [], ◌∷◌, ◌++◌, length, Option, Some, None}
+use Rattle.std.specs.Prelude.{ℕ, Bool, true, List, [], ◌∷◌, ◌++◌, length}
 use Rattle.c_syntax.specs.Syntax.{Expr, MaybeExpr, Decl, Decls, Rest, Stmt, Entries, Entry, First, NoExpr, OneExpr, Declare, NoDecls, MoreDecls, Plain, Braces, NoRest, Initial, Body, Members, Block, Expression, If, IfElse, While, Do, For, Break, Continue, Return, NoEntries, MoreEntries, LocalEntry, StmtEntry, NoFirst, LocalFirst, ExprFirst}
-use Rattle.c_syntax.specs.Syntax.{Name, Number, Char, Text, Binary, Assign, Cond, Prefix, Postfix, SizeofExpr, SizeofType, Cast, Index, Call, Member, Arrow}
-use Rattle.c_syntax.specs.Syntax.{Value as Given}
 use Rattle.c_types_model.specs.Types.{CType, Void}
 use Rattle.c_types_rules.specs.Checked.{Checked, Fine, Broken, keep, ◌>>=◌, ◌>>◌}
 use Rattle.c_types_rules.specs.TypeTests.{is_scalar, is_void}
@@ -10,26 +8,20 @@ use Rattle.c_types_rules.specs.Operators.{assigned, scalar}
 use Rattle.c_types_rules.specs.TypedTree.{Value, MaybeValue, NoValue, OneValue, Statement, Statements, NoStatements, MoreStatements, joined, value_of}
 use Rattle.c_types_rules.specs.TypedTree as typed
 use Rattle.c_types_rules.specs.Environment.{Environment, LocalNamed, extents, inner, with_name, declarable}
-use Rattle.c_types_rules.specs.Expressions.{expression, declared_type, declared_name, complete}
+use Rattle.c_types_rules.specs.Expressions.{start_of, expression, declared_type, declared_name, complete}
 
--- the offset of an expression's first token
-abbrev pub start_of : Expr → ℕ
-start_of (Name from n) = from
-start_of (Number from n s d) = from
-start_of (Char from n) = from
-start_of (Text from bytes) = from
-start_of (Binary from s x y) = from
-start_of (Assign from s x y) = from
-start_of (Cond from x y z) = from
-start_of (Prefix from s x) = from
-start_of (Postfix from s x) = from
-start_of (SizeofExpr from x) = from
-start_of (SizeofType from d) = from
-start_of (Cast from d x) = from
-start_of (Index from x y) = from
-start_of (Call from x xs) = from
-start_of (Member from x name) = from
-start_of (Arrow from x name) = from
+-- the offset of a statement's first token
+abbrev pub start_of_stmt : Stmt → ℕ
+start_of_stmt (Block from es) = from
+start_of_stmt (Expression from x) = from
+start_of_stmt (If from x s) = from
+start_of_stmt (IfElse from x s z) = from
+start_of_stmt (While from x s) = from
+start_of_stmt (Do from s x) = from
+start_of_stmt (For from f x y s) = from
+start_of_stmt (Break from) = from
+start_of_stmt (Continue from) = from
+start_of_stmt (Return from x) = from
 
 -- where a statement stands: in a function that gives this, and in a loop or not
 pub record Surroundings : Type 0 where
@@ -105,12 +97,12 @@ locals_of (MoreDecls x xs) d = do
 
 -- C11 6.8.6.4
 abbrev pub returned : Environment → (from : ℕ) → CType → MaybeExpr → Checked Statement
-returned env from t NoExpr = keep from 12 (is_void t) >> Fine (typed.Return NoValue)
+returned env from t NoExpr = keep from 12 (is_void t) >> Fine (typed.Return from NoValue)
 returned env from Void (OneExpr x) = Broken from 12
 returned env from t (OneExpr x) = do
   v ← value_in env x
   w ← assigned (start_of x) t v
-  Fine (typed.Return (OneValue w))
+  Fine (typed.Return from (OneValue w))
 
 abbrev pub evaluated : MaybeValue → Statement
 evaluated NoValue = typed.Block NoStatements
@@ -144,17 +136,17 @@ abbrev mutual
   statement (While from x s) p d = do
     c ← condition_in d.env x
     a ← statement s (looping p) d
-    Fine (a.0, typed.While c a.1)
+    Fine (a.0, typed.While from c a.1)
   statement (Do from s x) p d = do
     a ← statement s (looping p) d
     c ← condition_in d.env x
-    Fine (a.0, typed.Do a.1 c)
+    Fine (a.0, typed.Do from a.1 c)
   statement (For from f x y s) p d = do
     a ← first f p (inside d)
     c ← maybe_condition a.0.env x
     z ← maybe_in a.0.env y
     b ← statement s (looping p) a.0
-    Fine (b.0, typed.For a.1 c z b.1)
+    Fine (b.0, typed.For from a.1 c z b.1)
   statement (Break from) p d = keep from 11 p.in_loop >> Fine (d.locals, typed.Break)
   statement (Continue from) p d = keep from 11 p.in_loop >> Fine (d.locals, typed.Continue)
   statement (Return from x) p d = do

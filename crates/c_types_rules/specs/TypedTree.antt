@@ -4,7 +4,7 @@ use Rattle.r2_num.specs.declared.kinds.IntKind.{IntKind}
 use Rattle.r2_num.specs.declared.kinds.IntKind.TheVariants.{I8, I32, I64}
 use Rattle.r2_num.specs.declared.operations.Op.{Op}
 use Rattle.r2_num.specs.declared.operations.Op.TheVariants.{Eq, Ne, Lt, Le, Gt, Ge}
-use Rattle.c_types_model.specs.Types.{CType, Void, Integer, PointerTo, ArrayOf}
+use Rattle.c_types_model.specs.Types.{CType, Integer, PointerTo, ArrayOf}
 use Rattle.c_builtins.specs.declared.builtin.Builtin.{Builtin}
 
 -- in which order a pointer and an integer stand, and whether the integer is taken away (C11 6.5.6)
@@ -26,8 +26,8 @@ pub data Way : Type 0 where
 mutual
   -- what designates an object (C11 6.3.2.1, 1)
   pub data Object : Type 0 where
-    -- the global of this place, in the order of the source
-    GlobalObject : (place : ℕ) → CType → Object
+    -- the global of this place, in the order of the source, where its name stands at this offset
+    GlobalObject : (from place : ℕ) → CType → Object
     -- the parameter or local of this place: first the parameters and then all locals of the function, in the order of the source
     LocalObject : (place : ℕ) → CType → Object
     -- the string that stands at this offset, without its ending zero so long
@@ -41,7 +41,8 @@ mutual
   -- what gives a value
   pub data Value : Type 0 where
     Constant : IntKind → ℤ → Value
-    FunctionAddress : (number : ℕ) → CType → Value
+    -- the address of the function of this number, which is named at this offset
+    FunctionAddress : (from number : ℕ) → CType → Value
     -- what is read from an object that is no array; of a struct nothing is read
     ReadOf : Object → Value
     -- a pointer of this type to an object, or to an array's first element
@@ -76,8 +77,9 @@ mutual
     MoreValues : Value → Values → Values
 
   pub data Callee : Type 0 where
-    SourceFunction : (number : ℕ) → Callee
-    BuiltinFunction : Builtin → Callee
+    -- the function of this number, or a builtin, which is named at this offset
+    SourceFunction : (from number : ℕ) → Callee
+    BuiltinFunction : (from : ℕ) → Builtin → Callee
     Through : Value → Callee
 
 -- what an expression is: an object, a function, or a value
@@ -98,12 +100,14 @@ mutual
     Initialise : (place : ℕ) → CType → Value → Statement
     If : Value → Statement → Statement
     IfElse : Value → Statement → Statement → Statement
-    While : Value → Statement → Statement
-    Do : Statement → Value → Statement
-    For : (first : Statements) → (condition last : MaybeValue) → Statement → Statement
+    -- loops, whose first word stands at this offset
+    While : (from : ℕ) → Value → Statement → Statement
+    Do : (from : ℕ) → Statement → Value → Statement
+    For : (from : ℕ) → (first : Statements) → (condition last : MaybeValue) → Statement → Statement
     Break : Statement
     Continue : Statement
-    Return : MaybeValue → Statement
+    -- `return` at this offset
+    Return : (from : ℕ) → MaybeValue → Statement
 
   pub data Statements : Type 0 where
     NoStatements : Statements
@@ -114,8 +118,9 @@ abbrev pub joined : Statements → Statements → Statements
 joined NoStatements b = b
 joined (MoreStatements s a) b = MoreStatements s (joined a b)
 
--- what a function does: the types of its parameters and locals by place, and its statements
+-- what a function does: the offset of its outermost block, the types of its parameters and locals by place, and its statements
 pub record Body : Type 0 where
+  pub from : ℕ
   pub locals : List CType
   pub statements : Statement
 
@@ -129,7 +134,7 @@ abbrev pub long : CType
 long = Integer I64
 
 abbrev pub object_type : Object → CType
-object_type (GlobalObject place t) = t
+object_type (GlobalObject from place t) = t
 object_type (LocalObject place t) = t
 object_type (TextObject from length) = ArrayOf (length + 1) char
 object_type (Pointed v t) = t
@@ -148,7 +153,7 @@ result_kind op k = k
 
 abbrev pub value_type : Value → CType
 value_type (Constant k n) = Integer k
-value_type (FunctionAddress number t) = PointerTo t
+value_type (FunctionAddress from number t) = PointerTo t
 value_type (ReadOf o) = object_type o
 value_type (AddressOf o t) = t
 value_type (Convert t v) = t
@@ -182,8 +187,8 @@ read_as o t = ReadOf o
 
 -- a function is converted to its address (C11 6.3.2.1, 4); a builtin has none
 abbrev pub address_of_callee : Callee → CType → Value
-address_of_callee (SourceFunction number) t = FunctionAddress number t
-address_of_callee (BuiltinFunction b) t = FunctionAddress 0 t
+address_of_callee (SourceFunction from number) t = FunctionAddress from number t
+address_of_callee (BuiltinFunction from b) t = FunctionAddress from 0 t
 address_of_callee (Through v) t = v
 
 abbrev pub value_of : Typed → Value

@@ -53,18 +53,18 @@ module _ (N : Nodes) (i : StmtId) (node : StmtNode) (at : stmt_at N i ≡ Some n
         let q = if_else_only N i node.from x y z s (node, at, refl, kind) k in
         same_statement a b is p d r s (IfElse node.from q.0 q.1 q.2) (sym q.3) (h q.0 q.1 q.2 q.4 q.5 q.6)
 
-    pub while_arm : (x : ExprId) (y : StmtId) → node.kind ≡ stmts.While x y → ((e : Expr) (z : Stmt) → Stands N x e → StandsStmt N y z → Finds a b is (statement (While 0 e z) p d) r) → (s : Stmt) → StandsStmt N i s → Finds a b is (statement s p d) r
+    pub while_arm : (x : ExprId) (y : StmtId) → node.kind ≡ stmts.While x y → ((e : Expr) (z : Stmt) → Stands N x e → StandsStmt N y z → Finds a b is (statement (While node.from e z) p d) r) → (s : Stmt) → StandsStmt N i s → Finds a b is (statement s p d) r
     while_arm x y kind h s k =
         let q = while_only N i node.from x y s (node, at, refl, kind) k in
         same_statement a b is p d r s (While node.from q.0 q.1) (sym q.2) (h q.0 q.1 q.3 q.4)
 
-    pub do_arm : (x : StmtId) (y : ExprId) → node.kind ≡ stmts.Do x y → ((z : Stmt) (e : Expr) → StandsStmt N x z → Stands N y e → Finds a b is (statement (Do 0 z e) p d) r) → (s : Stmt) → StandsStmt N i s → Finds a b is (statement s p d) r
+    pub do_arm : (x : StmtId) (y : ExprId) → node.kind ≡ stmts.Do x y → ((z : Stmt) (e : Expr) → StandsStmt N x z → Stands N y e → Finds a b is (statement (Do node.from z e) p d) r) → (s : Stmt) → StandsStmt N i s → Finds a b is (statement s p d) r
     do_arm x y kind h s k =
         let q = do_only N i node.from x y s (node, at, refl, kind) k in
         same_statement a b is p d r s (Do node.from q.0 q.1) (sym q.2) (h q.0 q.1 q.3 q.4)
 
     pub for_arm : (f : Begin) (x y : Option ExprId) (z : StmtId) → node.kind ≡ stmts.For f x y z
-        → ((g : First) (u v : MaybeExpr) (w : Stmt) → StandsFirst N f g → StandsMaybe N x u → StandsMaybe N y v → StandsStmt N z w → Finds a b is (statement (For 0 g u v w) p d) r)
+        → ((g : First) (u v : MaybeExpr) (w : Stmt) → StandsFirst N f g → StandsMaybe N x u → StandsMaybe N y v → StandsStmt N z w → Finds a b is (statement (For node.from g u v w) p d) r)
         → (s : Stmt) → StandsStmt N i s → Finds a b is (statement s p d) r
     for_arm f x y z kind h s k =
         let q = for_only N i node.from f x y z s (node, at, refl, kind) k in

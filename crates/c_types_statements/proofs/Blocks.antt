@@ -1,5 +1,5 @@
 -- Scopes around statements.
-use Rattle.std.proofs.Common.{◌≡◌, List, [], ◌∷◌, ◌++◌, Result, Ok, Err, refl, sym, subst}
+use Rattle.std.proofs.Common.{◌≡◌, ℕ, List, [], ◌∷◌, ◌++◌, Result, Ok, Err, refl, sym, subst}
 use Rattle.std.specs.Prelude.{Vec}
 use Rattle.std.specs.declared.alloc.Global.{Global}
 use Rattle.c_syntax.specs.declared.id.DeclId.{DeclId}
@@ -40,10 +40,10 @@ module _ (a b : State) (p : Surroundings) (locals found : List TypeId) (es : Ent
   block_broken e h = stopped_in a.found_large b.found_large b.found_large (AreTyped b found) (IsTyped (closed b) found) (entries es (place_in (opened a) p) (declared_in (opened a) locals)) (λ y. Fine (y.0, typed.Block y.1)) e h
 
 -- a `for` with the scope of its names
-pub for_found : (a b : State) (p : Surroundings) (locals found : List TypeId) (f : First) (x y : MaybeExpr) (s : Stmt) (r : Result Statement TypeError)
-    → Finds (opened a) b (IsTyped b found) (for_here f x y s (place_in (opened a) p) (declared_in (opened a) locals)) r
-    → Finds a (closed b) (IsTyped (closed b) found) (statement (For 0 f x y s) (place_in a p) (declared_in a locals)) r
-for_found a b p locals found f x y s r h = h
+pub for_found : (a b : State) (p : Surroundings) (locals found : List TypeId) (from : ℕ) (f : First) (x y : MaybeExpr) (s : Stmt) (r : Result Statement TypeError)
+    → Finds (opened a) b (IsTyped b found) (for_here from f x y s (place_in (opened a) p) (declared_in (opened a) locals)) r
+    → Finds a (closed b) (IsTyped (closed b) found) (statement (For from f x y s) (place_in a p) (declared_in a locals)) r
+for_found a b p locals found from f x y s r h = h
 
 -- ---- a statement in a block
 

@@ -11,10 +11,10 @@ use Rattle.c_types_table.specs.declared.ids.TypeId.{TypeId}
 use Rattle.c_types_table.specs.Tables.{type_at, types_of}
 use Rattle.c_types_rules.specs.Checked.{Checked, Fine, Large, Broken, keep, ◌>>=◌, ◌>>◌}
 use Rattle.c_types_rules.specs.Environment.{Environment, LocalNamed, declarable, extents, with_name}
-use Rattle.c_types_rules.specs.Expressions.{complete, declared_name, declared_type}
+use Rattle.c_types_rules.specs.Expressions.{complete, declared_name, declared_type, start_of}
 use Rattle.c_types_rules.specs.Operators.{assigned}
 use Rattle.c_types_rules.specs.Sources as sources
-use Rattle.c_types_rules.specs.Statements.{first_value, start_of, value_in}
+use Rattle.c_types_rules.specs.Statements.{first_value, value_in}
 use Rattle.c_types_rules.specs.TypeTests.{is_scalar}
 use Rattle.c_types_rules.specs.TypedTree as typed
 use Rattle.c_types_rules.specs.TypedTree.{MoreStatements, NoStatements, Statements, Value}

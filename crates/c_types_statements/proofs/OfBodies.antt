@@ -1,5 +1,5 @@
 -- What functions do, by their parameters and their block.
-use Rattle.std.proofs.Common.{◌≡◌, false, List, [], ◌∷◌, length, map, Some, Result, Ok, Err, refl, sym, ap, ◌∙◌, subst}
+use Rattle.std.proofs.Common.{◌≡◌, ℕ, false, List, [], ◌∷◌, length, map, Some, Result, Ok, Err, refl, sym, ap, ◌∙◌, subst}
 use Rattle.std.specs.Prelude.{Vec}
 use Rattle.std.specs.declared.alloc.Global.{Global}
 use Rattle.std.specs.List.{All}
@@ -19,7 +19,7 @@ use Rattle.c_types_rules.specs.Environment.{Environment}
 use Rattle.c_types_rules.specs.TypedTree as typed
 use Rattle.c_types_rules.specs.Sources.{block_of, listed, parameters, params_of, result_of}
 use Rattle.c_types_rules.specs.Statements as rules
-use Rattle.c_types_rules.specs.Statements.{Declared, entries, statement}
+use Rattle.c_types_rules.specs.Statements.{Declared, entries, start_of_stmt, statement}
 use Rattle.c_types_nodes.specs.Tables.{Table}
 use Rattle.c_types_program.specs.declared.function.Body.{Body}
 use Rattle.c_types_program.specs.declared.statement.Statement.{Statement}
@@ -79,15 +79,16 @@ listed_types : (ts : List CType) (ids : List TypeId) → listed (all_at ts ids) 
 listed_types ts [] = refl
 listed_types ts (id ∷ ids) = ap (λ z. at ts id ∷ z) (listed_types ts ids)
 
-body_stands : (d : State) (found : List TypeId) (made : Statement) (body : Body) (y : List CType × typed.Statement) → body.locals ≡ found → body.statements ≡ made → All (IsBelow (length d.table.types)) found → IsTyped d found y made
-    → BodyStands d.table (record { locals = y.0; statements = y.1 }) body
-body_stands d found made body y e f below h = record {
+body_stands : (d : State) (found : List TypeId) (made : Statement) (body : Body) (from : ℕ) (y : List CType × typed.Statement) → body.from ≡ from → body.locals ≡ found → body.statements ≡ made → All (IsBelow (length d.table.types)) found → IsTyped d found y made
+    → BodyStands d.table (record { from = from; locals = y.0; statements = y.1 }) body
+body_stands d found made body from y g e f below h = record {
   inside = (subst (All (IsBelow (length d.table.types))) (sym e) below, subst (IsStatement d.table) (sym f) h.1.inside);
   is =
-      ap (λ z. record { locals = types_in d.table.types z; statements = statement_in d.table body.statements }) e
-      ∙ (ap (λ z. record { locals = types_in d.table.types found; statements = statement_in d.table z }) f
-      ∙ (ap (λ z. record { locals = z; statements = statement_in d.table made }) h.0
-      ∙ ap (λ z. record { locals = y.0; statements = z }) h.1.is));
+      ap (λ z. record { from = z; locals = types_in d.table.types body.locals; statements = statement_in d.table body.statements }) g
+      ∙ (ap (λ z. record { from = from; locals = types_in d.table.types z; statements = statement_in d.table body.statements }) e
+      ∙ (ap (λ z. record { from = from; locals = types_in d.table.types found; statements = statement_in d.table z }) f
+      ∙ (ap (λ z. record { from = from; locals = z; statements = statement_in d.table made }) h.0
+      ∙ ap (λ z. record { from = from; locals = y.0; statements = z }) h.1.is)));
 }
 
 module _ (a b d : State) (sig : Signature) (c : CType) (ds : Decls) (s : Stmt) (is : IsSignature a.table.types c sig) where
@@ -96,7 +97,7 @@ module _ (a b d : State) (sig : Signature) (c : CType) (ds : Decls) (s : Stmt) (
   block_place = record { result = result_of c; in_loop = false }
 
   abbrev block_part : Environment → Checked typed.Body
-  block_part within = block_of s block_place (record { env = within; locals = listed (params_of c) }) >>= (λ y. Fine (record { locals = y.0; statements = y.1 }))
+  block_part within = block_of s block_place (record { env = within; locals = listed (params_of c) }) >>= (λ y. Fine (record { from = start_of_stmt s; locals = y.0; statements = y.1 }))
 
   in_turn_declared : {B : Type 0} (r : Result B TypeError) (goes : Environment → B → Type 0) → Finds a b goes (parameters ds a.env 0 (all_at (types_of a.table.types) sig.params.items)) r → Finds a b goes (parameters ds a.env 0 (params_of c)) r
   in_turn_declared r goes h = let P : CTypes → Type 0 = λ z. Finds a b goes (parameters ds a.env 0 z) r in subst P is.params h
@@ -121,13 +122,13 @@ module _ (a b d : State) (sig : Signature) (c : CType) (ds : Decls) (s : Stmt) (
     pub block_broken : (found : List TypeId) (e : TypeError) → Finds b d (IsTyped d found) (block_of s (place_in b q) (declared_in b sig.params.items)) (Err e) → Finds a d (BodyStands d.table) (body_here a.env c ds s) (Err e)
     block_broken found e h =
         gone_on a.found_large b.found_large d.found_large (IsEnv b) (BodyStands d.table) (parameters ds a.env 0 (params_of c)) block_part tt (Err e) (in_turn_declared (Ok tt) (IsEnv b) declared) (λ within at.
-        stopped_in b.found_large d.found_large d.found_large (IsTyped d found) (BodyStands d.table) (block_of s block_place (record { env = within; locals = listed (params_of c) })) (λ y. Fine (record { locals = y.0; statements = y.1 })) e
+        stopped_in b.found_large d.found_large d.found_large (IsTyped d found) (BodyStands d.table) (block_of s block_place (record { env = within; locals = listed (params_of c) })) (λ y. Fine (record { from = start_of_stmt s; locals = y.0; statements = y.1 })) e
         (moved (IsTyped d found) (Err e) within at h))
 
     pub body_found : (found : List TypeId) (made : Statement) (body : Body) → Finds b d (IsTyped d found) (block_of s (place_in b q) (declared_in b sig.params.items)) (Ok made)
-        → All (IsBelow (length d.table.types)) found → body.locals ≡ found → body.statements ≡ made → Finds a d (BodyStands d.table) (body_here a.env c ds s) (Ok body)
-    body_found found made body h below e f =
+        → All (IsBelow (length d.table.types)) found → body.from ≡ start_of_stmt s → body.locals ≡ found → body.statements ≡ made → Finds a d (BodyStands d.table) (body_here a.env c ds s) (Ok body)
+    body_found found made body h below g e f =
         gone_on a.found_large b.found_large d.found_large (IsEnv b) (BodyStands d.table) (parameters ds a.env 0 (params_of c)) block_part tt (Ok body) (in_turn_declared (Ok tt) (IsEnv b) declared) (λ within at.
-        gone_on b.found_large d.found_large d.found_large (IsTyped d found) (BodyStands d.table) (block_of s block_place (record { env = within; locals = listed (params_of c) })) (λ y. Fine (record { locals = y.0; statements = y.1 })) made (Ok body)
+        gone_on b.found_large d.found_large d.found_large (IsTyped d found) (BodyStands d.table) (block_of s block_place (record { env = within; locals = listed (params_of c) })) (λ y. Fine (record { from = start_of_stmt s; locals = y.0; statements = y.1 })) made (Ok body)
         (moved (IsTyped d found) (Ok made) within at h)
-        (λ y typed_so. (body_stands d found made body y e f below typed_so, refl)))
+        (λ y typed_so. (body_stands d found made body (start_of_stmt s) y g e f below typed_so, refl)))

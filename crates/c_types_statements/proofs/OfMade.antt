@@ -18,9 +18,9 @@ use Rattle.c_types_statements.specs.Typed.{MaybeStands, StatementStands, Stateme
 use Rattle.c_types_statements.proofs.Added.{none_stand}
 use Rattle.c_types_statements.proofs.Kept.{value_stands}
 
-for_made : (t : Table) (v : Vec Statement Global) (condition last : Option NodeId) (body : Box Statement Global)
-    → AllStatements t v.items → IsMaybeAt t condition → IsMaybeAt t last → IsStatement t body.value → IsStatement t (For v condition last body)
-for_made t v condition last body h p q k = search (rules, the_lemmas, are_statements)
+for_made : (t : Table) (from : ℕ) (v : Vec Statement Global) (condition last : Option NodeId) (body : Box Statement Global)
+    → AllStatements t v.items → IsMaybeAt t condition → IsMaybeAt t last → IsStatement t body.value → IsStatement t (For from v condition last body)
+for_made t from v condition last body h p q k = search (rules, the_lemmas, are_statements)
 
 module _ (t : Table) where
   -- ---- statements that hold others
@@ -41,24 +41,24 @@ module _ (t : Table) where
         is = ap (λ y. typed.IfElse y (statement_in t b.value) (statement_in t c.value)) one.0 ∙ (ap (λ y. typed.IfElse x y (statement_in t c.value)) k.is ∙ ap (typed.IfElse x s) l.is);
       }
 
-  pub while_stands : (v : NodeId) (b : Box Statement Global) (x : Value) (s : typed.Statement) → IsAt t x v → StatementStands t s b.value → StatementStands t (typed.While x s) (While v b)
-  while_stands v b x s h k =
+  pub while_stands : (from : ℕ) (v : NodeId) (b : Box Statement Global) (x : Value) (s : typed.Statement) → IsAt t x v → StatementStands t s b.value → StatementStands t (typed.While from x s) (While from v b)
+  while_stands from v b x s h k =
       let one = value_stands t x v h in
-      record { inside = (one.1, k.inside); is = ap (λ z. typed.While z (statement_in t b.value)) one.0 ∙ ap (typed.While x) k.is }
+      record { inside = (one.1, k.inside); is = ap (λ z. typed.While from z (statement_in t b.value)) one.0 ∙ ap (typed.While from x) k.is }
 
-  pub do_stands : (b : Box Statement Global) (v : NodeId) (s : typed.Statement) (x : Value) → StatementStands t s b.value → IsAt t x v → StatementStands t (typed.Do s x) (Do b v)
-  do_stands b v s x k h =
+  pub do_stands : (from : ℕ) (b : Box Statement Global) (v : NodeId) (s : typed.Statement) (x : Value) → StatementStands t s b.value → IsAt t x v → StatementStands t (typed.Do from s x) (Do from b v)
+  do_stands from b v s x k h =
       let one = value_stands t x v h in
-      record { inside = (k.inside, one.1); is = ap (λ z. typed.Do z (value_at t v)) k.is ∙ ap (typed.Do s) one.0 }
+      record { inside = (k.inside, one.1); is = ap (λ z. typed.Do from z (value_at t v)) k.is ∙ ap (typed.Do from s) one.0 }
 
-  pub for_stands : (v : Vec Statement Global) (condition last : Option NodeId) (b : Box Statement Global) (xs : Statements) (x y : MaybeValue) (s : typed.Statement) → StatementsStand t xs v.items → MaybeStands t x condition → MaybeStands t y last
-      → StatementStands t s b.value → StatementStands t (typed.For xs x y s) (For v condition last b)
-  for_stands v condition last b xs x y s h p q k = record {
-    inside = for_made t v condition last b h.inside p.inside q.inside k.inside;
+  pub for_stands : (from : ℕ) (v : Vec Statement Global) (condition last : Option NodeId) (b : Box Statement Global) (xs : Statements) (x y : MaybeValue) (s : typed.Statement) → StatementsStand t xs v.items → MaybeStands t x condition → MaybeStands t y last
+      → StatementStands t s b.value → StatementStands t (typed.For from xs x y s) (For from v condition last b)
+  for_stands from v condition last b xs x y s h p q k = record {
+    inside = for_made t from v condition last b h.inside p.inside q.inside k.inside;
     is =
-        for_means t v condition last b
-        ∙ (ap (λ z. typed.For z (maybe_at t condition) (maybe_at t last) (statement_in t b.value)) h.is
-        ∙ (ap (λ z. typed.For xs z (maybe_at t last) (statement_in t b.value)) p.is ∙ (ap (λ z. typed.For xs x z (statement_in t b.value)) q.is ∙ ap (typed.For xs x y) k.is)));
+        for_means t from v condition last b
+        ∙ (ap (λ z. typed.For from z (maybe_at t condition) (maybe_at t last) (statement_in t b.value)) h.is
+        ∙ (ap (λ z. typed.For from xs z (maybe_at t last) (statement_in t b.value)) p.is ∙ (ap (λ z. typed.For from xs x z (statement_in t b.value)) q.is ∙ ap (typed.For from xs x y) k.is)));
   }
 
   -- ---- statements of values
@@ -80,8 +80,8 @@ module _ (t : Table) where
       let one = value_stands t x v h in
       record { inside = (names.inside, one.1); is = ap (λ z. typed.Initialise place z (value_at t v)) names.is ∙ ap (typed.Initialise place c) one.0 }
 
-  pub return_stands : (v : NodeId) (x : Value) → IsAt t x v → StatementStands t (typed.Return (OneValue x)) (Return (Some v))
-  return_stands v x h = let one = value_stands t x v h in record { inside = one.1; is = ap (λ z. typed.Return (OneValue z)) one.0 }
+  pub return_stands : (from : ℕ) (v : NodeId) (x : Value) → IsAt t x v → StatementStands t (typed.Return from (OneValue x)) (Return from (Some v))
+  return_stands from v x h = let one = value_stands t x v h in record { inside = one.1; is = ap (λ z. typed.Return from (OneValue z)) one.0 }
 
   -- ---- statements that are the same in each table
 

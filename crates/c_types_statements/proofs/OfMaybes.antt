@@ -67,7 +67,7 @@ module _ (N : Nodes) (i : Option ExprId) (j : ExprId) (one : i ≡ Some j) (a : 
     -- its value is returned
     module _ (from : ℕ) (t : CType) where
       pub a_return : (v : NodeId) (s : Statement) → is_void t ≡ false → ((y : Expr) → Stands N j y → Finds a b (IsAt b.table) (converted_in a.env t y) (Ok v))
-          → ((u : Value) → IsAt b.table u v → StatementStands b.table (typed.Return (OneValue u)) s) → Finds a b (StatementStands b.table) (returned a.env from t x) (Ok s)
+          → ((u : Value) → IsAt b.table u v → StatementStands b.table (typed.Return from (OneValue u)) s) → Finds a b (StatementStands b.table) (returned a.env from t x) (Ok s)
       a_return v s gives k makes =
           let P : MaybeExpr → Type 0 = λ z. Finds a b (StatementStands b.table) (returned a.env from t z) (Ok s) in
           subst P (sym one_given.1) (returned_found a b from t one_given.0 v s gives (k one_given.0 one_given.2) makes)

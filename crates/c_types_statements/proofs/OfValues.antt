@@ -9,9 +9,9 @@ use Rattle.c_types_table.specs.declared.ids.TypeId.{TypeId}
 use Rattle.c_types_table.specs.Tables.{IsBelow, type_at}
 use Rattle.c_types_rules.specs.Checked.{Checked, Fine, ◌>>=◌, ◌>>◌}
 use Rattle.c_types_rules.specs.Environment.{Environment}
-use Rattle.c_types_rules.specs.Expressions.{expression}
+use Rattle.c_types_rules.specs.Expressions.{expression, start_of}
 use Rattle.c_types_rules.specs.Operators.{assigned, scalar}
-use Rattle.c_types_rules.specs.Statements.{condition_in, evaluated, maybe_in, returned, start_of, value_in}
+use Rattle.c_types_rules.specs.Statements.{condition_in, evaluated, maybe_in, returned, value_in}
 use Rattle.c_types_rules.specs.TypeTests.{is_scalar, is_void}
 use Rattle.c_types_rules.specs.TypedTree as typed
 use Rattle.c_types_rules.specs.TypedTree.{AValue, MaybeValue, OneValue, Value, typed_type, value_of, value_type}
@@ -120,25 +120,25 @@ evaluated_broken a b x e h = stopped_in a.found_large b.found_large b.found_larg
 -- ---- returns
 
 -- what a function gives whose type isn't void
-returned_value : (env : Environment) (from : ℕ) (t : CType) (x : Expr) → is_void t ≡ false → returned env from t (OneExpr x) ≡ (converted_in env t x >>= (λ w. Fine (typed.Return (OneValue w))))
+returned_value : (env : Environment) (from : ℕ) (t : CType) (x : Expr) → is_void t ≡ false → returned env from t (OneExpr x) ≡ (converted_in env t x >>= (λ w. Fine (typed.Return from (OneValue w))))
 returned_value env from Void x h = absurd cc
-returned_value env from (Integer k) x h = sym (in_turn (value_in env x) (λ v. assigned (start_of x) (Integer k) v) (λ w. Fine (typed.Return (OneValue w))))
-returned_value env from (PointerTo t) x h = sym (in_turn (value_in env x) (λ v. assigned (start_of x) (PointerTo t) v) (λ w. Fine (typed.Return (OneValue w))))
-returned_value env from (ArrayOf n t) x h = sym (in_turn (value_in env x) (λ v. assigned (start_of x) (ArrayOf n t) v) (λ w. Fine (typed.Return (OneValue w))))
-returned_value env from (StructOf n) x h = sym (in_turn (value_in env x) (λ v. assigned (start_of x) (StructOf n) v) (λ w. Fine (typed.Return (OneValue w))))
-returned_value env from (UndefinedStruct tag) x h = sym (in_turn (value_in env x) (λ v. assigned (start_of x) (UndefinedStruct tag) v) (λ w. Fine (typed.Return (OneValue w))))
-returned_value env from (FunctionOf t ts) x h = sym (in_turn (value_in env x) (λ v. assigned (start_of x) (FunctionOf t ts) v) (λ w. Fine (typed.Return (OneValue w))))
+returned_value env from (Integer k) x h = sym (in_turn (value_in env x) (λ v. assigned (start_of x) (Integer k) v) (λ w. Fine (typed.Return from (OneValue w))))
+returned_value env from (PointerTo t) x h = sym (in_turn (value_in env x) (λ v. assigned (start_of x) (PointerTo t) v) (λ w. Fine (typed.Return from (OneValue w))))
+returned_value env from (ArrayOf n t) x h = sym (in_turn (value_in env x) (λ v. assigned (start_of x) (ArrayOf n t) v) (λ w. Fine (typed.Return from (OneValue w))))
+returned_value env from (StructOf n) x h = sym (in_turn (value_in env x) (λ v. assigned (start_of x) (StructOf n) v) (λ w. Fine (typed.Return from (OneValue w))))
+returned_value env from (UndefinedStruct tag) x h = sym (in_turn (value_in env x) (λ v. assigned (start_of x) (UndefinedStruct tag) v) (λ w. Fine (typed.Return from (OneValue w))))
+returned_value env from (FunctionOf t ts) x h = sym (in_turn (value_in env x) (λ v. assigned (start_of x) (FunctionOf t ts) v) (λ w. Fine (typed.Return from (OneValue w))))
 
 module _ (a b : State) (from : ℕ) (t : CType) (x : Expr) where
   pub returned_found : (v : NodeId) (s : Statement) → is_void t ≡ false → Finds a b (IsAt b.table) (converted_in a.env t x) (Ok v)
-      → ((y : Value) → IsAt b.table y v → StatementStands b.table (typed.Return (OneValue y)) s) → Finds a b (StatementStands b.table) (returned a.env from t (OneExpr x)) (Ok s)
+      → ((y : Value) → IsAt b.table y v → StatementStands b.table (typed.Return from (OneValue y)) s) → Finds a b (StatementStands b.table) (returned a.env from t (OneExpr x)) (Ok s)
   returned_found v s gives h makes =
       let P : Checked typed.Statement → Type 0 = λ c. Finds a b (StatementStands b.table) c (Ok s) in
       subst P (sym (returned_value a.env from t x gives))
-      (gone_on a.found_large b.found_large b.found_large (IsAt b.table) (StatementStands b.table) (converted_in a.env t x) (λ w. Fine (typed.Return (OneValue w))) v (Ok s) h (λ y at. (makes y at, refl)))
+      (gone_on a.found_large b.found_large b.found_large (IsAt b.table) (StatementStands b.table) (converted_in a.env t x) (λ w. Fine (typed.Return from (OneValue w))) v (Ok s) h (λ y at. (makes y at, refl)))
 
   pub returned_broken : (e : TypeError) → is_void t ≡ false → Finds a b (IsAt b.table) (converted_in a.env t x) (Err e) → Finds a b (StatementStands b.table) (returned a.env from t (OneExpr x)) (Err e)
   returned_broken e gives h =
       let P : Checked typed.Statement → Type 0 = λ c. Finds a b (StatementStands b.table) c (Err e) in
       subst P (sym (returned_value a.env from t x gives))
-      (stopped_in a.found_large b.found_large b.found_large (IsAt b.table) (StatementStands b.table) (converted_in a.env t x) (λ w. Fine (typed.Return (OneValue w))) e h)
+      (stopped_in a.found_large b.found_large b.found_large (IsAt b.table) (StatementStands b.table) (converted_in a.env t x) (λ w. Fine (typed.Return from (OneValue w))) e h)

@@ -5,7 +5,6 @@ use Rattle.c_syntax.specs.declared.id.DeclId.{DeclId}
 use Rattle.c_syntax.specs.declared.id.StmtId.{StmtId}
 use Rattle.c_syntax.specs.declared.id.ExprId.{ExprId}
 use Rattle.c_syntax.specs.declared.declaration.Decl.{Decl as DeclNode}
-use Rattle.c_syntax.specs.declared.expression.Expr.{Expr as ExprNode}
 use Rattle.c_syntax.specs.declared.statement.Stmt.{Stmt as StmtNode}
 use Rattle.c_syntax.specs.declared.statement.StmtKind.{StmtKind}
 use Rattle.c_syntax.specs.declared.statement.StmtKind.TheVariants as stmts
@@ -13,11 +12,11 @@ use Rattle.c_syntax.specs.declared.statement.Entry.{Entry}
 use Rattle.c_syntax.specs.declared.statement.Entry.TheVariants as items
 use Rattle.c_syntax.specs.declared.statement.First.{First as Begin}
 use Rattle.c_syntax.specs.declared.statement.First.TheVariants as firsts
-use Rattle.c_syntax.specs.Nodes.{Nodes, decl_at, stmt_at, expr_at}
-use Rattle.c_syntax.specs.Syntax.{Expr, Stmt, Entry as Stood, Name, Number, Char, Text, Binary, Assign, Cond, Prefix, Postfix, SizeofExpr, SizeofType, Cast, Index, Call, Member, Arrow, NoExpr, OneExpr, Declare, Block, Expression, If, IfElse, While, Do, For, Break, Continue, Return, LocalEntry, StmtEntry, NoFirst, LocalFirst, ExprFirst}
-use Rattle.c_syntax.specs.Stands.{Stands, StandsStmt, StandsEntry}
+use Rattle.c_syntax.specs.Nodes.{Nodes, decl_at, stmt_at}
+use Rattle.c_syntax.specs.Syntax.{Stmt, Entry as Stood, NoExpr, OneExpr, Declare, Block, Expression, If, IfElse, While, Do, For, Break, Continue, Return, LocalEntry, StmtEntry, NoFirst, LocalFirst, ExprFirst}
+use Rattle.c_syntax.specs.Stands.{StandsStmt, StandsEntry}
 use Rattle.c_syntax_laws.specs.Numbers.{FitsStmt}
-use Rattle.c_types_rules.specs.Statements.{start_of}
+use Rattle.c_types_rules.specs.Statements.{start_of_stmt}
 use Rattle.c_types_expressions.specs.Walks.{IsExpr, IsDecl, AreDecls}
 use Rattle.c_types_statements.specs.Walks.{IsMaybeExpr, IsRest, IsStmt, IsEntry, AreEntries, IsFirst}
 
@@ -50,32 +49,26 @@ stmt_of N i (Return f x) (a, (s, g, _, k), p) n = (s, g, subst (KindFits N) (sym
 pub stmt_inside : (N : Nodes) (i : StmtId) → IsStmt N i → i.0 < length N.stmts
 stmt_inside N i (x, h, n) = let r = stmt_of N i x h n in slice_get_within N.stmts i.0 r.0 r.1
 
+-- the node of a statement begins where the statement does
+stmt_from : (N : Nodes) (i : StmtId) (x : Stmt) → StandsStmt N i x → (s : StmtNode) × (stmt_at N i ≡ Some s) × (s.from ≡ start_of_stmt x)
+stmt_from N i (Block f es) (_, (s, g, b, k), p) = (s, g, b)
+stmt_from N i (Expression f x) (_, (s, g, b, k), p) = (s, g, b)
+stmt_from N i (If f x y) (_, _, (s, g, b, k), p, q) = (s, g, b)
+stmt_from N i (IfElse f x y z) (_, _, _, (s, g, b, k), p, q, r) = (s, g, b)
+stmt_from N i (While f x y) (_, _, (s, g, b, k), p, q) = (s, g, b)
+stmt_from N i (Do f y x) (_, _, (s, g, b, k), p, q) = (s, g, b)
+stmt_from N i (For f x y z w) (_, _, _, _, (s, g, b, k), p, q, r, t) = (s, g, b)
+stmt_from N i (Break f) (s, g, b, k) = (s, g, b)
+stmt_from N i (Continue f) (s, g, b, k) = (s, g, b)
+stmt_from N i (Return f x) (_, (s, g, b, k), p) = (s, g, b)
+
+pub stmt_starts : (N : Nodes) (i : StmtId) (s : StmtNode) (x : Stmt) → stmt_at N i ≡ Some s → StandsStmt N i x → s.from ≡ start_of_stmt x
+stmt_starts N i s x g h = let r = stmt_from N i x h in let same : r.0 ≡ s = cc in subst (λ (v : StmtNode). v.from ≡ start_of_stmt x) same r.2
+
 pub kind_fits : (N : Nodes) (i : StmtId) (s : StmtNode) → IsStmt N i → stmt_at N i ≡ Some s → KindFits N s.kind
 kind_fits N i s (x, h, n) g = let r = stmt_of N i x h n in let same : r.0 ≡ s = cc in subst (λ (v : StmtNode). KindFits N v.kind) same r.2
 
 -- ---- expressions
-
--- the node of an expression begins where the expression does
-expr_of : (N : Nodes) (i : ExprId) (x : Expr) → Stands N i x → (e : ExprNode) × (expr_at N i ≡ Some e) × (e.from ≡ start_of x)
-expr_of N i (Name f n) (e, g, b, k) = (e, g, b)
-expr_of N i (Number f v s d) (e, g, b, k) = (e, g, b)
-expr_of N i (Char f v) (e, g, b, k) = (e, g, b)
-expr_of N i (Text f n) (e, g, b, k) = (e, g, b)
-expr_of N i (Binary f s x y) (_, _, (e, g, b, k), p, q) = (e, g, b)
-expr_of N i (Assign f s x y) (_, _, (e, g, b, k), p, q) = (e, g, b)
-expr_of N i (Cond f x y z) (_, _, _, (e, g, b, k), p, q, r) = (e, g, b)
-expr_of N i (Prefix f s x) (_, (e, g, b, k), p) = (e, g, b)
-expr_of N i (Postfix f s x) (_, (e, g, b, k), p) = (e, g, b)
-expr_of N i (SizeofExpr f x) (_, (e, g, b, k), p) = (e, g, b)
-expr_of N i (SizeofType f d) (_, (e, g, b, k), p) = (e, g, b)
-expr_of N i (Cast f d x) (_, _, (e, g, b, k), p, q) = (e, g, b)
-expr_of N i (Index f x y) (_, _, (e, g, b, k), p, q) = (e, g, b)
-expr_of N i (Call f x xs) (_, _, (e, g, b, k), p, q) = (e, g, b)
-expr_of N i (Member f x n) (_, (e, g, b, k), p) = (e, g, b)
-expr_of N i (Arrow f x n) (_, (e, g, b, k), p) = (e, g, b)
-
-pub starts_at : (N : Nodes) (i : ExprId) (e : ExprNode) (x : Expr) → expr_at N i ≡ Some e → Stands N i x → e.from ≡ start_of x
-starts_at N i e x g h = let r = expr_of N i x h in let same : r.0 ≡ e = cc in subst (λ (v : ExprNode). v.from ≡ start_of x) same r.2
 
 pub maybe_is : (N : Nodes) (i : ExprId) → IsMaybeExpr N (Some i) → IsExpr N i
 maybe_is N i (NoExpr, e, n) = absurd cc

@@ -1,5 +1,5 @@
 -- What is found within a scope that is opened before and closed after.
-use Rattle.std.proofs.Common.{◌≡◌, ◌≤◌, List, length, Result, Ok, Err, sym, subst, arith}
+use Rattle.std.proofs.Common.{◌≡◌, ◌≤◌, ℕ, List, length, Result, Ok, Err, sym, subst, arith}
 use Rattle.std.specs.Prelude.{Vec}
 use Rattle.std.specs.declared.alloc.Global.{Global}
 use Rattle.std.specs.List.{All}
@@ -64,12 +64,12 @@ module _ (a o b c : State) (e : o ≡ opened a) (f : c ≡ closed b) where
         let Q : State → Type 0 = λ z. Finds a z (IsTyped z found) (statement (Block 0 es) (place_in a p) (declared_in a locals)) (Err wrong) in
         subst Q (sym f) (block_broken a b p locals found es wrong (subst P e h))
 
-  pub scoped_for : (p : Surroundings) (locals found : List TypeId) (g : First) (x y : MaybeExpr) (s : Stmt) (r : Result Statement TypeError)
-      → Finds o b (IsTyped b found) (for_here g x y s (place_in o p) (declared_in o locals)) r → Finds a c (IsTyped c found) (statement (For 0 g x y s) (place_in a p) (declared_in a locals)) r
-  scoped_for p locals found g x y s r h =
-      let P : State → Type 0 = λ z. Finds z b (IsTyped b found) (for_here g x y s (place_in z p) (declared_in z locals)) r in
-      let Q : State → Type 0 = λ z. Finds a z (IsTyped z found) (statement (For 0 g x y s) (place_in a p) (declared_in a locals)) r in
-      subst Q (sym f) (for_found a b p locals found g x y s r (subst P e h))
+  pub scoped_for : (p : Surroundings) (locals found : List TypeId) (from : ℕ) (g : First) (x y : MaybeExpr) (s : Stmt) (r : Result Statement TypeError)
+      → Finds o b (IsTyped b found) (for_here from g x y s (place_in o p) (declared_in o locals)) r → Finds a c (IsTyped c found) (statement (For from g x y s) (place_in a p) (declared_in a locals)) r
+  scoped_for p locals found from g x y s r h =
+      let P : State → Type 0 = λ z. Finds z b (IsTyped b found) (for_here from g x y s (place_in z p) (declared_in z locals)) r in
+      let Q : State → Type 0 = λ z. Finds a z (IsTyped z found) (statement (For from g x y s) (place_in a p) (declared_in a locals)) r in
+      subst Q (sym f) (for_found a b p locals found from g x y s r (subst P e h))
 
   -- what a function does
   pub scoped_body : (t : CType) (ps : Parts) (s : Stmt) (r : Result Body TypeError) → Finds o b (BodyStands b.table) (body_here o.env t (nearest ps) s) r → Finds a c (BodyStands c.table) (body_of a.env t ps s) r

@@ -7,9 +7,9 @@ use Rattle.c_types_rules.specs.Operators.{assigned}
 use Rattle.c_types_rules.specs.TypedTree.{Value, Statement}
 use Rattle.c_types_rules.specs.TypedTree as typed
 use Rattle.c_types_rules.specs.Environment.{Environment, LocalNamed, extents, with_name, declarable}
-use Rattle.c_types_rules.specs.Expressions.{complete, declared_name, declared_type}
+use Rattle.c_types_rules.specs.Expressions.{complete, declared_name, declared_type, start_of}
 use Rattle.c_types_rules.specs.Sources.{block_of, listed, parameters, params_of, result_of}
-use Rattle.c_types_rules.specs.Statements.{Declared, Surroundings, evaluated, first, looping, maybe_condition, maybe_in, start_of, statement, value_in}
+use Rattle.c_types_rules.specs.Statements.{Declared, Surroundings, evaluated, first, looping, maybe_condition, maybe_in, start_of_stmt, statement, value_in}
 
 -- the value of an expression, converted as if by assignment to an object of a type
 abbrev pub converted_in : Environment → CType → Expr → Checked Value
@@ -40,18 +40,18 @@ local_scope env from n place t = do
   declarable env from (declared_name n)
   Fine (with_name env (declared_name n) (LocalNamed place t))
 
--- a `for` in the scope where its names stand
-abbrev pub for_here : First → (x y : MaybeExpr) → Stmt → Surroundings → Declared → Checked (List CType × Statement)
-for_here f x y s p d = do
+-- a `for` at an offset, in the scope where its names stand
+abbrev pub for_here : (from : ℕ) → First → (x y : MaybeExpr) → Stmt → Surroundings → Declared → Checked (List CType × Statement)
+for_here from f x y s p d = do
   a ← first f p d
   c ← maybe_condition a.0.env x
   z ← maybe_in a.0.env y
   b ← statement s (looping p) a.0
-  Fine (b.0, typed.For a.1 c z b.1)
+  Fine (b.0, typed.For from a.1 c z b.1)
 
 -- what a function of a type does, where these parameters belong into the innermost scope
 abbrev pub body_here : Environment → CType → Decls → Stmt → Checked typed.Body
 body_here env t ds s = do
   within ← parameters ds env 0 (params_of t)
   a ← block_of s (record { result = result_of t; in_loop = false }) (record { env = within; locals = listed (params_of t) })
-  Fine (record { locals = a.0; statements = a.1 })
+  Fine (record { from = start_of_stmt s; locals = a.0; statements = a.1 })

@@ -71,6 +71,7 @@ fn body_here(
     };
     let statements = outermost(env, &mut locals, tree, id, place)?;
     Ok(Body {
+        from: tree.stmt(id).from,
         locals: TypeIds::from(locals),
         statements,
     })

@@ -26,12 +26,13 @@ use c_types_operators::TypeError;
 use c_types_program::Statement;
 use c_types_table::TypeId;
 
-/// A `while`. Errors are as for `statement`.
+/// A `while` at this offset. Errors are as for `statement`.
 #[cycle(walk)]
 pub fn while_loop(
     env: &mut Environment,
     locals: &mut Vec<TypeId>,
     tree: &Tree,
+    from: u32,
     test: ExprId,
     body: StmtId,
     place: Surroundings,
@@ -40,21 +41,22 @@ pub fn while_loop(
     requires body { IsStmt tree.now body }
     requires place { IsBelow (length env.old.table.types) place.result }
     requires locals { All (IsBelow (length env.old.table.types)) locals.old.items }
-    ensures agrees { (x : Expr) (s : Stmt) → Stands tree.now test x → StandsStmt tree.now body s → Finds env.old env.new (IsTyped env.new locals.new.items) (statement_by_rules (While 0 x s) (place_in env.old place) (declared_in env.old locals.old.items)) result }
+    ensures agrees { (x : Expr) (s : Stmt) → Stands tree.now test x → StandsStmt tree.now body s → Finds env.old env.new (IsTyped env.new locals.new.items) (statement_by_rules (While from x s) (place_in env.old place) (declared_in env.old locals.old.items)) result }
     ensures kept { Stays env.old env.new }
     ensures locals { All (IsBelow (length env.new.table.types)) locals.new.items }
 {
     let test = condition(env, tree, test)?;
     let body = statement(env, locals, tree, body, place.looping())?;
-    Ok(made::while_loop(env.alloc(), test, body)?)
+    Ok(made::while_loop(env.alloc(), from, test, body)?)
 }
 
-/// A `do`. Errors are as for `statement`.
+/// A `do` at this offset. Errors are as for `statement`.
 #[cycle(walk)]
 pub fn do_loop(
     env: &mut Environment,
     locals: &mut Vec<TypeId>,
     tree: &Tree,
+    from: u32,
     body: StmtId,
     test: ExprId,
     place: Surroundings,
@@ -63,18 +65,19 @@ pub fn do_loop(
     requires test { IsExpr tree.now test }
     requires place { IsBelow (length env.old.table.types) place.result }
     requires locals { All (IsBelow (length env.old.table.types)) locals.old.items }
-    ensures agrees { (s : Stmt) (x : Expr) → StandsStmt tree.now body s → Stands tree.now test x → Finds env.old env.new (IsTyped env.new locals.new.items) (statement_by_rules (Do 0 s x) (place_in env.old place) (declared_in env.old locals.old.items)) result }
+    ensures agrees { (s : Stmt) (x : Expr) → StandsStmt tree.now body s → Stands tree.now test x → Finds env.old env.new (IsTyped env.new locals.new.items) (statement_by_rules (Do from s x) (place_in env.old place) (declared_in env.old locals.old.items)) result }
     ensures kept { Stays env.old env.new }
     ensures locals { All (IsBelow (length env.new.table.types)) locals.new.items }
 {
     let done = statement(env, locals, tree, body, place.looping())?;
     let test = condition(env, tree, test)?;
-    Ok(made::do_loop(env.alloc(), done, test)?)
+    Ok(made::do_loop(env.alloc(), from, done, test)?)
 }
 
-/// What decides whether a `for` goes on, and what it evaluates after its body, where they are there.
+/// The offset of a `for`, what decides whether it goes on, and what it evaluates after its body, where they are there.
 #[derive(Clone, Copy)]
 pub struct Head {
+    pub from: u32,
     pub test: Option<ExprId>,
     pub last: Option<ExprId>,
 }
@@ -96,7 +99,7 @@ pub fn for_loop(
     requires body { IsStmt tree.now body }
     requires place { IsBelow (length env.old.table.types) place.result }
     requires locals { All (IsBelow (length env.old.table.types)) locals.old.items }
-    ensures agrees { (f : syntax.First) (x y : MaybeExpr) (s : Stmt) → StandsFirst tree.now first.now f → StandsMaybe tree.now head.test x → StandsMaybe tree.now head.last y → StandsStmt tree.now body s → Finds env.old env.new (IsTyped env.new locals.new.items) (statement_by_rules (For 0 f x y s) (place_in env.old place) (declared_in env.old locals.old.items)) result }
+    ensures agrees { (f : syntax.First) (x y : MaybeExpr) (s : Stmt) → StandsFirst tree.now first.now f → StandsMaybe tree.now head.test x → StandsMaybe tree.now head.last y → StandsStmt tree.now body s → Finds env.old env.new (IsTyped env.new locals.new.items) (statement_by_rules (For head.from f x y s) (place_in env.old place) (declared_in env.old locals.old.items)) result }
     ensures kept { Stays env.old env.new }
     ensures locals { All (IsBelow (length env.new.table.types)) locals.new.items }
 {
@@ -123,7 +126,7 @@ fn for_here(
     requires body { IsStmt tree.now body }
     requires place { IsBelow (length env.old.table.types) place.result }
     requires locals { All (IsBelow (length env.old.table.types)) locals.old.items }
-    ensures agrees { (f : syntax.First) (x y : MaybeExpr) (s : Stmt) → StandsFirst tree.now first.now f → StandsMaybe tree.now head.test x → StandsMaybe tree.now head.last y → StandsStmt tree.now body s → Finds env.old env.new (IsTyped env.new locals.new.items) (for_by_rules f x y s (place_in env.old place) (declared_in env.old locals.old.items)) result }
+    ensures agrees { (f : syntax.First) (x y : MaybeExpr) (s : Stmt) → StandsFirst tree.now first.now f → StandsMaybe tree.now head.test x → StandsMaybe tree.now head.last y → StandsStmt tree.now body s → Finds env.old env.new (IsTyped env.new locals.new.items) (for_by_rules head.from f x y s (place_in env.old place) (declared_in env.old locals.old.items)) result }
     ensures kept { StaysAround env.old env.new }
     ensures locals { All (IsBelow (length env.new.table.types)) locals.new.items }
 {
@@ -131,7 +134,7 @@ fn for_here(
     let test = maybe_condition(env, tree, head.test)?;
     let last = maybe_value(env, tree, head.last)?;
     let body = statement(env, locals, tree, body, place.looping())?;
-    Ok(made::for_loop(env.alloc(), first, test, last, body)?)
+    Ok(made::for_loop(env.alloc(), head.from, first, test, last, body)?)
 }
 
 // The first part of a `for` whose scope is the innermost one.

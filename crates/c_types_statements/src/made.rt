@@ -51,38 +51,54 @@ pub fn choice_of_two(
     Ok(Statement::IfElse(condition, then, otherwise))
 }
 
-/// `while`
+/// `while` at this offset
 pub fn while_loop(
     alloc: Global,
+    from: u32,
     condition: NodeId,
     body: Statement,
 ) -> Result<Statement, AllocError>
-    ensures { IfOk result (λ s. (t : Table) (x : Value) (a : tree.Statement) → IsAt t x condition → StatementStands t a body → StatementStands t (tree.While x a) s) }
+    ensures { IfOk result (λ s. (t : Table) (x : Value) (a : tree.Statement) → IsAt t x condition → StatementStands t a body → StatementStands t (tree.While from x a) s) }
 {
     let body = Box::new(alloc, body)?;
-    Ok(Statement::While(condition, body))
+    Ok(Statement::While {
+        from,
+        condition,
+        body,
+    })
 }
 
-/// `do`
-pub fn do_loop(alloc: Global, body: Statement, condition: NodeId) -> Result<Statement, AllocError>
-    ensures { IfOk result (λ s. (t : Table) (x : Value) (a : tree.Statement) → IsAt t x condition → StatementStands t a body → StatementStands t (tree.Do a x) s) }
+/// `do` at this offset
+pub fn do_loop(
+    alloc: Global,
+    from: u32,
+    body: Statement,
+    condition: NodeId,
+) -> Result<Statement, AllocError>
+    ensures { IfOk result (λ s. (t : Table) (x : Value) (a : tree.Statement) → IsAt t x condition → StatementStands t a body → StatementStands t (tree.Do from a x) s) }
 {
     let body = Box::new(alloc, body)?;
-    Ok(Statement::Do(body, condition))
+    Ok(Statement::Do {
+        from,
+        body,
+        condition,
+    })
 }
 
-/// `for`
+/// `for` at this offset
 pub fn for_loop(
     alloc: Global,
+    from: u32,
     first: Vec<Statement>,
     condition: Option<NodeId>,
     last: Option<NodeId>,
     body: Statement,
 ) -> Result<Statement, AllocError>
-    ensures { IfOk result (λ s. (t : Table) (xs : Statements) (x y : MaybeValue) (a : tree.Statement) → StatementsStand t xs first.items → MaybeStands t x condition → MaybeStands t y last → StatementStands t a body → StatementStands t (tree.For xs x y a) s) }
+    ensures { IfOk result (λ s. (t : Table) (xs : Statements) (x y : MaybeValue) (a : tree.Statement) → StatementsStand t xs first.items → MaybeStands t x condition → MaybeStands t y last → StatementStands t a body → StatementStands t (tree.For from xs x y a) s) }
 {
     let body = Box::new(alloc, body)?;
     Ok(Statement::For {
+        from,
         first,
         condition,
         last,

@@ -64,10 +64,13 @@ pub fn returned(
     ensures kept { Stays env.old env.new }
 {
     match id {
-        None if is_void(env, ty) => Ok(Statement::Return(None)),
+        None if is_void(env, ty) => Ok(Statement::Return { from, value: None }),
         Some(id) if !is_void(env, ty) => {
             let value = converted(env, tree, ty, id)?;
-            Ok(Statement::Return(Some(value)))
+            Ok(Statement::Return {
+                from,
+                value: Some(value),
+            })
         }
         _ => Err(TypeError::Rule(from, 12)),
     }

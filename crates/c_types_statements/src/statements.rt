@@ -53,10 +53,13 @@ pub fn statement(
             None => choice(env, locals, tree, *test, *then, place),
             Some(otherwise) => { choice_of_two(env, locals, tree, *test, *then, *otherwise, place) }
         },
-        StmtKind::While(test, body) => while_loop(env, locals, tree, *test, *body, place),
-        StmtKind::Do(body, test) => do_loop(env, locals, tree, *body, *test, place),
+        StmtKind::While(test, body) => {
+            while_loop(env, locals, tree, node.from, *test, *body, place)
+        },
+        StmtKind::Do(body, test) => { do_loop(env, locals, tree, node.from, *body, *test, place) },
         StmtKind::For(first, test, last, body) => {
             let head = Head {
+                from: node.from,
                 test: *test,
                 last: *last,
             };

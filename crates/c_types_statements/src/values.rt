@@ -4,7 +4,7 @@ ghost use Rattle.std.specs.Prelude.{◌≡◌, ◌<◌, length};
 ghost use Rattle.c_syntax.specs.Stands.{Stands, StandsMaybe};
 ghost use Rattle.c_syntax.specs.Syntax.{Expr, MaybeExpr};
 ghost use Rattle.c_types_table.specs.Tables.{type_at};
-ghost use Rattle.c_types_rules.specs.Statements.{condition_in, maybe_condition as maybe_condition_in, maybe_in, start_of, value_in};
+ghost use Rattle.c_types_rules.specs.Statements.{condition_in, maybe_condition as maybe_condition_in, maybe_in, value_in};
 ghost use Rattle.c_types_operators.specs.Answers.{IsAt};
 ghost use Rattle.c_types_expressions.specs.Found.{Finds, Stays};
 ghost use Rattle.c_types_expressions.specs.Walks.{IsExpr};
@@ -15,7 +15,7 @@ ghost use Rattle.c_types_statements.specs.Walks.{IsMaybeExpr};
 use crate::scalars::is_scalar;
 use c_syntax::{ExprId, Tree};
 use c_types_environment::Environment;
-use c_types_expressions::expression;
+use c_types_expressions::{expression, start};
 use c_types_nodes::NodeId;
 use c_types_operators::TypeError;
 use c_types_table::TypeId;
@@ -29,14 +29,6 @@ pub fn value(env: &mut Environment, tree: &Tree, id: ExprId) -> Result<NodeId, T
 {
     let node = expression(env, tree, id)?;
     Ok(env.value_of(node)?)
-}
-
-/// The offset of an expression's first token.
-pub fn start(tree: &Tree, id: ExprId) -> u32
-    requires { IsExpr tree.now id }
-    ensures { (x : Expr) → Stands tree.now id x → result ≡ start_of x }
-{
-    tree.expr(id).from
 }
 
 /// The value of an expression, converted as if by assignment to an object of a type (C11 6.5.16.1). Errors are as for `value`.

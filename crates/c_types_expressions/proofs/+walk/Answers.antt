@@ -10,12 +10,12 @@ use Rattle.c_syntax.specs.declared.expression.ExprKind.TheVariants as exprs
 use Rattle.c_syntax.specs.Syntax.{Array, Call, NoParts, Params}
 use Rattle.c_syntax.specs.Stands.{StandAnnots, StandExprs, StandItems, StandParts, StandDecls}
 use Rattle.c_builtins.specs.Table.{params_of}
-use Rattle.c_types_table.specs.Tables.{type_at}
+use Rattle.c_types_table.specs.Tables.{IsBelow, type_at}
 use Rattle.c_types_rules.specs.Environment.{base_type, extents}
 use Rattle.c_types_rules.specs.Expressions.{annotation_types, arguments, atom_type, declarator_type, declared_type, expression, item_type, item_types, member, named, parameter_type, parameter_types}
 use Rattle.c_types_rules.specs.Checked.{Fine}
 use Rattle.c_types_rules.specs.TypedTree.{AValue, Constant}
-use Rattle.c_types_nodes.specs.Tables.{Names, node_at}
+use Rattle.c_types_nodes.specs.Tables.{Names, Table, node_at}
 use Rattle.c_types_operators.specs.Answers.{IsAt, IsNothing, StandsAt}
 use Rattle.c_types_operators.specs.Calls.{IsCalled, types_after}
 use Rattle.c_syntax_laws.specs.Heights.{greatest}
@@ -25,7 +25,7 @@ use Rattle.c_types_expressions.specs.Found.{AreBoth, AreTypes, AreValues, IsType
 use Rattle.c_types_expressions.specs.Walks.{AreAnnots, AreDecls, AreExprs, AreItems, AreParts, IsItem}
 use Rattle.c_types_expressions.specs.Pieces.{argument_of, arrow_from, call_target, operands, sized}
 use Rattle.c_types_expressions.proofs.Sequences.{passed, stopped_in}
-use Rattle.c_types_expressions.proofs.Kept.{all_stay, stay, stay_around, stays_node, then_stay, then_stay_around, type_inside, type_stays}
+use Rattle.c_types_expressions.proofs.Kept.{all_stay, sized_stays, stay, stay_around, stays_node, then_stay, then_stay_around, type_inside, type_stays}
 use Rattle.c_types_expressions.proofs.Operands.{agrees_as}
 use Rattle.c_types_expressions.proofs.Constructs.{binary_parts, assign_parts, index_parts, cond_parts, prefix_parts, postfix_parts, sizeof_expr_parts, sizeof_type_parts, member_parts, arrow_parts, cast_parts, call_parts, name_is, number_is, char_is, text_is, expr_inside, decl_inside, decl_parts}
 use Rattle.c_types_expressions.proofs.Fits.{annots_fit, arguments_fit, callee_fits, cast_operand_fits, condition_fits, first_arm_fits, left_fits, operand_fits, parts_fit, right_fits, second_arm_fits, target_fits, type_fits}
@@ -41,7 +41,7 @@ use Rattle.c_types_expressions.proofs.ArgumentLists.{arguments_begin, arguments_
 use Rattle.c_types_expressions.proofs.ParameterLists.{parameters_begin, parameters_end, parameters_next, scope_stops, type_stops}
 use Rattle.c_types_expressions.proofs.ParameterSteps.{annotations_stop, can_close, declarator_stops, parameter_made, stays_within, within_scope}
 use Rattle.c_types_expressions.proofs.PartLists.{part_at, parts_begin, parts_end, parts_next, parts_stop}
-use Rattle.c_types_expressions.proofs.PartSteps.{array_made, array_part, declared_from, element_stops, found_below, function_made, function_part, no_result, params_stand, params_stop, pointer_made, size_stands, size_stops}
+use Rattle.c_types_expressions.proofs.PartSteps.{array_made, array_part, element_stops, found_below, function_made, function_part, no_result, params_stand, params_stop, pointer_made, size_stands, size_stops, declared_made, declared_stops}
 use Rattle.c_types_expressions.proofs.+walk.Goals as goal
 
 pub expressions::expression-expr-node-requires : goal.expressions::expression-expr-node-requires
@@ -518,6 +518,10 @@ pub calls::call_target-builtin_named-requires : goal.calls::call_target-builtin_
 calls::call_target-builtin_named-requires t c =
     c.requires
 
+pub calls::call_target-start-requires : goal.calls::call_target-start-requires
+calls::call_target-start-requires t c =
+    c.requires
+
 pub calls::call_target-expression-requires : goal.calls::call_target-expression-requires
 calls::call_target-expression-requires t c =
     (omega arith, c.requires)
@@ -528,7 +532,7 @@ calls::call_target-called-requires t c =
 
 pub calls::call_target-returns-in-Some-clause-agrees : goal.calls::call_target-returns-in-Some-clause-agrees
 calls::call_target-returns-in-Some-clause-agrees t c =
-    λ x h. builtin_target c.in-Some.builtin x c.args.env.now c.builtin_called.new.self c.args.from c.builtin_called.result (c.in-Some.ensures x h) c.builtin_called.ensures.agrees c.builtin_called.ensures.kept.large
+    λ x h. builtin_target c.in-Some.builtin x c.args.env.now c.builtin_called.new.self c.args.from c.start.result c.builtin_called.result (c.in-Some.ensures x h) (c.start.ensures x h) c.builtin_called.ensures.agrees c.builtin_called.ensures.kept.large
 
 pub calls::call_target-returns-in-Some-clause-kept : goal.calls::call_target-returns-in-Some-clause-kept
 calls::call_target-returns-in-Some-clause-kept t c =
@@ -559,6 +563,10 @@ pub calls::argument-expression-requires : goal.calls::argument-expression-requir
 calls::argument-expression-requires t c =
     (omega arith, c.requires.id)
 
+pub calls::argument-start-requires : goal.calls::argument-start-requires
+calls::argument-start-requires t c =
+    c.requires.id
+
 pub calls::argument-converted-requires : goal.calls::argument-converted-requires
 calls::argument-converted-requires t c =
     record { ty = type_inside _ _ _ c.in_ok-operand-in-Some.ensures.kept.numbers c.in-Some.ensures.0; operand = node_found _ _ _ _ _ (c.in_ok-operand-in-Some.ensures.agrees c.requires.id.0 c.requires.id.1) }
@@ -574,7 +582,7 @@ calls::argument-returns-in_err-operand-in-Some-clause-kept t c =
 
 pub calls::argument-returns-in_ok-operand-in-Some-clause-agrees : goal.calls::argument-returns-in_ok-operand-in-Some-clause-agrees
 calls::argument-returns-in_ok-operand-in-Some-clause-agrees t c =
-    λ x h. argument_made x c.args.env.now c.expression.new.env c.converted.new.env c.args.from (types_after c.args.number (params_of (type_at c.args.env.now.table.types c.args.function))) _ _ _ c.in_ok-operand-in-Some.operand c.converted.result c.in-Some.ensures.1 (type_stays c.args.env.now.table c.expression.new.env.table c.in-Some.ty c.in_ok-operand-in-Some.ensures.kept.numbers c.in-Some.ensures.0) (c.in_ok-operand-in-Some.ensures.agrees x h) c.in_ok-operand-in-Some.ensures.kept.env c.converted.ensures.agrees c.converted.ensures.kept.large
+    λ x h. argument_made x c.args.env.now c.expression.new.env c.converted.new.env c.args.from c.start.result (types_after c.args.number (params_of (type_at c.args.env.now.table.types c.args.function))) _ _ _ c.in_ok-operand-in-Some.operand c.converted.result c.in-Some.ensures.1 (type_stays c.args.env.now.table c.expression.new.env.table c.in-Some.ty c.in_ok-operand-in-Some.ensures.kept.numbers c.in-Some.ensures.0) (c.start.ensures x h) (c.in_ok-operand-in-Some.ensures.agrees x h) c.in_ok-operand-in-Some.ensures.kept.env c.converted.ensures.agrees c.converted.ensures.kept.large
 
 pub calls::argument-returns-in_ok-operand-in-Some-clause-kept : goal.calls::argument-returns-in_ok-operand-in-Some-clause-kept
 calls::argument-returns-in_ok-operand-in-Some-clause-kept t c =
@@ -655,17 +663,36 @@ declarators::declared_type-declarator-requires t c =
     let same = c.as_slice.ensures.items in
     (omega (arith, below_parts c.args.tree.now c.args.id c.decl-decl.result.now c.requires c.decl-decl.ensures.node, ap (λ vs. greatest (height_in c.args.tree.now) (by_parts vs)) same), (subst (AreParts c.args.tree.now) (sym same) (parts_fit p c.requires.2), c.in_ok-base.ensures.names.inside))
 
+pub declarators::declared_type-note_size-requires : goal.declarators::declared_type-note_size-requires
+declarators::declared_type-note_size-requires t c =
+    let p = decl_parts c.args.tree.now c.args.id c.decl-decl.result.now c.decl-decl.ensures.node c.requires.0 c.requires.1 in
+    type_found _ _ c.declarator.new.env.table _ _ (c.in_ok-ty.ensures.agrees p.parts (subst (λ vs. StandParts c.args.tree.now vs p.parts) (sym c.as_slice.ensures.items) p.on_parts))
+
+pub declarators::declared_type-returns-in_err-ty-clause-agrees : goal.declarators::declared_type-returns-in_err-ty-clause-agrees
+declarators::declared_type-returns-in_err-ty-clause-agrees t c =
+    let q = err_from_is_err_and c.from_residual-in_err-ty.result c.from_residual-in_err-ty.ensures.1 in
+    λ e h.
+    let p = decl_parts c.args.tree.now c.args.id c.decl-decl.result.now c.decl-decl.ensures.node e h in
+    failed _ _ (IsType c.declarator.new.env.table) (declared_type e c.args.env.now.env) c.from_residual-in_err-ty.result c.in_err-ty.field-0.0 (q.1 ∙ ap Err q.2)
+    (passed c.args.env.now.found_large c.declarator.new.env.found_large (IsType c.declarator.new.env.table) _ _ (Err c.in_err-ty.field-0.0) (p.declared c.args.env.now.env)
+    (declared_stops c.args.env.now c.base_type.new.self c.declarator.new.env p.parts (base_type c.args.env.now.env c.decl-decl.result.now.base) c.in_ok-base.base c.in_ok-base.ensures.names c.in_ok-base.ensures.kept c.in_err-ty.field-0.0
+    (c.in_err-ty.ensures.agrees p.parts (subst (λ vs. StandParts c.args.tree.now vs p.parts) (sym c.as_slice.ensures.items) p.on_parts))))
+
+pub declarators::declared_type-returns-in_err-ty-clause-kept : goal.declarators::declared_type-returns-in_err-ty-clause-kept
+declarators::declared_type-returns-in_err-ty-clause-kept t c =
+    then_stay _ _ _ (all_stay _ _ c.in_ok-base.ensures.kept) c.in_err-ty.ensures.kept
+
 pub declarators::declared_type-returns-clause-agrees : goal.declarators::declared_type-returns-clause-agrees
 declarators::declared_type-returns-clause-agrees t c =
     λ e h.
     let p = decl_parts c.args.tree.now c.args.id c.decl-decl.result.now c.decl-decl.ensures.node e h in
-    passed _ _ (IsType c.declarator.new.env.table) _ _ c.declarator.result (p.declared c.args.env.now.env)
-    (declared_from c.args.env.now c.base_type.new.self c.declarator.new.env p.parts (base_type c.args.env.now.env c.decl-decl.result.now.base) c.in_ok-base.base c.declarator.result c.in_ok-base.ensures.names c.in_ok-base.ensures.kept
-    (c.declarator.ensures.agrees p.parts (subst (λ vs. StandParts c.args.tree.now vs p.parts) (sym c.as_slice.ensures.items) p.on_parts)))
+    passed c.args.env.now.found_large c.note_size.new.env.found_large (IsType c.note_size.new.env.table) _ _ (Ok c.in_ok-ty.ty) (p.declared c.args.env.now.env)
+    (declared_made c.args.env.now c.base_type.new.self c.declarator.new.env p.parts (base_type c.args.env.now.env c.decl-decl.result.now.base) c.in_ok-base.base c.in_ok-base.ensures.names c.in_ok-base.ensures.kept c.note_size.new.env c.in_ok-ty.ty
+    (c.in_ok-ty.ensures.agrees p.parts (subst (λ vs. StandParts c.args.tree.now vs p.parts) (sym c.as_slice.ensures.items) p.on_parts)) c.in_ok-ty.ensures.kept.env c.note_size.ensures.table c.note_size.ensures.noted)
 
 pub declarators::declared_type-returns-clause-kept : goal.declarators::declared_type-returns-clause-kept
 declarators::declared_type-returns-clause-kept t c =
-    then_stay _ _ _ (all_stay _ _ c.in_ok-base.ensures.kept) c.declarator.ensures.kept
+    then_stay _ _ _ (then_stay _ _ _ (all_stay _ _ c.in_ok-base.ensures.kept) c.in_ok-ty.ensures.kept) (sized_stays _ _ c.note_size.ensures.table c.note_size.ensures.env)
 
 pub declarators::declared_type-returns-in_err-base-clause-kept : goal.declarators::declared_type-returns-in_err-base-clause-kept
 declarators::declared_type-returns-in_err-base-clause-kept t c =
@@ -709,21 +736,25 @@ pub declarators::declarator-returns-clause-kept : goal.declarators::declarator-r
 declarators::declarator-returns-clause-kept t c =
     c.loop-part.invariant.kept
 
+pub declarators::part_type-note_size-requires : goal.declarators::part_type-note_size-requires
+declarators::part_type-note_size-requires t c =
+    c.requires.ty
+
 pub declarators::part_type-add_type-requires : goal.declarators::part_type-add_type-requires
 declarators::part_type-add_type-requires t c =
-    record { parts = c.requires.ty }
+    record { parts = subst (λ (u : Table). IsBelow (length u.types) c.args.ty) (sym c.note_size.ensures.table) c.requires.ty }
 
 pub declarators::part_type-returns-in_ok-add_type-in-Pointer-clause-agrees : goal.declarators::part_type-returns-in_ok-add_type-in-Pointer-clause-agrees
 declarators::part_type-returns-in_ok-add_type-in-Pointer-clause-agrees t c =
-    λ ps h. pointer_made c.args.tree.now c.args.part.now ps c.args.env.now c.add_type.new.self (type_at c.args.env.now.table.types c.args.ty) c.in_ok-add_type-in-Pointer.field-0 c.in-Pointer.is h c.in_ok-add_type-in-Pointer.ensures.names c.in_ok-add_type-in-Pointer.ensures.kept.large
+    λ ps h. pointer_made c.args.tree.now c.args.part.now ps c.args.env.now c.note_size.new.env c.add_type.new.self c.args.ty c.in_ok-add_type-in-Pointer.field-0 c.in-Pointer.is h c.note_size.ensures.table c.note_size.ensures.noted c.in_ok-add_type-in-Pointer.ensures.names c.in_ok-add_type-in-Pointer.ensures.kept.large
 
 pub declarators::part_type-returns-in_ok-add_type-in-Pointer-clause-kept : goal.declarators::part_type-returns-in_ok-add_type-in-Pointer-clause-kept
 declarators::part_type-returns-in_ok-add_type-in-Pointer-clause-kept t c =
-    all_stay _ _ c.in_ok-add_type-in-Pointer.ensures.kept
+    then_stay _ _ _ (sized_stays _ _ c.note_size.ensures.table c.note_size.ensures.env) (all_stay _ _ c.in_ok-add_type-in-Pointer.ensures.kept)
 
 pub declarators::part_type-returns-in_err-add_type-in-Pointer-clause-kept : goal.declarators::part_type-returns-in_err-add_type-in-Pointer-clause-kept
 declarators::part_type-returns-in_err-add_type-in-Pointer-clause-kept t c =
-    all_stay _ _ c.in_err-add_type-in-Pointer.ensures.kept
+    then_stay _ _ _ (sized_stays _ _ c.note_size.ensures.table c.note_size.ensures.env) (all_stay _ _ c.in_err-add_type-in-Pointer.ensures.kept)
 
 pub declarators::part_type-array-requires : goal.declarators::part_type-array-requires
 declarators::part_type-array-requires t c =
@@ -761,13 +792,18 @@ pub declarators::array-complete-requires : goal.declarators::array-complete-requ
 declarators::array-complete-requires t c =
     c.requires.element
 
+pub declarators::array-note_size-requires : goal.declarators::array-note_size-requires
+declarators::array-note_size-requires t c =
+    c.requires.element
+
 pub declarators::array-expression-requires : goal.declarators::array-expression-requires
 declarators::array-expression-requires t c =
     (omega arith, c.requires.size)
 
 pub declarators::array-array_of_length-requires : goal.declarators::array-array_of_length-requires
 declarators::array-array_of_length-requires t c =
-    record { element = type_inside _ _ _ c.in_ok-size.ensures.kept.numbers c.requires.element; size = node_found _ _ _ _ _ (c.in_ok-size.ensures.agrees c.requires.size.0 c.requires.size.1) }
+    let inside : IsBelow (length c.note_size.new.env.table.types) c.args.element = subst (λ (u : Table). IsBelow (length u.types) c.args.element) (sym c.note_size.ensures.table) c.requires.element in
+    record { element = type_inside _ _ _ c.in_ok-size.ensures.kept.numbers inside; size = node_found _ _ _ _ _ (c.in_ok-size.ensures.agrees c.requires.size.0 c.requires.size.1) }
 
 pub declarators::array-returns-in_err-complete-clause-agrees : goal.declarators::array-returns-in_err-complete-clause-agrees
 declarators::array-returns-in_err-complete-clause-agrees t c =
@@ -781,19 +817,24 @@ declarators::array-returns-in_err-complete-clause-kept t c =
 pub declarators::array-returns-in_err-size-clause-agrees : goal.declarators::array-returns-in_err-size-clause-agrees
 declarators::array-returns-in_err-size-clause-agrees t c =
     let q = err_from_is_err_and c.from_residual-in_err-size.result c.from_residual-in_err-size.ensures.1 in
-    λ x h. failed _ _ (IsType c.expression.new.env.table) (declarator_type (Array c.args.from x NoParts) c.args.env.now.env (type_at c.args.env.now.table.types c.args.element)) c.from_residual-in_err-size.result c.in_err-size.field-0.0 (q.1 ∙ ap Err q.2) (size_stops c.args.env.now c.expression.new.env c.args.from x (type_at c.args.env.now.table.types c.args.element) c.in_err-size.field-0.0 c.in_ok-complete.ensures.agrees (c.in_err-size.ensures.agrees x h))
+    λ x h. failed _ _ (IsType c.expression.new.env.table) (declarator_type (Array c.args.from x NoParts) c.args.env.now.env (type_at c.args.env.now.table.types c.args.element)) c.from_residual-in_err-size.result c.in_err-size.field-0.0 (q.1 ∙ ap Err q.2)
+    (size_stops c.args.env.now c.note_size.new.env c.args.from x (type_at c.args.env.now.table.types c.args.element) c.in_ok-complete.ensures.agrees c.note_size.ensures.env c.note_size.ensures.noted c.expression.new.env c.in_err-size.field-0.0 (c.in_err-size.ensures.agrees x h))
 
 pub declarators::array-returns-in_err-size-clause-kept : goal.declarators::array-returns-in_err-size-clause-kept
 declarators::array-returns-in_err-size-clause-kept t c =
-    c.in_err-size.ensures.kept
+    then_stay _ _ _ (sized_stays _ _ c.note_size.ensures.table c.note_size.ensures.env) c.in_err-size.ensures.kept
 
 pub declarators::array-returns-clause-agrees : goal.declarators::array-returns-clause-agrees
 declarators::array-returns-clause-agrees t c =
-    λ x h. array_made c.args.env.now c.expression.new.env c.array_of_length.new.env c.args.from x c.args.element c.in_ok-size.size c.array_of_length.result c.requires.element c.in_ok-complete.ensures.agrees (c.in_ok-size.ensures.agrees x h) c.in_ok-size.ensures.kept c.array_of_length.ensures.agrees
+    let inside : IsBelow (length c.note_size.new.env.table.types) c.args.element = subst (λ (u : Table). IsBelow (length u.types) c.args.element) (sym c.note_size.ensures.table) c.requires.element in
+    let type : type_at c.expression.new.env.table.types c.args.element ≡ type_at c.args.env.now.table.types c.args.element =
+    type_stays c.note_size.new.env.table c.expression.new.env.table c.args.element c.in_ok-size.ensures.kept.numbers inside ∙ ap (λ (u : Table). type_at u.types c.args.element) c.note_size.ensures.table in
+    λ x h. array_made c.args.env.now c.note_size.new.env c.args.from x (type_at c.args.env.now.table.types c.args.element) c.in_ok-complete.ensures.agrees c.note_size.ensures.env c.note_size.ensures.noted
+    c.expression.new.env c.array_of_length.new.env c.args.element c.in_ok-size.size c.array_of_length.result (c.in_ok-size.ensures.agrees x h) type c.array_of_length.ensures.agrees c.array_of_length.ensures.kept.large
 
 pub declarators::array-returns-clause-kept : goal.declarators::array-returns-clause-kept
 declarators::array-returns-clause-kept t c =
-    then_stay _ _ _ c.in_ok-size.ensures.kept c.array_of_length.ensures.kept
+    then_stay _ _ _ (sized_stays _ _ c.note_size.ensures.table c.note_size.ensures.env) (then_stay _ _ _ c.in_ok-size.ensures.kept (all_stay _ _ c.array_of_length.ensures.kept))
 
 pub declarators::function-is_result-requires : goal.declarators::function-is_result-requires
 declarators::function-is_result-requires t c =

@@ -482,7 +482,7 @@ loops::while_loop-statement-requires t c =
 pub loops::while_loop-returns-in_err-test-clause-agrees : goal.loops::while_loop-returns-in_err-test-clause-agrees
 loops::while_loop-returns-in_err-test-clause-agrees t c =
     let q = err_from_is_err_and c.from_residual.result c.from_residual.ensures.1 in
-    λ x s h k. failed _ _ (IsTyped c.condition.new.env c.args.locals.now.items) (statement (While 0 x s) (place_in c.args.env.now c.args.place) (declared_in c.args.env.now c.args.locals.now.items)) c.from_residual.result c.in_err-test.field-0.0 (q.1 ∙ ap Err q.2) (while_test_broken c.args.env.now c.condition.new.env c.args.place c.args.locals.now.items x s c.in_err-test.field-0.0 (c.in_err-test.ensures.agrees x h))
+    λ x s h k. failed _ _ (IsTyped c.condition.new.env c.args.locals.now.items) (statement (While c.args.from x s) (place_in c.args.env.now c.args.place) (declared_in c.args.env.now c.args.locals.now.items)) c.from_residual.result c.in_err-test.field-0.0 (q.1 ∙ ap Err q.2) (while_test_broken c.args.env.now c.condition.new.env c.args.place c.args.locals.now.items c.args.from x s c.in_err-test.field-0.0 (c.in_err-test.ensures.agrees x h))
 
 pub loops::while_loop-returns-in_err-test-clause-kept : goal.loops::while_loop-returns-in_err-test-clause-kept
 loops::while_loop-returns-in_err-test-clause-kept t c =
@@ -495,7 +495,7 @@ loops::while_loop-returns-in_err-test-clause-locals t c =
 pub loops::while_loop-returns-in_err-body-clause-agrees : goal.loops::while_loop-returns-in_err-body-clause-agrees
 loops::while_loop-returns-in_err-body-clause-agrees t c =
     let q = err_from_is_err_and c.from_residual-in_err-body.result c.from_residual-in_err-body.ensures.1 in
-    λ x s h k. failed _ _ (IsTyped c.statement.new.env c.statement.new.locals.items) (statement (While 0 x s) (place_in c.args.env.now c.args.place) (declared_in c.args.env.now c.args.locals.now.items)) c.from_residual-in_err-body.result c.in_err-body.field-0.0 (q.1 ∙ ap Err q.2) (while_broken c.args.env.now c.condition.new.env c.statement.new.env c.args.place c.looping.result c.args.locals.now.items c.statement.new.locals.items x s c.requires.place c.requires.locals c.looping.ensures c.in_ok-test.test (c.in_ok-test.ensures.agrees x h) c.in_ok-test.ensures.kept c.in_err-body.field-0.0 (c.in_err-body.ensures.agrees s k))
+    λ x s h k. failed _ _ (IsTyped c.statement.new.env c.statement.new.locals.items) (statement (While c.args.from x s) (place_in c.args.env.now c.args.place) (declared_in c.args.env.now c.args.locals.now.items)) c.from_residual-in_err-body.result c.in_err-body.field-0.0 (q.1 ∙ ap Err q.2) (while_broken c.args.env.now c.condition.new.env c.statement.new.env c.args.place c.looping.result c.args.locals.now.items c.statement.new.locals.items c.args.from x s c.requires.place c.requires.locals c.looping.ensures c.in_ok-test.test (c.in_ok-test.ensures.agrees x h) c.in_ok-test.ensures.kept c.in_err-body.field-0.0 (c.in_err-body.ensures.agrees s k))
 
 pub loops::while_loop-returns-in_err-body-clause-kept : goal.loops::while_loop-returns-in_err-body-clause-kept
 loops::while_loop-returns-in_err-body-clause-kept t c =
@@ -507,7 +507,7 @@ loops::while_loop-returns-in_err-body-clause-locals t c =
 
 pub loops::while_loop-returns-clause-agrees : goal.loops::while_loop-returns-clause-agrees
 loops::while_loop-returns-clause-agrees t c =
-    λ x s h k. while_found c.args.env.now c.condition.new.env c.statement.new.env c.args.place c.looping.result c.args.locals.now.items c.statement.new.locals.items x s c.requires.place c.requires.locals c.looping.ensures c.in_ok-test.test (c.in_ok-test.ensures.agrees x h) c.in_ok-test.ensures.kept c.in_ok-body.body c.in_ok-while_loop.field-0 (c.in_ok-body.ensures.agrees s k) c.in_ok-body.ensures.kept c.in_ok-while_loop.ensures
+    λ x s h k. while_found c.args.env.now c.condition.new.env c.statement.new.env c.args.place c.looping.result c.args.locals.now.items c.statement.new.locals.items c.args.from x s c.requires.place c.requires.locals c.looping.ensures c.in_ok-test.test (c.in_ok-test.ensures.agrees x h) c.in_ok-test.ensures.kept c.in_ok-body.body c.in_ok-while_loop.field-0 (c.in_ok-body.ensures.agrees s k) c.in_ok-body.ensures.kept c.in_ok-while_loop.ensures
 
 pub loops::while_loop-returns-clause-kept : goal.loops::while_loop-returns-clause-kept
 loops::while_loop-returns-clause-kept t c =
@@ -536,7 +536,7 @@ loops::do_loop-condition-requires t c =
 pub loops::do_loop-returns-in_err-done-clause-agrees : goal.loops::do_loop-returns-in_err-done-clause-agrees
 loops::do_loop-returns-in_err-done-clause-agrees t c =
     let q = err_from_is_err_and c.from_residual.result c.from_residual.ensures.1 in
-    λ s x h k. failed _ _ (IsTyped c.statement.new.env c.statement.new.locals.items) (statement (Do 0 s x) (place_in c.args.env.now c.args.place) (declared_in c.args.env.now c.args.locals.now.items)) c.from_residual.result c.in_err-done.field-0.0 (q.1 ∙ ap Err q.2) (body_broken c.args.env.now c.statement.new.env c.statement.new.env c.args.place c.looping.result c.args.locals.now.items c.statement.new.locals.items s x c.requires.place c.looping.ensures c.in_err-done.field-0.0 (c.in_err-done.ensures.agrees s h))
+    λ s x h k. failed _ _ (IsTyped c.statement.new.env c.statement.new.locals.items) (statement (Do c.args.from s x) (place_in c.args.env.now c.args.place) (declared_in c.args.env.now c.args.locals.now.items)) c.from_residual.result c.in_err-done.field-0.0 (q.1 ∙ ap Err q.2) (body_broken c.args.env.now c.statement.new.env c.statement.new.env c.args.place c.looping.result c.args.locals.now.items c.statement.new.locals.items c.args.from s x c.requires.place c.looping.ensures c.in_err-done.field-0.0 (c.in_err-done.ensures.agrees s h))
 
 pub loops::do_loop-returns-in_err-done-clause-kept : goal.loops::do_loop-returns-in_err-done-clause-kept
 loops::do_loop-returns-in_err-done-clause-kept t c =
@@ -549,7 +549,7 @@ loops::do_loop-returns-in_err-done-clause-locals t c =
 pub loops::do_loop-returns-in_err-test-clause-agrees : goal.loops::do_loop-returns-in_err-test-clause-agrees
 loops::do_loop-returns-in_err-test-clause-agrees t c =
     let q = err_from_is_err_and c.from_residual-in_err-test.result c.from_residual-in_err-test.ensures.1 in
-    λ s x h k. failed _ _ (IsTyped c.condition.new.env c.statement.new.locals.items) (statement (Do 0 s x) (place_in c.args.env.now c.args.place) (declared_in c.args.env.now c.args.locals.now.items)) c.from_residual-in_err-test.result c.in_err-test.field-0.0 (q.1 ∙ ap Err q.2) (do_broken c.args.env.now c.statement.new.env c.condition.new.env c.args.place c.looping.result c.args.locals.now.items c.statement.new.locals.items s x c.requires.place c.looping.ensures c.in_ok-done.done (c.in_ok-done.ensures.agrees s h) c.in_ok-done.ensures.kept c.in_err-test.field-0.0 (c.in_err-test.ensures.agrees x k))
+    λ s x h k. failed _ _ (IsTyped c.condition.new.env c.statement.new.locals.items) (statement (Do c.args.from s x) (place_in c.args.env.now c.args.place) (declared_in c.args.env.now c.args.locals.now.items)) c.from_residual-in_err-test.result c.in_err-test.field-0.0 (q.1 ∙ ap Err q.2) (do_broken c.args.env.now c.statement.new.env c.condition.new.env c.args.place c.looping.result c.args.locals.now.items c.statement.new.locals.items c.args.from s x c.requires.place c.looping.ensures c.in_ok-done.done (c.in_ok-done.ensures.agrees s h) c.in_ok-done.ensures.kept c.in_err-test.field-0.0 (c.in_err-test.ensures.agrees x k))
 
 pub loops::do_loop-returns-in_err-test-clause-kept : goal.loops::do_loop-returns-in_err-test-clause-kept
 loops::do_loop-returns-in_err-test-clause-kept t c =
@@ -561,7 +561,7 @@ loops::do_loop-returns-in_err-test-clause-locals t c =
 
 pub loops::do_loop-returns-clause-agrees : goal.loops::do_loop-returns-clause-agrees
 loops::do_loop-returns-clause-agrees t c =
-    λ s x h k. do_found c.args.env.now c.statement.new.env c.condition.new.env c.args.place c.looping.result c.args.locals.now.items c.statement.new.locals.items s x c.requires.place c.looping.ensures c.in_ok-done.done (c.in_ok-done.ensures.agrees s h) c.in_ok-done.ensures.kept c.in_ok-test.test c.in_ok-do_loop.field-0 (c.in_ok-test.ensures.agrees x k) c.in_ok-test.ensures.kept c.in_ok-done.ensures.locals (λ t y z p q. c.in_ok-do_loop.ensures t y z p q)
+    λ s x h k. do_found c.args.env.now c.statement.new.env c.condition.new.env c.args.place c.looping.result c.args.locals.now.items c.statement.new.locals.items c.args.from s x c.requires.place c.looping.ensures c.in_ok-done.done (c.in_ok-done.ensures.agrees s h) c.in_ok-done.ensures.kept c.in_ok-test.test c.in_ok-do_loop.field-0 (c.in_ok-test.ensures.agrees x k) c.in_ok-test.ensures.kept c.in_ok-done.ensures.locals (λ t y z p q. c.in_ok-do_loop.ensures t y z p q)
 
 pub loops::do_loop-returns-clause-kept : goal.loops::do_loop-returns-clause-kept
 loops::do_loop-returns-clause-kept t c =
@@ -589,7 +589,7 @@ loops::for_loop-close_scope-requires t c =
 
 pub loops::for_loop-returns-clause-agrees : goal.loops::for_loop-returns-clause-agrees
 loops::for_loop-returns-clause-agrees t c =
-    λ f x y s h k l m. scoped_for c.args.env.now c.open_scope.new.self c.for_here-made.new.env c.close_scope.new.self c.in_ok-open_scope.ensures.opened c.close_scope.ensures c.args.place c.args.locals.now.items c.for_here-made.new.locals.items f x y s c.for_here-made.result (c.for_here-made.ensures.agrees f x y s h k l m)
+    λ f x y s h k l m. scoped_for c.args.env.now c.open_scope.new.self c.for_here-made.new.env c.close_scope.new.self c.in_ok-open_scope.ensures.opened c.close_scope.ensures c.args.place c.args.locals.now.items c.for_here-made.new.locals.items c.args.head.from f x y s c.for_here-made.result (c.for_here-made.ensures.agrees f x y s h k l m)
 
 pub loops::for_loop-returns-clause-kept : goal.loops::for_loop-returns-clause-kept
 loops::for_loop-returns-clause-kept t c =
@@ -626,7 +626,7 @@ loops::for_here-statement-requires t c =
 pub loops::for_here-returns-in_err-first-clause-agrees : goal.loops::for_here-returns-in_err-first-clause-agrees
 loops::for_here-returns-in_err-first-clause-agrees t c =
     let q = err_from_is_err_and c.from_residual.result c.from_residual.ensures.1 in
-    λ f x y s h k l m. failed _ _ (IsTyped c.first_part.new.env c.first_part.new.locals.items) (for_here f x y s (place_in c.args.env.now c.args.place) (declared_in c.args.env.now c.args.locals.now.items)) c.from_residual.result c.in_err-first.field-0.0 (q.1 ∙ ap Err q.2) (for_first_broken c.args.env.now c.first_part.new.env c.first_part.new.env c.first_part.new.env c.first_part.new.env c.args.place (record c.args.place { in_loop = true }) c.args.locals.now.items c.first_part.new.locals.items c.first_part.new.locals.items f x y s c.requires.place refl c.in_err-first.field-0.0 (c.in_err-first.ensures.agrees f (place_in c.args.env.now c.args.place) h))
+    λ f x y s h k l m. failed _ _ (IsTyped c.first_part.new.env c.first_part.new.locals.items) (for_here c.args.head.from f x y s (place_in c.args.env.now c.args.place) (declared_in c.args.env.now c.args.locals.now.items)) c.from_residual.result c.in_err-first.field-0.0 (q.1 ∙ ap Err q.2) (for_first_broken c.args.env.now c.first_part.new.env c.first_part.new.env c.first_part.new.env c.first_part.new.env c.args.place (record c.args.place { in_loop = true }) c.args.locals.now.items c.first_part.new.locals.items c.first_part.new.locals.items c.args.head.from f x y s c.requires.place refl c.in_err-first.field-0.0 (c.in_err-first.ensures.agrees f (place_in c.args.env.now c.args.place) h))
 
 pub loops::for_here-returns-in_err-first-clause-kept : goal.loops::for_here-returns-in_err-first-clause-kept
 loops::for_here-returns-in_err-first-clause-kept t c =
@@ -639,7 +639,7 @@ loops::for_here-returns-in_err-first-clause-locals t c =
 pub loops::for_here-returns-in_err-test-clause-agrees : goal.loops::for_here-returns-in_err-test-clause-agrees
 loops::for_here-returns-in_err-test-clause-agrees t c =
     let q = err_from_is_err_and c.from_residual-in_err-test.result c.from_residual-in_err-test.ensures.1 in
-    λ f x y s h k l m. failed _ _ (IsTyped c.maybe_condition.new.env c.first_part.new.locals.items) (for_here f x y s (place_in c.args.env.now c.args.place) (declared_in c.args.env.now c.args.locals.now.items)) c.from_residual-in_err-test.result c.in_err-test.field-0.0 (q.1 ∙ ap Err q.2) (for_test_broken c.args.env.now c.first_part.new.env c.maybe_condition.new.env c.maybe_condition.new.env c.maybe_condition.new.env c.args.place (record c.args.place { in_loop = true }) c.args.locals.now.items c.first_part.new.locals.items c.first_part.new.locals.items f x y s c.requires.place refl c.in_ok-first.first (c.in_ok-first.ensures.agrees f (place_in c.args.env.now c.args.place) h) c.in_ok-first.ensures.kept c.in_err-test.field-0.0 (c.in_err-test.ensures.agrees x k))
+    λ f x y s h k l m. failed _ _ (IsTyped c.maybe_condition.new.env c.first_part.new.locals.items) (for_here c.args.head.from f x y s (place_in c.args.env.now c.args.place) (declared_in c.args.env.now c.args.locals.now.items)) c.from_residual-in_err-test.result c.in_err-test.field-0.0 (q.1 ∙ ap Err q.2) (for_test_broken c.args.env.now c.first_part.new.env c.maybe_condition.new.env c.maybe_condition.new.env c.maybe_condition.new.env c.args.place (record c.args.place { in_loop = true }) c.args.locals.now.items c.first_part.new.locals.items c.first_part.new.locals.items c.args.head.from f x y s c.requires.place refl c.in_ok-first.first (c.in_ok-first.ensures.agrees f (place_in c.args.env.now c.args.place) h) c.in_ok-first.ensures.kept c.in_err-test.field-0.0 (c.in_err-test.ensures.agrees x k))
 
 pub loops::for_here-returns-in_err-test-clause-kept : goal.loops::for_here-returns-in_err-test-clause-kept
 loops::for_here-returns-in_err-test-clause-kept t c =
@@ -652,7 +652,7 @@ loops::for_here-returns-in_err-test-clause-locals t c =
 pub loops::for_here-returns-in_err-last-clause-agrees : goal.loops::for_here-returns-in_err-last-clause-agrees
 loops::for_here-returns-in_err-last-clause-agrees t c =
     let q = err_from_is_err_and c.from_residual-in_err-last.result c.from_residual-in_err-last.ensures.1 in
-    λ f x y s h k l m. failed _ _ (IsTyped c.maybe_value.new.env c.first_part.new.locals.items) (for_here f x y s (place_in c.args.env.now c.args.place) (declared_in c.args.env.now c.args.locals.now.items)) c.from_residual-in_err-last.result c.in_err-last.field-0.0 (q.1 ∙ ap Err q.2) (for_last_broken c.args.env.now c.first_part.new.env c.maybe_condition.new.env c.maybe_value.new.env c.maybe_value.new.env c.args.place (record c.args.place { in_loop = true }) c.args.locals.now.items c.first_part.new.locals.items c.first_part.new.locals.items f x y s c.requires.place refl c.in_ok-first.first (c.in_ok-first.ensures.agrees f (place_in c.args.env.now c.args.place) h) c.in_ok-first.ensures.kept c.in_ok-test.test (c.in_ok-test.ensures.agrees x k) c.in_ok-test.ensures.kept c.in_err-last.field-0.0 (c.in_err-last.ensures.agrees y l))
+    λ f x y s h k l m. failed _ _ (IsTyped c.maybe_value.new.env c.first_part.new.locals.items) (for_here c.args.head.from f x y s (place_in c.args.env.now c.args.place) (declared_in c.args.env.now c.args.locals.now.items)) c.from_residual-in_err-last.result c.in_err-last.field-0.0 (q.1 ∙ ap Err q.2) (for_last_broken c.args.env.now c.first_part.new.env c.maybe_condition.new.env c.maybe_value.new.env c.maybe_value.new.env c.args.place (record c.args.place { in_loop = true }) c.args.locals.now.items c.first_part.new.locals.items c.first_part.new.locals.items c.args.head.from f x y s c.requires.place refl c.in_ok-first.first (c.in_ok-first.ensures.agrees f (place_in c.args.env.now c.args.place) h) c.in_ok-first.ensures.kept c.in_ok-test.test (c.in_ok-test.ensures.agrees x k) c.in_ok-test.ensures.kept c.in_err-last.field-0.0 (c.in_err-last.ensures.agrees y l))
 
 pub loops::for_here-returns-in_err-last-clause-kept : goal.loops::for_here-returns-in_err-last-clause-kept
 loops::for_here-returns-in_err-last-clause-kept t c =
@@ -665,7 +665,7 @@ loops::for_here-returns-in_err-last-clause-locals t c =
 pub loops::for_here-returns-in_err-body-clause-agrees : goal.loops::for_here-returns-in_err-body-clause-agrees
 loops::for_here-returns-in_err-body-clause-agrees t c =
     let q = err_from_is_err_and c.from_residual-in_err-body.result c.from_residual-in_err-body.ensures.1 in
-    λ f x y s h k l m. failed _ _ (IsTyped c.statement.new.env c.statement.new.locals.items) (for_here f x y s (place_in c.args.env.now c.args.place) (declared_in c.args.env.now c.args.locals.now.items)) c.from_residual-in_err-body.result c.in_err-body.field-0.0 (q.1 ∙ ap Err q.2) (for_body_broken c.args.env.now c.first_part.new.env c.maybe_condition.new.env c.maybe_value.new.env c.statement.new.env c.args.place c.looping.result c.args.locals.now.items c.first_part.new.locals.items c.statement.new.locals.items f x y s c.requires.place c.looping.ensures c.in_ok-first.first (c.in_ok-first.ensures.agrees f (place_in c.args.env.now c.args.place) h) c.in_ok-first.ensures.kept c.in_ok-test.test (c.in_ok-test.ensures.agrees x k) c.in_ok-test.ensures.kept c.in_ok-last.last (c.in_ok-last.ensures.agrees y l) c.in_ok-last.ensures.kept c.in_ok-first.ensures.locals c.in_err-body.field-0.0 (c.in_err-body.ensures.agrees s m))
+    λ f x y s h k l m. failed _ _ (IsTyped c.statement.new.env c.statement.new.locals.items) (for_here c.args.head.from f x y s (place_in c.args.env.now c.args.place) (declared_in c.args.env.now c.args.locals.now.items)) c.from_residual-in_err-body.result c.in_err-body.field-0.0 (q.1 ∙ ap Err q.2) (for_body_broken c.args.env.now c.first_part.new.env c.maybe_condition.new.env c.maybe_value.new.env c.statement.new.env c.args.place c.looping.result c.args.locals.now.items c.first_part.new.locals.items c.statement.new.locals.items c.args.head.from f x y s c.requires.place c.looping.ensures c.in_ok-first.first (c.in_ok-first.ensures.agrees f (place_in c.args.env.now c.args.place) h) c.in_ok-first.ensures.kept c.in_ok-test.test (c.in_ok-test.ensures.agrees x k) c.in_ok-test.ensures.kept c.in_ok-last.last (c.in_ok-last.ensures.agrees y l) c.in_ok-last.ensures.kept c.in_ok-first.ensures.locals c.in_err-body.field-0.0 (c.in_err-body.ensures.agrees s m))
 
 pub loops::for_here-returns-in_err-body-clause-kept : goal.loops::for_here-returns-in_err-body-clause-kept
 loops::for_here-returns-in_err-body-clause-kept t c =
@@ -677,7 +677,7 @@ loops::for_here-returns-in_err-body-clause-locals t c =
 
 pub loops::for_here-returns-clause-agrees : goal.loops::for_here-returns-clause-agrees
 loops::for_here-returns-clause-agrees t c =
-    λ f x y s h k l m. for_found c.args.env.now c.first_part.new.env c.maybe_condition.new.env c.maybe_value.new.env c.statement.new.env c.args.place c.looping.result c.args.locals.now.items c.first_part.new.locals.items c.statement.new.locals.items f x y s c.requires.place c.looping.ensures c.in_ok-first.first (c.in_ok-first.ensures.agrees f (place_in c.args.env.now c.args.place) h) c.in_ok-first.ensures.kept c.in_ok-test.test (c.in_ok-test.ensures.agrees x k) c.in_ok-test.ensures.kept c.in_ok-last.last (c.in_ok-last.ensures.agrees y l) c.in_ok-last.ensures.kept c.in_ok-first.ensures.locals c.in_ok-body.body c.in_ok-for_loop.field-0 (c.in_ok-body.ensures.agrees s m) c.in_ok-body.ensures.kept c.in_ok-for_loop.ensures
+    λ f x y s h k l m. for_found c.args.env.now c.first_part.new.env c.maybe_condition.new.env c.maybe_value.new.env c.statement.new.env c.args.place c.looping.result c.args.locals.now.items c.first_part.new.locals.items c.statement.new.locals.items c.args.head.from f x y s c.requires.place c.looping.ensures c.in_ok-first.first (c.in_ok-first.ensures.agrees f (place_in c.args.env.now c.args.place) h) c.in_ok-first.ensures.kept c.in_ok-test.test (c.in_ok-test.ensures.agrees x k) c.in_ok-test.ensures.kept c.in_ok-last.last (c.in_ok-last.ensures.agrees y l) c.in_ok-last.ensures.kept c.in_ok-first.ensures.locals c.in_ok-body.body c.in_ok-for_loop.field-0 (c.in_ok-body.ensures.agrees s m) c.in_ok-body.ensures.kept c.in_ok-for_loop.ensures
 
 pub loops::for_here-returns-clause-kept : goal.loops::for_here-returns-clause-kept
 loops::for_here-returns-clause-kept t c =

@@ -33,11 +33,11 @@ statement_depth-statements_depth-requires-in-For t c =
     let last = maybe_at table c.in-For.last in
     let body = statement_in table c.in-For.body.value in
     let inside : AllStatements table c.in-For.first.items =
-    first_inside table c.in-For.first c.in-For.condition c.in-For.last c.in-For.body (subst (λ (s : Statement). IsStatement table s) c.in-For.is c.requires) in
+    first_inside table c.in-For.from c.in-For.first c.in-For.condition c.in-For.last c.in-For.body (subst (λ (s : Statement). IsStatement table s) c.in-For.is c.requires) in
     let all : AllStatements table c.deref-in-For.result.now = subst (λ (ss : List Statement). AllStatements table ss) (sym c.deref-in-For.ensures.value) inside in
-    let means : tree.For (statements_in table c.deref-in-For.result.now) condition last body ≡ statement_in table c.args.statement.now =
-    ap (λ (ss : List Statement). tree.For (statements_in table ss) condition last body) c.deref-in-For.ensures.value
-    ∙ (sym (for_means table c.in-For.first c.in-For.condition c.in-For.last c.in-For.body) ∙ ap (statement_in table) (sym c.in-For.is)) in
+    let means : tree.For c.in-For.from (statements_in table c.deref-in-For.result.now) condition last body ≡ statement_in table c.args.statement.now =
+    ap (λ (ss : List Statement). tree.For c.in-For.from (statements_in table ss) condition last body) c.deref-in-For.ensures.value
+    ∙ (sym (for_means table c.in-For.from c.in-For.first c.in-For.condition c.in-For.last c.in-For.body) ∙ ap (statement_in table) (sym c.in-For.is)) in
     let smaller : statements_weight (statements_in table c.deref-in-For.result.now) < statement_weight (statement_in table c.args.statement.now) = omega (arith, ap statement_weight means) in
     search rules
 
@@ -48,10 +48,10 @@ statement_depth-returns-in-For t c =
     let last = maybe_at table c.in-For.last in
     let first = statements_in table c.deref-in-For.result.now in
     let body = statement_in table c.deref-in-For-2.result.now in
-    let means : tree.For first condition last body ≡ statement_in table c.args.statement.now =
-    ap (λ (ss : List Statement). tree.For (statements_in table ss) condition last body) c.deref-in-For.ensures.value
-    ∙ (ap (λ (s : Statement). tree.For (statements_in table c.in-For.first.items) condition last (statement_in table s)) c.deref-in-For-2.ensures
-    ∙ (sym (for_means table c.in-For.first c.in-For.condition c.in-For.last c.in-For.body) ∙ ap (statement_in table) (sym c.in-For.is))) in
+    let means : tree.For c.in-For.from first condition last body ≡ statement_in table c.args.statement.now =
+    ap (λ (ss : List Statement). tree.For c.in-For.from (statements_in table ss) condition last body) c.deref-in-For.ensures.value
+    ∙ (ap (λ (s : Statement). tree.For c.in-For.from (statements_in table c.in-For.first.items) condition last (statement_in table s)) c.deref-in-For-2.ensures
+    ∙ (sym (for_means table c.in-For.from c.in-For.first c.in-For.condition c.in-For.last c.in-For.body) ∙ ap (statement_in table) (sym c.in-For.is))) in
     let inner = max (maybe_depth last) (statement_depth body) in
     let outer = max (maybe_depth condition) inner in
     c.either-in-For-3.ensures (statements_depth first) outer c.statements_depth-in-For.ensures

@@ -7,7 +7,11 @@ use Rattle.c_types_statements.specs.Typed.{BodyStands}
 use Rattle.c_types_statements.proofs.Kept.{below_kept}
 use Rattle.c_types_statements.proofs.OfBodies.{block_broken, body_found, parameters_broken, same_parameters}
 use Rattle.c_types_statements.proofs.OfParameters.{IsEnv}
+use Rattle.c_types_statements.proofs.Parts.{stmt_inside, stmt_starts}
 use Rattle.c_types_statements.proofs.bodies.body_here.Goals as goal
+
+pub stmt-requires : goal.stmt-requires
+stmt-requires c = record { inside = stmt_inside c.args.tree.now c.args.id c.requires.id }
 
 pub outermost-requires : goal.outermost-requires
 outermost-requires c = record {
@@ -41,7 +45,7 @@ returns-clause-agrees c =
     let a = c.args.env.now in
     let b = c.declare_parameters.new.env in
     let d = c.outermost.new.env in
-    λ t ds s is h k. body_found a b d c.args.signature t ds s is (same_parameters a b ds (IsEnv b) (Ok tt) _ _ c.deref.ensures.value (c.in_ok-declare_parameters.ensures.agrees ds h)) c.in_ok-declare_parameters.ensures.kept _ refl c.outermost.new.locals.items c.in_ok-statements.statements _ (c.in_ok-statements.ensures.agrees s k) c.in_ok-statements.ensures.locals c.from.ensures refl
+    λ t ds s is h k. body_found a b d c.args.signature t ds s is (same_parameters a b ds (IsEnv b) (Ok tt) _ _ c.deref.ensures.value (c.in_ok-declare_parameters.ensures.agrees ds h)) c.in_ok-declare_parameters.ensures.kept _ refl c.outermost.new.locals.items c.in_ok-statements.statements _ (c.in_ok-statements.ensures.agrees s k) c.in_ok-statements.ensures.locals (stmt_starts c.args.tree.now c.args.id c.stmt.result.now s c.stmt.ensures.node k) c.from.ensures refl
 
 pub returns-clause-kept : goal.returns-clause-kept
 returns-clause-kept c = then_stay_around _ _ _ c.in_ok-declare_parameters.ensures.kept c.in_ok-statements.ensures.kept

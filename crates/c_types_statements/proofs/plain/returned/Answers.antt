@@ -24,4 +24,4 @@ pub returns-in_ok-value-in-Some-clause-agrees : goal.returns-in_ok-value-in-Some
 returns-in_ok-value-in-Some-clause-agrees c =
     let t = type_at c.args.env.now.table.types c.args.ty in
     let gives : is_void t ≡ false = cc in
-    λ x h. a_return c.args.tree.now c.args.id c.in-Some.id c.in-Some.is c.args.env.now x h c.converted.new.env c.args.from t c.in_ok-value-in-Some.value _ gives c.in_ok-value-in-Some.ensures.agrees (return_stands c.converted.new.env.table c.in_ok-value-in-Some.value)
+    λ x h. a_return c.args.tree.now c.args.id c.in-Some.id c.in-Some.is c.args.env.now x h c.converted.new.env c.args.from t c.in_ok-value-in-Some.value _ gives c.in_ok-value-in-Some.ensures.agrees (return_stands c.converted.new.env.table c.args.from c.in_ok-value-in-Some.value)

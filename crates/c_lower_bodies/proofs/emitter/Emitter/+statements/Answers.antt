@@ -101,13 +101,13 @@ pub statement-statements-requires-in-For : goal.statement-statements-requires-in
 statement-statements-requires-in-For t c =
     let table = c.args.self.now.declared.table in
     let inside : AllStatements table c.in-For.first.items =
-    first_inside table c.in-For.first c.in-For.condition c.in-For.last c.in-For.body (subst (λ (s : Statement). IsStatement table s) c.in-For.is c.requires.inside) in
+    first_inside table c.in-For.from c.in-For.first c.in-For.condition c.in-For.last c.in-For.body (subst (λ (s : Statement). IsStatement table s) c.in-For.is c.requires.inside) in
     let all : AllStatements table c.deref-in-For-2.result.now = subst (λ (ss : List Statement). AllStatements table ss) (sym c.deref-in-For-2.ensures.value) inside in
-    let loop = statement_code (tree.For tree.NoStatements (maybe_at table c.in-For.condition) (maybe_at table c.in-For.last) (statement_in table c.deref-in-For.result.now)) (making c.args.self.now) 0 0 in
+    let loop = statement_code (tree.For 0 tree.NoStatements (maybe_at table c.in-For.condition) (maybe_at table c.in-For.last) (statement_in table c.deref-in-For.result.now)) (making c.args.self.now) 0 0 in
     let long : length c.args.code.now ≤ length c.for_loop.new.code = longer loop c.args.code.now c.for_loop.new.code c.in_ok-for_loop-in-For.ensures in
-    let means : tree.For (statements_in table c.deref-in-For-2.result.now) (maybe_at table c.in-For.condition) (maybe_at table c.in-For.last) (statement_in table c.in-For.body.value) ≡ statement_in table c.args.statement.now =
-    ap (λ (ss : List Statement). tree.For (statements_in table ss) (maybe_at table c.in-For.condition) (maybe_at table c.in-For.last) (statement_in table c.in-For.body.value)) c.deref-in-For-2.ensures.value
-    ∙ (sym (for_means table c.in-For.first c.in-For.condition c.in-For.last c.in-For.body) ∙ ap (statement_in table) (sym c.in-For.is)) in
+    let means : tree.For c.in-For.from (statements_in table c.deref-in-For-2.result.now) (maybe_at table c.in-For.condition) (maybe_at table c.in-For.last) (statement_in table c.in-For.body.value) ≡ statement_in table c.args.statement.now =
+    ap (λ (ss : List Statement). tree.For c.in-For.from (statements_in table ss) (maybe_at table c.in-For.condition) (maybe_at table c.in-For.last) (statement_in table c.in-For.body.value)) c.deref-in-For-2.ensures.value
+    ∙ (sym (for_means table c.in-For.from c.in-For.first c.in-For.condition c.in-For.last c.in-For.body) ∙ ap (statement_in table) (sym c.in-For.is)) in
     let smaller : statements_weight (statements_in table c.deref-in-For-2.result.now) < statement_weight (statement_in table c.args.statement.now) = omega (arith, ap statement_weight means) in
     let stop : c.args.stop ≤ length c.for_loop.new.code = omega (arith, c.requires.stop) in
     let again : c.args.again ≤ length c.for_loop.new.code = omega (arith, c.requires.again) in
@@ -122,11 +122,11 @@ statement-returns-in_ok-for_loop-in-For t c =
     let last = maybe_at table c.in-For.last in
     let first = c.deref-in-For-2.result.now in
     let body = c.deref-in-For.result.now in
-    let loop = statement_code (tree.For tree.NoStatements condition last (statement_in table body)) x 0 0 in
-    let means : tree.For (statements_in table first) condition last (statement_in table body) ≡ statement_in table c.args.statement.now =
-    ap (λ (ss : List Statement). tree.For (statements_in table ss) condition last (statement_in table body)) c.deref-in-For-2.ensures.value
-    ∙ (ap (λ (s : Statement). tree.For (statements_in table c.in-For.first.items) condition last (statement_in table s)) c.deref-in-For.ensures
-    ∙ (sym (for_means table c.in-For.first c.in-For.condition c.in-For.last c.in-For.body) ∙ ap (statement_in table) (sym c.in-For.is))) in
+    let loop = statement_code (tree.For 0 tree.NoStatements condition last (statement_in table body)) x 0 0 in
+    let means : tree.For c.in-For.from (statements_in table first) condition last (statement_in table body) ≡ statement_in table c.args.statement.now =
+    ap (λ (ss : List Statement). tree.For c.in-For.from (statements_in table ss) condition last (statement_in table body)) c.deref-in-For-2.ensures.value
+    ∙ (ap (λ (s : Statement). tree.For c.in-For.from (statements_in table c.in-For.first.items) condition last (statement_in table s)) c.deref-in-For.ensures
+    ∙ (sym (for_means table c.in-For.from c.in-For.first c.in-For.condition c.in-For.last c.in-For.body) ∙ ap (statement_in table) (sym c.in-For.is))) in
     subst (λ (s : tree.Statement). OnOk c.statements-in-For.result (c.statements-in-For.new.code ≡ statement_code s x (length old - c.args.stop) (length old - c.args.again) ++ old)) means
     (on_ok_weaker c.statements-in-For.result
     (λ e. more_made old (length old) refl loop (statements_code (statements_in table first) x) c.args.stop c.args.again c.for_loop.new.code c.statements-in-For.new.code

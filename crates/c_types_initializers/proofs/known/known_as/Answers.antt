@@ -1,5 +1,0 @@
-use Rattle.c_types_initializers.proofs.Starts.{expr_inside}
-use Rattle.c_types_initializers.proofs.known.known_as.Goals as goal
-
-pub expr-requires : goal.expr-requires
-expr-requires c = record { inside = expr_inside c.args.tree.now c.args.id c.requires.id }
