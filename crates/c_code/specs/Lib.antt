@@ -7,3 +7,4 @@ pub mod Valid
 pub mod Laws
 pub mod Typed
 pub mod Fits
+pub mod Opens

@@ -13,8 +13,8 @@ pub use activation::{Activation, Call, Waiting};
 pub use code::{Code, FuncInfo};
 pub use instr::{Change, Combine, Instr, Push};
 pub use laws::{
-    above_forgets, each_mark_is_wanted, prefixes_are_lists, typed_code_forgets, valid_code_goes_on,
-    what_is_expected_is_wanted,
+    above_forgets, each_mark_is_wanted, marks_are_open, prefixes_are_lists, typed_code_forgets,
+    valid_code_goes_on, what_is_expected_is_wanted,
 };
 pub use lists::Shapes;
 pub use marks::Side;

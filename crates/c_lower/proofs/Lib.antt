@@ -7,3 +7,4 @@ pub mod Valid
 pub mod Naming
 pub mod Names
 pub mod Gathered
+pub mod Types

@@ -1,3 +1,4 @@
 pub mod Lowered
 pub mod Depths
 pub mod Named
+pub mod Types

@@ -6,6 +6,7 @@ ghost use Rattle.c_lower_rules.specs.Laws.{MakesTheMarks};
 ghost use Rattle.c_lower_laws.specs.Fits.{IsFit};
 ghost use Rattle.c_lower.specs.Lowered.{IsSourceOf, lowered};
 ghost use Rattle.c_lower.specs.Named.{NamesNoMore};
+ghost use Rattle.c_lower.specs.Types.{TellsTypes};
 ghost use Rattle.c_lower.specs.Depths.{first_wide as first_wide_of, most_nodes};
 
 use crate::error::LowerError;
@@ -63,6 +64,7 @@ pub fn lower(
     ensures few { OnOk result ((nodes ≤ most_nodes) × (first_wide_of program.now.table counted.now 0 program.now.functions ≡ None)) }
     ensures code { IfOk result (λ c. c ≡ lowered program.now) }
     ensures marks { IfOk result (λ c. (s : Source) → IsSourceOf program.now s → MakesTheMarks s c) }
+    ensures types { IfOk result (λ c. (s : Source) → IsSourceOf program.now s → TellsTypes s c) }
     ensures names { IfOk result (λ c. NamesNoMore program.now c) }
 {
     if nodes > MOST_NODES {

@@ -1,13 +1,15 @@
 -- A frame that begins with scalars holds them.
-use Rattle.std.proofs.Common.{◌≡◌, ℕ, ◌+◌, ◌/◌, ◌≤◌, max, Bool, true, false, List, [], ◌∷◌, ◌++◌, map, refl, sym, ap, ◌∙◌, subst, arith}
+use Rattle.std.proofs.Common.{◌≡◌, ℕ, ◌+◌, ◌/◌, ◌≤◌, true, false, List, [], ◌∷◌, ◌++◌, length, map, take, refl, sym, ap, ◌∙◌, arith}
 use Rattle.std.specs.Int.{next_multiple_of}
+use Rattle.std.proofs.Math.Seq.{take-append_seam}
 use Rattle.r2_num.specs.declared.kinds.IntKind.{IntKind}
 use Rattle.r2_num.specs.declared.kinds.IntKind.TheVariants.{I8, U8, I16, U16, I32, U32, I64, U64}
 use Rattle.r2_num.specs.Kinds.{width_of}
-use Rattle.c_code.specs.Frames.{params_end}
+use Rattle.c_code.specs.Frames.{param_offsets, params_end}
+use Rattle.c_code.proofs.FrameBytes.{offsets_count}
 use Rattle.c_code.specs.Values.{bytes_of}
 use Rattle.c_types_model.specs.Types.{CType, CTypes, Void, Integer, PointerTo, ArrayOf, StructOf, UndefinedStruct, FunctionOf, NoTypes, MoreTypes}
-use Rattle.c_types_model.specs.Layouts.{end_from, extent_of}
+use Rattle.c_types_model.specs.Layouts.{end_from, extent_of, offsets_from}
 use Rattle.c_types_model.specs.declared.extent.Extent.{Extent}
 use Rattle.c_types_rules.specs.Limits.{frame_size}
 use Rattle.c_types_rules.specs.Sources.{Program, extent_or, extents_in, listed}
@@ -64,3 +66,34 @@ frame_holds p ts locals h starts =
     let whole : end_from 0 (extents_in p locals) ≡ end_from first (extents_in p starts.0) =
     ap (λ us. end_from 0 (extents_in p us)) (sym starts.1) ∙ (ap (end_from 0) (extents_of_both p (listed ts) starts.0) ∙ end_of_both 0 (extents_in p (listed ts)) (extents_in p starts.0)) in
     omega (arith, scalars_end p ts 0 h, whole, end_is_after first (extents_in p starts.0))
+
+-- ---- their places
+
+offsets_of_both : (at : ℕ) (xs ys : List Extent) → offsets_from at (xs ++ ys) ≡ offsets_from at xs ++ offsets_from (end_from at xs) ys
+offsets_of_both at [] ys = refl
+offsets_of_both at (x ∷ xs) ys = ap (λ os. next_multiple_of at x.align ∷ os) (offsets_of_both (next_multiple_of at x.align + x.size) xs ys)
+
+-- parameters lie in a frame where they lie as objects in a row
+scalars_lie : (p : Program) (ts : CTypes) (at : ℕ) → AreScalars ts → param_offsets at (shapes_of ts) ≡ offsets_from at (extents_in p (listed ts))
+scalars_lie p NoTypes at h = refl
+scalars_lie p (MoreTypes (Integer k) ts) at h =
+    ap (λ n. next_multiple_of at n ∷ param_offsets (next_multiple_of at n + n) (shapes_of ts)) (bytes_are k)
+    ∙ ap (λ os. next_multiple_of at (width_of k / 8) ∷ os) (scalars_lie p ts (next_multiple_of at (width_of k / 8) + width_of k / 8) h.1)
+scalars_lie p (MoreTypes (PointerTo t) ts) at h = ap (λ os. next_multiple_of at 8 ∷ os) (scalars_lie p ts (next_multiple_of at 8 + 8) h.1)
+scalars_lie p (MoreTypes Void ts) at h = absurd (never h.0)
+scalars_lie p (MoreTypes (ArrayOf n t) ts) at h = absurd (never h.0)
+scalars_lie p (MoreTypes (StructOf n) ts) at h = absurd (never h.0)
+scalars_lie p (MoreTypes (UndefinedStruct tag) ts) at h = absurd (never h.0)
+scalars_lie p (MoreTypes (FunctionOf r ps) ts) at h = absurd (never h.0)
+
+-- the first locals of a frame that begins with these parameters lie where the parameters do
+pub params_lie : (p : Program) (ts : CTypes) (locals : List CType) → AreScalars ts → Starts (listed ts) locals → take (length (shapes_of ts)) (offsets_from 0 (extents_in p locals)) ≡ param_offsets 0 (shapes_of ts)
+params_lie p ts locals h starts =
+    let first = extents_in p (listed ts) in
+    let offsets = offsets_from 0 first in
+    let rest = offsets_from (end_from 0 first) (extents_in p starts.0) in
+    let whole : offsets_from 0 (extents_in p locals) ≡ offsets ++ rest =
+    ap (λ us. offsets_from 0 (extents_in p us)) (sym starts.1) ∙ (ap (offsets_from 0) (extents_of_both p (listed ts) starts.0) ∙ offsets_of_both 0 first (extents_in p starts.0)) in
+    let same : param_offsets 0 (shapes_of ts) ≡ offsets = scalars_lie p ts 0 h in
+    let count : length (shapes_of ts) ≡ length offsets = sym (offsets_count 0 (shapes_of ts)) ∙ ap length same in
+    ap (take (length (shapes_of ts))) whole ∙ (ap (λ n. take n (offsets ++ rest)) count ∙ (take-append_seam offsets rest ∙ sym same))

@@ -1,14 +1,15 @@
 -- A typed program is fit.
-use Rattle.std.proofs.Common.{◌≡◌, ℕ, zero, suc, ◌+◌, ◌-◌, ◌^◌, ◌<◌, ◌≤◌, Bool, true, false, ◌&&◌, cond, ltb, lit≤, List, [], ◌∷◌, length, map, Option, Some, None, refl, sym, ap, ◌∙◌, subst, arith}
+use Rattle.std.proofs.Common.{◌≡◌, ℕ, zero, suc, ◌+◌, ◌-◌, ◌^◌, ◌<◌, ◌≤◌, Bool, true, false, ◌&&◌, cond, ltb, lit≤, List, [], ◌∷◌, length, map, take, Option, Some, None, refl, sym, ap, ◌∙◌, subst, arith}
 use Rattle.std.specs.Prelude.{slice_get, nat_le}
 use Rattle.std.specs.Option.{option_map}
 use Rattle.std.proofs.lemmas.Option.{same_Some, slice_get-map, slice_get_within}
 use Rattle.std.proofs.lemmas.Bool.{le-ltb, leb-true, ltb-false}
 use Rattle.marks.specs.Places.{builtin_count}
-use Rattle.c_code.specs.Frames.{params_end}
+use Rattle.c_code.specs.Frames.{param_offsets, params_end}
 use Rattle.c_code.specs.declared.code.FuncInfo.{FuncInfo}
 use Rattle.c_code.specs.Machine.{Flat, func_of}
 use Rattle.c_syntax.specs.Syntax.{Decls}
+use Rattle.c_types_model.specs.Layouts.{offsets_from}
 use Rattle.c_types_model.specs.Types.{CType, CTypes, Void, Integer, PointerTo, ArrayOf, StructOf, UndefinedStruct, FunctionOf, NoTypes, MoreTypes}
 use Rattle.c_builtins.specs.declared.builtin.Builtin.{Builtin}
 use Rattle.c_builtins.specs.declared.builtin.Builtin.TheVariants.{Malloc, Free, Spawn, Join, Lock, Unlock, Print}
@@ -16,7 +17,7 @@ use Rattle.c_builtins.specs.Table.{number_of, prototype_of}
 use Rattle.c_types_rules.specs.Checked.{Checked, Fine, Large, Broken}
 use Rattle.c_types_rules.specs.Limits.{Which, Functions, Params, Outcome, Typed, Limit, all_keep, count as types_count, decided, few_params, first_limit, frame_size, most_functions, outcome, unless}
 use Rattle.c_types_rules.specs.Limits as limits
-use Rattle.c_types_rules.specs.Sources.{Function, Program, params_of, program}
+use Rattle.c_types_rules.specs.Sources.{Function, Program, extents_in, params_of, program}
 use Rattle.c_types_rules.specs.TypedTree as typed
 use Rattle.c_semantics.specs.Context.{Source, body_of, body_or, builtin_of, param_shapes, shapes_of, source_function, type_of, type_or}
 use Rattle.c_lower_laws.proofs.Held.{Holds}
@@ -26,7 +27,7 @@ use Rattle.c_types_program.specs.Programs.{IsProgram, program_in}
 use Rattle.c_lower_layout.specs.Sources.{sig_in, source_in, types_of_functions}
 use Rattle.c_lower_laws.specs.Fits.{IsBodyFit, IsFit, IsFitSource, Knows}
 use Rattle.c_lower_laws.proofs.Values.{IsAt, Serves, params_count}
-use Rattle.c_lower_laws.proofs.Frames.{frame_holds}
+use Rattle.c_lower_laws.proofs.Frames.{frame_holds, params_lie}
 use Rattle.c_lower_laws.proofs.Locals.{Begins}
 use Rattle.c_lower_laws.proofs.Params.{AreScalars, TakesScalars}
 use Rattle.c_lower_laws.proofs.Programs.{Extends, Fits, Good, source_good}
@@ -124,6 +125,7 @@ module _ (s : Source) (sig : CType → ℕ) (facts : Facts s.program.functions) 
           record {
             calls = λ code knows. fits.1 (making s code sig b) us (serves code b knows) extends;
             holds = subst (λ t. params_end 0 (shapes_of (params_of t)) ≤ frame_size s.program b.locals) (sym type) (frame_holds s.program (params_of g.type) b.locals (scalars_of g.type (facts.scalars h.place g h.there)) fits.0);
+            places = subst (λ t. take (length (shapes_of (params_of t))) (offsets_from 0 (extents_in s.program b.locals)) ≡ param_offsets 0 (shapes_of (params_of t))) (sym type) (params_lie s.program (params_of g.type) b.locals (scalars_of g.type (facts.scalars h.place g h.there)) fits.0);
           }
 
   params_few : (f : ℕ) → length (param_shapes s f) ≤ 8

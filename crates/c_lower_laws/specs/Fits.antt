@@ -1,8 +1,8 @@
 -- What holds of programs that keep the rules of types and their limits.
-use Rattle.std.specs.Prelude.{◌≡◌, ℕ, ◌+◌, ◌^◌, ◌<◌, ◌≤◌, List, length, Some}
+use Rattle.std.specs.Prelude.{◌≡◌, ℕ, ◌+◌, ◌^◌, ◌<◌, ◌≤◌, length, take, Some}
 use Rattle.marks.specs.Places.{builtin_count}
 use Rattle.c_code.specs.declared.code.FuncInfo.{FuncInfo}
-use Rattle.c_code.specs.Frames.{params_end}
+use Rattle.c_code.specs.Frames.{param_offsets, params_end}
 use Rattle.c_code.specs.Machine.{Flat, func_of}
 use Rattle.c_code.specs.Valid.{most_params}
 use Rattle.c_types_model.specs.Types.{CType}
@@ -10,7 +10,7 @@ use Rattle.c_builtins.specs.declared.builtin.Builtin.{Builtin}
 use Rattle.c_builtins.specs.Table.{number_of}
 use Rattle.c_types_rules.specs.TypedTree.{Body}
 use Rattle.c_types_rules.specs.Limits.{frame_size}
-use Rattle.c_semantics.specs.Context.{Source, body_of, param_shapes, type_of}
+use Rattle.c_semantics.specs.Context.{Source, body_of, local_offsets, param_shapes, type_of}
 use Rattle.c_lower_rules.specs.Code.{making}
 use Rattle.c_lower_rules.specs.Heights.{StatementCalls}
 use Rattle.c_types_program.specs.Declarations.{Declared}
@@ -24,10 +24,11 @@ pub record Knows (s : Source) (code : Flat) (sig : CType → ℕ) : Type 0 where
   pub builtins : (b : Builtin) → (info : FuncInfo) × (func_of code (number_of b) ≡ Some info)
   pub sources : (k : ℕ) → k < length s.program.functions → (info : FuncInfo) × (func_of code (builtin_count + k) ≡ Some info)
 
--- in a body each call has one value per parameter, and its frame begins with its parameters
+-- in a body each call has one value per parameter, and its frame begins with its parameters, each at the place of its local
 pub record IsBodyFit (s : Source) (sig : CType → ℕ) (f : ℕ) (b : Body) : Type 0 where
   pub calls : (code : Flat) → Knows s code sig → StatementCalls b.statements (making s code sig b)
   pub holds : params_end 0 (param_shapes s f) ≤ frame_size s.program b.locals
+  pub places : take (length (param_shapes s f)) (local_offsets s b.locals) ≡ param_offsets 0 (param_shapes s f)
 
 pub record IsFitSource (s : Source) (sig : CType → ℕ) : Type 0 where
   pub bodies : (f : ℕ) (b : Body) → body_of s f ≡ Some b → IsBodyFit s sig f b

@@ -4,3 +4,4 @@ pub mod Ranges
 pub mod Marks
 pub mod Bytes
 pub mod Wants
+pub mod Opens

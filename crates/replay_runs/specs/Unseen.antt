@@ -13,7 +13,7 @@ use Rattle.replay_runs.specs.Interface.{Program}
 use Rattle.replay_runs.specs.Threads.{HasRoom, OpenCall, end_of, frame_place, open_calls, frames}
 use Rattle.replay_runs.specs.Pool.{blocks, in_use}
 use Rattle.replay_runs.specs.Keys.{key}
-use Rattle.replay_runs.specs.Rules.{replay_rules}
+use Rattle.replay_runs.specs.Rules.{is_reply, replay_rules}
 use Rattle.replay_runs.specs.Laws.{fresh}
 use Rattle.replay_runs.specs.Passing.{Unraced}
 use Rattle.replay_runs.specs.Blocks.{ListsBlocks}
@@ -64,13 +64,22 @@ abbrev pub FramesEndInOrder : Start → List Mark → Type 0
 FramesEndInOrder s [] = Unit {0}
 FramesEndInOrder s (m ∷ past) = LeavesFirst m.act (frames (marks_of s m.thread past)) × FramesEndInOrder s past
 
--- code that leaves a frame leaves the innermost one of its thread's marks
+-- each of a thread's marks stands above the cut and is one that its code wanted after those before it
+abbrev pub AreWanted : Program → ℕ → List Mark → Type 0
+AreWanted program t [] = Unit {0}
+AreWanted program t (m ∷ mine) = (m.side ≡ Replay) × (is_reply (program.want t mine) m.act ≡ true) × AreWanted program t mine
+
+-- after such marks, code that leaves a frame leaves the innermost one of them
 abbrev pub EndsOwnFrames : Program → Type 0
-EndsOwnFrames program = (t : ℕ) (mine : List Mark) (at size : ℕ) → program.want t mine ≡ Leaves at size → LeavesFirst (Leave at size) (frames mine)
+EndsOwnFrames program = (t : ℕ) (mine : List Mark) (at size : ℕ) → AreWanted program t mine → program.want t mine ≡ Leaves at size → LeavesFirst (Leave at size) (frames mine)
+
+-- what each thread is in the midst of, its code wanted
+abbrev pub BeginsWanted : Program → Start → Type 0
+BeginsWanted program s = (t : ℕ) → AreWanted program t (s.parts t)
 
 -- and then each run does so
 abbrev pub CodeEndsFramesInOrder : Program → Type 0
-CodeEndsFramesInOrder program = EndsOwnFrames program → (s : Start) (run : List Mark) → Run (replay_rules program s) s run → FramesEndInOrder s run
+CodeEndsFramesInOrder program = EndsOwnFrames program → (s : Start) (run : List Mark) → BeginsWanted program s → Run (replay_rules program s) s run → FramesEndInOrder s run
 
 -- frames that stand one on the other
 abbrev pub Stacked : ℕ → List Range → Type 0

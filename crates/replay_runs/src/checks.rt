@@ -95,7 +95,7 @@ pub fn frames_race_with_nothing()
     ensures { (program : Program) (s : Start) → FramesRaceWithNothing program s }
 {}
 
-/// Where the code of each thread leaves no frame but its innermost one, no run does.
+/// Where the code of each thread leaves no frame but the innermost one of the marks that it wanted, no run does.
 pub fn code_ends_frames_in_order()
     ensures { (program : Program) → CodeEndsFramesInOrder program }
 {}

@@ -5,7 +5,9 @@ use Rattle.c_lower_rules.specs.Laws.{MakesTheMarks}
 use Rattle.c_types_program.specs.Declarations.{function_in}
 use Rattle.c_lower_layout.specs.Sources.{source_in}
 use Rattle.c_lower.specs.Named.{NamesNoMore}
+use Rattle.c_lower.specs.Types.{TellsTypes}
 use Rattle.c_lower.proofs.Names.{named}
+use Rattle.c_lower.proofs.Types.{tells_types}
 use Rattle.c_lower.proofs.Valid.{marks}
 use Rattle.c_lower.proofs.lowering.lower.Goals as goal
 
@@ -18,3 +20,6 @@ returns-in_ok-code-in-None-clause-marks c = λ s is_of. subst (λ (k : Flat). Ma
 
 pub returns-in_ok-code-in-None-clause-names : goal.returns-in_ok-code-in-None-clause-names
 returns-in_ok-code-in-None-clause-names c = subst (λ (k : Flat). NamesNoMore c.args.program.now k) (sym c.in_ok-code-in-None.ensures) (named c.args.program.now)
+
+pub returns-in_ok-code-in-None-clause-types : goal.returns-in_ok-code-in-None-clause-types
+returns-in_ok-code-in-None-clause-types c = λ s is_of. subst (λ (k : Flat). TellsTypes s k) (sym c.in_ok-code-in-None.ensures) (tells_types c.args.program.now s is_of)
