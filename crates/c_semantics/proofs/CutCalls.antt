@@ -16,7 +16,7 @@ use Rattle.c_semantics.specs.Context.{Source, body_of, frame_of, is_face, param_
 use Rattle.c_semantics.specs.Calls.{Bodies, any_below, any_step, back_or_plain, begun, behaviour, below, bodies, call, called_back, callee, calling, entering, entering_below, first, here, is_pool, own_below, pooling, started, stepping, thread_above, thread_behaviour, to_callee}
 use Rattle.c_semantics.specs.Parts.{ReplayPartIsRight}
 use Rattle.c_semantics.specs.Returned.{ResultsAreConverted}
-use Rattle.c_semantics.proofs.Relations.{Bounds, Less, AtMost, Cuts, lower, weaker_all, cut_cond, cut_fails, cut_frame, cut_value}
+use Rattle.c_semantics.proofs.Relations.{Bounds, Less, AtMost, Cuts, lower, weaker_all, cut_cond, cut_fails, cut_frame, cut_value, bare_plain}
 use Rattle.c_semantics.proofs.ValuePrefixes.{CallsCut}
 use Rattle.c_semantics.proofs.CallPrefixes.{calls_of, making_cut}
 use Rattle.c_semantics.proofs.Returned.{restricted, made_same}
@@ -104,7 +104,7 @@ module _ (s : Source) where
 
     system_calls : (k : Bounds) (b : Bodies) (f base : ℕ) → ((j : Bounds) → j.left < k.left → j.right < most → Replays j b c) → ((j : Bounds) → j.left < k.left → Systems j most b c) → CallsCut (gone s c l most) k (here Split s b System f base) (calls_of Split s b System)
     system_calls k b f base r d = record {
-      plain = λ want p. (refl, p);
+      plain = λ want p. (refl, bare_plain want p);
       named = λ j le g args go on e. call_gone j b (is_face s g) (is_some (body_of s g)) false g args go (λ i a y. r i (let x = le.0 in omega arith) y) (λ i a. d i (let x = le.0 in omega arith)) e;
       pointed = λ j le t a args go on e. callee_gone j b (callee s t a) args go (λ i z y. r i (let x = le.0 in omega arith) y) (λ i z. d i (let x = le.0 in omega arith)) e;
     }

@@ -15,7 +15,7 @@ use Rattle.c_semantics.specs.Reading.{Marks, wrong, ended, heard, ask, with_valu
 use Rattle.c_semantics.specs.Context.{Source, body_of, frame_of, is_face, param_shapes, result_shape}
 use Rattle.c_semantics.specs.Calls.{Bodies, back_or_plain, begun, below, bodies, call, called_back, callee, calling, entering, entering_below, first, here, is_pool, own_below, pooling, started, stepping, thread_behaviour, to_callee}
 use Rattle.c_semantics.specs.Returned.{ResultsAreConverted, ReturnsGiveValues}
-use Rattle.c_semantics.proofs.Relations.{Bounds, Less, AtMost, Relation, lower, cut_cond, cut_fails, cut_frame, cut_value}
+use Rattle.c_semantics.proofs.Relations.{Bounds, Less, AtMost, Relation, lower, cut_cond, cut_fails, cut_frame, cut_value, bare_plain}
 use Rattle.c_semantics.proofs.ValuePrefixes.{CallsCut}
 use Rattle.c_semantics.proofs.CallPrefixes.{calls_of, making_cut}
 use Rattle.c_semantics.proofs.Returned.{restricted, made_same}
@@ -149,11 +149,11 @@ module _ (s : Source) where
 
   callee_well : (k : Bounds) (b : Bodies) (side : Side) (o : Option ℕ) (args : List ℕ) (go : ℕ → Marks) → After k b → ((v : ℕ) → W k (go v)) → W k (to_callee Split s b side o args go)
   callee_well k b side (Some f) args go d e = calling_well k b side (is_face s f) (is_some (body_of s f)) true f args go d e
-  callee_well k b side None args go d e = cut_fails well k side BadCall (λ want p. plain_fine s want p)
+  callee_well k b side None args go d e = cut_fails well k side BadCall (λ want p. plain_fine s want (bare_plain want p))
 
   calls_well : (k : Bounds) (b : Bodies) (side : Side) (f base : ℕ) → After k b → CallsCut well k (here Split s b side f base) (calls_of Split s b side)
   calls_well k b side f base d = record {
-    plain = λ want p. plain_fine s want p;
+    plain = λ want p. plain_fine s want (bare_plain want p);
     named = λ j le g args go on e.
         cut_cond well j (is_pool side g) (pooling g args go) (pooling g args on) (call Split s b side false g args go) (call Split s b side false g args on)
         (pooling_well g j args go e) (calling_well j b side (is_face s g) (is_some (body_of s g)) false g args go (fewer j k b le d) e);
@@ -181,7 +181,7 @@ module _ (s : Source) where
     begun_well k b false f args d = stepping_well k System true f args ended (λ v. well_ends k v)
 
     started_well : (k : Bounds) (b : Bodies) (o : Option ℕ) (args : List ℕ) → After k b → W k (started s b o args)
-    started_well k b None args d = cut_fails well k System BadCall (λ want p. plain_fine s want p)
+    started_well k b None args d = cut_fails well k System BadCall (λ want p. plain_fine s want (bare_plain want p))
     started_well k b (Some f) args d = begun_well k b (is_some (body_of s f)) f args d
 
     pub returns_give_values : (t : CType) (address : ℕ) (args : List ℕ) → ReturnsGiveValues s (thread_behaviour s t address args)

@@ -14,3 +14,5 @@ pub mod Parts
 pub mod GivenBack
 mod TypedReturns
 mod TypedFunctions
+pub mod Guarded
+pub mod Carried

@@ -2,7 +2,7 @@
 use Rattle.std.proofs.Common.{ℕ, zero, suc, ◌<◌, ◌≤◌, Bool, true, false, cond, length, Result, Ok, Err, arith}
 use Rattle.marks.specs.declared.side.Side.{Side}
 use Rattle.marks.specs.declared.fault.FaultKind.{FaultKind}
-use Rattle.marks.specs.Wants.{Want, Fails, Answer, Go, Value, Frame, CalledBack, Stopped}
+use Rattle.marks.specs.Wants.{Want, Outside, Turns, Loads, Stores, Enters, Leaves, Allocs, Frees, Calls, Below, Gives, Returns, CallsBack, UpReturns, Steps, Fails, Answer, Go, Value, Frame, CalledBack, Stopped}
 use Rattle.c_code.specs.declared.shape.Shape.{Shape}
 use Rattle.c_code.specs.declared.shape.Shape.TheVariants.{Pointer}
 use Rattle.c_code.specs.Values.{at_zero, is_value}
@@ -43,9 +43,46 @@ pub record Relation : Type 1 where
 abbrev pub FollowsAll : Relation → Type 0
 FollowsAll R = (side : Side) (want : Want) → R.follows side want
 
--- it follows the marks of the side that are no events
+-- what a function wants besides its calls
+abbrev pub IsBare : Want → Type 0
+IsBare Outside = ⊥
+IsBare Turns = Unit {0}
+IsBare (Loads o at n) = Unit {0}
+IsBare (Stores o at bytes) = Unit {0}
+IsBare (Enters i f args bytes) = ⊥
+IsBare (Leaves at n) = Unit {0}
+IsBare (Allocs n) = ⊥
+IsBare (Frees at) = ⊥
+IsBare (Calls i f args) = ⊥
+IsBare (Below f args) = ⊥
+IsBare (Gives f args) = ⊥
+IsBare (Returns f args v) = ⊥
+IsBare (CallsBack f args bytes) = ⊥
+IsBare (UpReturns f v) = ⊥
+IsBare (Steps i f args) = ⊥
+IsBare (Fails kind) = Unit {0}
+
+pub bare_plain : (want : Want) → IsBare want → IsPlain want
+bare_plain Turns b = tt
+bare_plain (Loads o at n) b = tt
+bare_plain (Stores o at bytes) b = tt
+bare_plain (Leaves at n) b = tt
+bare_plain (Fails kind) b = tt
+bare_plain Outside b = absurd b
+bare_plain (Enters i f args bytes) b = absurd b
+bare_plain (Allocs n) b = absurd b
+bare_plain (Frees at) b = absurd b
+bare_plain (Calls i f args) b = absurd b
+bare_plain (Below f args) b = absurd b
+bare_plain (Gives f args) b = absurd b
+bare_plain (Returns f args v) b = absurd b
+bare_plain (CallsBack f args bytes) b = absurd b
+bare_plain (UpReturns f v) b = absurd b
+bare_plain (Steps i f args) b = absurd b
+
+-- it follows the marks of the side that a function makes besides its calls
 abbrev pub FollowsPlain : Relation → Side → Type 0
-FollowsPlain R side = (want : Want) → IsPlain want → R.follows side want
+FollowsPlain R side = (want : Want) → IsBare want → R.follows side want
 
 -- for each value that comes before
 abbrev pub Cuts : Relation → Bounds → (ℕ → Marks) → (ℕ → Marks) → Type 0

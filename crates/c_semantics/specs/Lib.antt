@@ -6,3 +6,4 @@ pub mod Calls
 pub mod Laws
 pub mod Returned
 pub mod Parts
+pub mod Arguments

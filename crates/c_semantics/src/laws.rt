@@ -1,6 +1,6 @@
 //! What holds of the marks of every source.
 
-ghost use Rattle.std.specs.Prelude.{◌≡◌, ℕ, List};
+ghost use Rattle.std.specs.Prelude.{◌≡◌, ℕ, true, List};
 ghost use Rattle.marks.specs.declared.side.Side.{Side};
 ghost use Rattle.marks.specs.declared.side.Side.TheVariants.{Replay};
 ghost use Rattle.memory_map.specs.declared.placed.Placed.{Placed};
@@ -8,12 +8,14 @@ ghost use Rattle.c_syntax.specs.Syntax.{Decls};
 ghost use Rattle.c_code.specs.MarkLists.{Reading, Split, Above};
 ghost use Rattle.c_types_model.specs.Types.{CType};
 ghost use Rattle.c_types_rules.specs.Limits.{Typed, outcome};
-ghost use Rattle.c_types_rules.specs.Sources.{Program};
+ghost use Rattle.c_types_rules.specs.Sources.{Program, params_of};
 ghost use Rattle.c_semantics.specs.Calls.{behaviour, thread_above, thread_behaviour};
-ghost use Rattle.c_semantics.specs.Context.{Source};
+ghost use Rattle.c_semantics.specs.Context.{Source, shapes_of};
+ghost use Rattle.c_code.specs.Frames.{are_values};
 ghost use Rattle.c_semantics.specs.Laws.{EndIsLast, PrefixesAreRight, NextIsOne};
 ghost use Rattle.c_semantics.specs.Parts.{ReplayPartIsRight, WantAboveIsOne};
 ghost use Rattle.c_semantics.specs.Returned.{ResultsAreConverted, ReturnsGiveValues};
+ghost use Rattle.c_semantics.specs.Arguments.{ArgumentsAreConverted, WantsCarryValues};
 
 /// A law: a list of marks that a call, a thread, or a thread above the cut can make stays one when it is cut short.
 pub fn prefixes_are_right()
@@ -58,4 +60,10 @@ pub fn results_are_converted()
 /// A law: what a function that replay code called below the cut gives back is a value of its result's type.
 pub fn returns_give_values()
     ensures { (s : Source) → ResultsAreConverted s → (t : CType) (address : ℕ) (args : List ℕ) → ReturnsGiveValues s (thread_behaviour s t address args) }
+{}
+
+/// A law: where results and arguments are converted, what a thread wants carries values of their types: the arguments of each
+/// function that is entered, called or called back, and each result.
+pub fn wants_carry_values()
+    ensures { (s : Source) → ResultsAreConverted s → ArgumentsAreConverted s → (t : CType) (address : ℕ) (args : List ℕ) → are_values (shapes_of (params_of t)) args ≡ true → WantsCarryValues s (thread_behaviour s t address args) }
 {}
