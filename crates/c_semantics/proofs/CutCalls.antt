@@ -100,7 +100,7 @@ module _ (s : Source) where
     callee_gone : (k : Bounds) (b : Bodies) (o : Option ℕ) (args : List ℕ) (go : ℕ → Marks) → ((j : Bounds) → j.left < k.left → j.right < most → Replays j b c) → ((j : Bounds) → j.left < k.left → Systems j most b c) → ((v : ℕ) → Gone s c l most k (go v) wrong)
         → Gone s c l most k (to_callee Split s b System o args go) wrong
     callee_gone k b (Some f) args go r d e = call_gone k b (is_face s f) (is_some (body_of s f)) true f args go r d e
-    callee_gone k b None args go r d e = cut_fails (gone s c l most) k System BadCall (λ want p. (refl, p))
+    callee_gone k b None args go r d e = cut_fails (gone s c l most) k System BadCall (λ want p. (refl, bare_plain want p))
 
     system_calls : (k : Bounds) (b : Bodies) (f base : ℕ) → ((j : Bounds) → j.left < k.left → j.right < most → Replays j b c) → ((j : Bounds) → j.left < k.left → Systems j most b c) → CallsCut (gone s c l most) k (here Split s b System f base) (calls_of Split s b System)
     system_calls k b f base r d = record {
@@ -226,7 +226,7 @@ module _ (s : Source) where
         entering_seen k (bodies (suc n) Split s) (bodies (suc m) Above s) false f args ended ended (λ j lt. (within (suc n)).replays (suc m) j (let x = lt.0 in omega arith) (let y = lt.1 in omega arith)) (λ v. seen.ends k v) ms (omega arith) (omega arith) right
 
     started_gone : (n m : ℕ) (o : Option ℕ) (args : List ℕ) → Gone s (bodies (suc m) Above s) (beyond s (bodies (suc m) Above s)) m (bounds n n) (started s (bodies (suc n) Split s) o args) wrong
-    started_gone n m None args = cut_fails (gone s (bodies (suc m) Above s) (beyond s (bodies (suc m) Above s)) m) (bounds n n) System BadCall (λ want p. (refl, p))
+    started_gone n m None args = cut_fails (gone s (bodies (suc m) Above s) (beyond s (bodies (suc m) Above s)) m) (bounds n n) System BadCall (λ want p. (refl, bare_plain want p))
     started_gone n m (Some f) args = by (is_some (body_of s f))
       where
         by : (has : Bool) → Gone s (bodies (suc m) Above s) (beyond s (bodies (suc m) Above s)) m (bounds n n) (begun s (bodies (suc n) Split s) has f args) wrong
