@@ -1,7 +1,8 @@
-//! A program to be timed: the same accesses over the memory of a run, and over plain bytes; and a loop under a thread.
+//! A program to be timed: the same accesses over the memory of a run, and over plain bytes; and loops under a thread, without calls
+//! and with them.
 //!
-//! With the word `spaces`, `plain` or `thread` it does one of the three. Of the first two it prints the last number stored, which is
-//! the same; of the third the number of marks, and what its `main` gives.
+//! With the word `spaces`, `plain`, `thread` or `calls` it does one of the four. Of the first two it prints the last number stored,
+//! which is the same; of the others the number of marks, and what their `main` gives.
 #![tactic(auto)]
 
 mod accesses;
@@ -14,7 +15,7 @@ use memory_map::{Flags, Placed, Places};
 use space_memory::Spaces;
 use std::alloc::Global;
 use std::env;
-use thread::over_thread;
+use thread::{over_calls, over_thread};
 
 /// The last number stored over the memory of a run: a block above the cut.
 fn spaces(alloc: Global) -> anyhow::Result<u64> {
@@ -48,6 +49,10 @@ fn main(rt: HostRuntime) -> anyhow::Result<()> {
     if word == "thread" || word == "all" {
         let (marks, result) = over_thread(rt.alloc())?;
         println!(rt; "thread {marks} {result}")?;
+    }
+    if word == "calls" || word == "all" {
+        let (marks, result) = over_calls(rt.alloc())?;
+        println!(rt; "calls {marks} {result}")?;
     }
     Ok(())
 }

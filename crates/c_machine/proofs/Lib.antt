@@ -18,3 +18,4 @@ pub mod Counts
 pub mod Returning
 pub mod Words
 pub mod Signs
+pub mod Acting

@@ -2,8 +2,7 @@ pub mod Positions
 pub mod Silent
 pub mod Wants
 pub mod Moves
-pub mod Heard
-pub mod Called
+pub mod Acts
 pub mod Rooms
 pub mod Readers
 pub mod Answers

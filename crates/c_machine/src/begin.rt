@@ -30,10 +30,10 @@ impl Position {
         requires may { MayBegin (laid code.now placed.now) (config self.old) func args.now side up }
         requires few { length args.now ≤ most_values }
         requires values { length (values_of (config self.old)) + length args.now < room_of self.old.values }
-        requires waits { length (waits_of (config self.old)) < room_of self.old.waits }
+        requires waits { length (waits_of (config self.old)) < room_of self.old.waits.all }
         ensures begun { config self.new ≡ begun (laid code.now placed.now) (config self.old) func args.now side up }
         ensures values { room_of self.new.values ≡ room_of self.old.values }
-        ensures waits { room_of self.new.waits ≡ room_of self.old.waits }
+        ensures waits { room_of self.new.waits.all ≡ room_of self.old.waits.all }
     {
         match self.state {
             State::Calling(call, _) => self.begin_at(call, code, placed, func, args, side, up),
@@ -70,14 +70,14 @@ impl Position {
         side: Side,
         up: bool,
     )
-        requires at { config self.old ≡ Under call (held self.old.values) (held self.old.waits) }
+        requires at { config self.old ≡ Under call (held self.old.values) (held self.old.waits.all) }
         requires may { MayBegin (laid code.now placed.now) (config self.old) func args.now side up }
         requires few { length args.now ≤ most_values }
         requires values { length (held self.old.values) + length args.now < room_of self.old.values }
-        requires waits { length (held self.old.waits) < room_of self.old.waits }
+        requires waits { length (held self.old.waits.all) < room_of self.old.waits.all }
         ensures begun { config self.new ≡ begun (laid code.now placed.now) (config self.old) func args.now side up }
         ensures values { room_of self.new.values ≡ room_of self.old.values }
-        ensures waits { room_of self.new.waits ≡ room_of self.old.waits }
+        ensures waits { room_of self.new.waits.all ≡ room_of self.old.waits.all }
     {
         if !has_args(&self.values, call.args) {
             self.state = State::Lost;
@@ -97,10 +97,10 @@ impl Position {
     fn begin_called(&mut self, call: Call, crosses: bool, func: u16, args: &[u64], side: Side)
         requires few { length args.now ≤ most_values }
         requires values { length (held self.old.values) + length args.now < room_of self.old.values }
-        requires waits { length (held self.old.waits) < room_of self.old.waits }
-        ensures begun { config self.new ≡ Entering side (call.indirect && not crosses) func args.now (kept crosses (held self.old.values) (uncovered call.indirect (drop call.args (held self.old.values)))) (waiting_of crosses call ∷ held self.old.waits) }
+        requires waits { length (held self.old.waits.all) < room_of self.old.waits.all }
+        ensures begun { config self.new ≡ Entering side (call.indirect && not crosses) func args.now (kept crosses (held self.old.values) (uncovered call.indirect (drop call.args (held self.old.values)))) (waiting_of crosses call ∷ held self.old.waits.all) }
         ensures values { room_of self.new.values ≡ room_of self.old.values }
-        ensures waits { room_of self.new.waits ≡ room_of self.old.waits }
+        ensures waits { room_of self.new.waits.all ≡ room_of self.old.waits.all }
     {
         self.wait(call, crosses);
         self.enter(side, call.indirect && !crosses, func, args);
@@ -108,12 +108,12 @@ impl Position {
 
     // The call waits for the end of its function. One that crosses the cut keeps its arguments for its return.
     fn wait(&mut self, call: Call, crosses: bool)
-        requires { length (held self.old.waits) < room_of self.old.waits }
+        requires { length (held self.old.waits.all) < room_of self.old.waits.all }
         ensures kept { held self.new.values ≡ kept crosses (held self.old.values) (uncovered call.indirect (drop call.args (held self.old.values))) }
         ensures few { length (held self.new.values) ≤ length (held self.old.values) }
-        ensures waiting { held self.new.waits ≡ waiting_of crosses call ∷ held self.old.waits }
+        ensures waiting { held self.new.waits.all ≡ waiting_of crosses call ∷ held self.old.waits.all }
         ensures values { room_of self.new.values ≡ room_of self.old.values }
-        ensures waits { room_of self.new.waits ≡ room_of self.old.waits }
+        ensures waits { room_of self.new.waits.all ≡ room_of self.old.waits.all }
     {
         if crosses {
             self.waits.push(Waiting::ForRet(call));
@@ -127,10 +127,10 @@ impl Position {
     fn begin_below(&mut self, call: Call, func: u16, args: &[u64])
         requires few { length args.now ≤ most_values }
         requires values { length (held self.old.values) + length args.now < room_of self.old.values }
-        requires waits { length (held self.old.waits) < room_of self.old.waits }
-        ensures begun { config self.new ≡ Entering Replay false func args.now (held self.old.values) (ForBelow call func ∷ held self.old.waits) }
+        requires waits { length (held self.old.waits.all) < room_of self.old.waits.all }
+        ensures begun { config self.new ≡ Entering Replay false func args.now (held self.old.values) (ForBelow call func ∷ held self.old.waits.all) }
         ensures values { room_of self.new.values ≡ room_of self.old.values }
-        ensures waits { room_of self.new.waits ≡ room_of self.old.waits }
+        ensures waits { room_of self.new.waits.all ≡ room_of self.old.waits.all }
     {
         self.waits.push(Waiting::ForBelow(call, func));
         self.enter(Side::Replay, false, func, args);
@@ -140,10 +140,10 @@ impl Position {
     fn begin_up(&mut self, call: Call, func: u16, args: &[u64])
         requires few { length args.now ≤ most_values }
         requires values { length (held self.old.values) + length args.now < room_of self.old.values }
-        requires waits { length (held self.old.waits) < room_of self.old.waits }
-        ensures begun { config self.new ≡ Entering Replay false func args.now (uncovered call.indirect (drop call.args (held self.old.values))) (ForUpRet call.then call.func ∷ held self.old.waits) }
+        requires waits { length (held self.old.waits.all) < room_of self.old.waits.all }
+        ensures begun { config self.new ≡ Entering Replay false func args.now (uncovered call.indirect (drop call.args (held self.old.values))) (ForUpRet call.then call.func ∷ held self.old.waits.all) }
         ensures values { room_of self.new.values ≡ room_of self.old.values }
-        ensures waits { room_of self.new.waits ≡ room_of self.old.waits }
+        ensures waits { room_of self.new.waits.all ≡ room_of self.old.waits.all }
     {
         self.uncover(call);
         self.waits.push(Waiting::ForUpRet(call.then, call.func));
@@ -154,10 +154,10 @@ impl Position {
     fn begin_up_outside(&mut self, func: u16, args: &[u64])
         requires few { length args.now ≤ most_values }
         requires values { length args.now < room_of self.old.values }
-        requires waits { 0 < room_of self.old.waits }
+        requires waits { 0 < room_of self.old.waits.all }
         ensures begun { config self.new ≡ Entering Replay false func args.now [] (ForOutside func ∷ []) }
         ensures values { room_of self.new.values ≡ room_of self.old.values }
-        ensures waits { room_of self.new.waits ≡ room_of self.old.waits }
+        ensures waits { room_of self.new.waits.all ≡ room_of self.old.waits.all }
     {
         self.values.clear();
         self.waits.clear();
@@ -171,7 +171,7 @@ impl Position {
         ensures started { config self.new ≡ Starting func args.now }
         ensures made { made_of self.new.state ≡ false }
         ensures values { room_of self.new.values ≡ room_of self.old.values }
-        ensures waits { room_of self.new.waits ≡ room_of self.old.waits }
+        ensures waits { room_of self.new.waits.all ≡ room_of self.old.waits.all }
     {
         self.values.clear();
         self.waits.clear();
@@ -194,7 +194,7 @@ impl Position {
         requires values { length args.now < room_of self.old.values }
         ensures begun { config self.new ≡ Entering side indirect func args.now [] [] }
         ensures values { room_of self.new.values ≡ room_of self.old.values }
-        ensures waits { room_of self.new.waits ≡ room_of self.old.waits }
+        ensures waits { room_of self.new.waits.all ≡ room_of self.old.waits.all }
     {
         self.values.clear();
         self.waits.clear();
@@ -205,7 +205,7 @@ impl Position {
     fn enter(&mut self, side: Side, indirect: bool, func: u16, args: &[u64])
         requires few { length args.now ≤ most_values }
         requires values { length (held self.old.values) + length args.now < room_of self.old.values }
-        ensures entering { config self.new ≡ Entering side indirect func args.now (held self.old.values) (held self.old.waits) }
+        ensures entering { config self.new ≡ Entering side indirect func args.now (held self.old.values) (held self.old.waits.all) }
         ensures values { room_of self.new.values ≡ room_of self.old.values }
         ensures waits { self.new.waits ≡ self.old.waits }
     {

@@ -19,6 +19,7 @@ use crate::position::Position;
 use crate::state::State;
 use crate::thread::Thread;
 use crate::tops::{callee, check};
+use crate::waits::Waits;
 use crate::wants::{Answer, Want};
 use c_code::{Code, Placed, Side};
 use c_machine_stack::Stack;
@@ -48,7 +49,7 @@ impl Thread {
         let position = Position {
             state: State::Done(0),
             values: Stack::new(alloc, 64 * (waits + 2))?,
-            waits: Stack::new(alloc, waits)?,
+            waits: Waits::new(alloc, waits)?,
         };
         Ok(Thread {
             number,
@@ -94,7 +95,6 @@ impl Thread {
         check(code);
         self.position.take(code, placed, answer);
         self.position.settle(code, placed);
-        self.position.stop_at_call(code);
     }
 
     /// The event of the call that is next was made: the thread is below the cut.

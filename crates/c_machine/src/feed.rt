@@ -10,38 +10,41 @@ ghost use Rattle.c_machine_stack.specs.Stacks.{held, room_of};
 ghost use Rattle.c_machine.specs.Positions.{laid, config, IsElsewhere};
 ghost use Rattle.marks.specs.Wants.{Answer as Answers};
 ghost use Rattle.c_machine.specs.Wants.{told};
-ghost use Rattle.c_machine.specs.Heard.{ended};
-ghost use Rattle.c_machine.specs.Moves.{fed, heard};
+ghost use Rattle.c_machine.specs.Acts.{ended};
+ghost use Rattle.c_machine.specs.Moves.{FitsIn, fed, heard};
 
-use crate::hear::hear;
+use crate::act::act;
+use crate::edits::hear;
+use crate::outcome::{Heard, Outcome};
 use crate::position::Position;
 use crate::state::{Entry, State};
 use crate::tops::{first_at, frame_size, has_args, result_shape};
 use crate::wants::Answer;
-use c_code::{Activation, Call, Code, Instr, Placed, Waiting};
+use c_code::{Activation, Call, Code, Placed, Waiting};
 
 impl Position {
     // What the answer alone does. One of another kind than the wanted one leads nowhere.
+    #[inline(always)]
     pub(crate) fn take(&mut self, code: &Code, placed: &Placed, answer: Answer)
         requires valid { IsValid code.now }
+        requires fits { FitsIn (laid code.now placed.now) (config self.old) }
         requires room { length (values_of (config self.old)) < room_of self.old.values }
         ensures fed { config self.new ≡ fed (laid code.now placed.now) (config self.old) (told answer) }
         ensures values { room_of self.new.values ≡ room_of self.old.values }
-        ensures waits { room_of self.new.waits ≡ room_of self.old.waits }
+        ensures waits { room_of self.new.waits.all ≡ room_of self.old.waits.all }
     {
         let State::Going(a) = &mut self.state else {
             self.take_elsewhere(code, answer);
             return;
         };
-        let instrs = code.instrs();
-        if a.at as usize >= instrs.len() {
-            self.state = State::Lost;
-            return;
-        }
-        let instr = &instrs[a.at as usize];
-        match hear(instr, a, &mut self.values, answer) {
-            Some(at) => a.at = at,
-            None => self.end(instr),
+        let instr = &code.instrs()[a.at as usize];
+        match act(instr, a, &self.values, code, placed) {
+            Outcome::Asks(_, heard) => match hear(heard, &mut self.values, answer) {
+                Some(at) => a.at = at,
+                None => self.end(heard),
+            },
+            Outcome::Silent(_, _) => self.state = State::Lost,
+            Outcome::Pends(_) => self.state = State::Lost,
         }
     }
 
@@ -51,7 +54,7 @@ impl Position {
         requires room { length (values_of (config self.old)) < room_of self.old.values }
         ensures fed { (placed : Places) → config self.new ≡ fed (laid code.now placed) (config self.old) (told answer) }
         ensures values { room_of self.new.values ≡ room_of self.old.values }
-        ensures waits { room_of self.new.waits ≡ room_of self.old.waits }
+        ensures waits { room_of self.new.waits.all ≡ room_of self.old.waits.all }
     {
         match self.state {
             State::Calling(call, _) => self.take_result(call, code, answer),
@@ -62,14 +65,14 @@ impl Position {
         }
     }
 
-    // The activation ends: at the last instruction its function gives the topmost value.
-    fn end(&mut self, instr: &Instr)
+    // The activation ends: where its function does, with the topmost value.
+    fn end(&mut self, heard: Heard)
         requires room { length (held self.old.values) < room_of self.old.values }
-        ensures ended { config self.new ≡ ended instr.now (held self.old.values) (held self.old.waits) }
+        ensures ended { config self.new ≡ ended heard (held self.old.values) (held self.old.waits.all) }
         ensures values { room_of self.new.values ≡ room_of self.old.values }
-        ensures waits { room_of self.new.waits ≡ room_of self.old.waits }
+        ensures waits { room_of self.new.waits.all ≡ room_of self.old.waits.all }
     {
-        let Instr::Finish = instr else {
+        let Heard::Ends = heard else {
             self.state = State::Lost;
             return;
         };
@@ -82,9 +85,9 @@ impl Position {
     // The result of a call that isn't run here takes the place of its arguments, and of its address.
     fn take_result(&mut self, call: Call, code: &Code, answer: Answer)
         requires room { length (held self.old.values) < room_of self.old.values }
-        ensures fed { (placed : Places) → config self.new ≡ heard (laid code.now placed) (with_args (take_args call.args [] (held self.old.values)) (awaiting call (held self.old.values) (held self.old.waits))) (told answer) }
+        ensures fed { (placed : Places) → config self.new ≡ heard (laid code.now placed) (with_args (take_args call.args [] (held self.old.values)) (awaiting call (held self.old.values) (held self.old.waits.all))) (told answer) }
         ensures values { room_of self.new.values ≡ room_of self.old.values }
-        ensures waits { room_of self.new.waits ≡ room_of self.old.waits }
+        ensures waits { room_of self.new.waits.all ≡ room_of self.old.waits.all }
     {
         let Answer::Value(value) = answer else {
             self.state = State::Lost;
@@ -101,7 +104,7 @@ impl Position {
     fn take_first(&mut self, func: Option<u16>, code: &Code, answer: Answer)
         ensures fed { (placed : Places) → config self.new ≡ fed (laid code.now placed) (Starting func (reverse (held self.old.values))) (told answer) }
         ensures values { room_of self.new.values ≡ room_of self.old.values }
-        ensures waits { room_of self.new.waits ≡ room_of self.old.waits }
+        ensures waits { room_of self.new.waits.all ≡ room_of self.old.waits.all }
     {
         match func {
             Some(func) => self.take_first_result(func, code, answer),
@@ -113,7 +116,7 @@ impl Position {
     fn take_first_result(&mut self, func: u16, code: &Code, answer: Answer)
         ensures fed { (placed : Places) → config self.new ≡ result_is (result_of (laid code.now placed) func) (told answer) }
         ensures values { room_of self.new.values ≡ room_of self.old.values }
-        ensures waits { room_of self.new.waits ≡ room_of self.old.waits }
+        ensures waits { room_of self.new.waits.all ≡ room_of self.old.waits.all }
     {
         let Answer::Value(value) = answer else {
             self.state = State::Lost;
@@ -129,9 +132,9 @@ impl Position {
     // A result takes the place of the arguments of its call, and of its address.
     fn replace(&mut self, call: Call, value: u64)
         requires room { length (held self.old.values) < room_of self.old.values }
-        ensures going { config self.new ≡ Going call.then (value ∷ uncovered call.indirect (drop call.args (held self.old.values))) (held self.old.waits) }
+        ensures going { config self.new ≡ Going call.then (value ∷ uncovered call.indirect (drop call.args (held self.old.values))) (held self.old.waits.all) }
         ensures values { room_of self.new.values ≡ room_of self.old.values }
-        ensures waits { room_of self.new.waits ≡ room_of self.old.waits }
+        ensures waits { room_of self.new.waits.all ≡ room_of self.old.waits.all }
     {
         self.uncover(call);
         self.values.push(value);
@@ -153,9 +156,9 @@ impl Position {
 
     // The body of a function begins in its frame.
     fn take_frame(&mut self, entry: Entry, code: &Code, answer: Answer)
-        ensures fed { (placed : Places) → config self.new ≡ framed (laid code.now placed) entry.side entry.func (drop entry.args (held self.old.values)) (held self.old.waits) (told answer) }
+        ensures fed { (placed : Places) → config self.new ≡ framed (laid code.now placed) entry.side entry.func (drop entry.args (held self.old.values)) (held self.old.waits.all) (told answer) }
         ensures values { room_of self.new.values ≡ room_of self.old.values }
-        ensures waits { room_of self.new.waits ≡ room_of self.old.waits }
+        ensures waits { room_of self.new.waits.all ≡ room_of self.old.waits.all }
     {
         let Answer::Frame(base) = answer else {
             self.state = State::Lost;
@@ -176,9 +179,9 @@ impl Position {
     // The event that ends a crossing of the cut: the result goes to what waits for it.
     fn take_closing(&mut self, value: u64, waiting: Waiting)
         requires room { length (held self.old.values) < room_of self.old.values }
-        ensures fed { (l : Laid) (x : Answers) → config self.new ≡ heard l (close value waiting (held self.old.values) (held self.old.waits)) x }
+        ensures fed { (l : Laid) (x : Answers) → config self.new ≡ heard l (close value waiting (held self.old.values) (held self.old.waits.all)) x }
         ensures values { room_of self.new.values ≡ room_of self.old.values }
-        ensures waits { room_of self.new.waits ≡ room_of self.old.waits }
+        ensures waits { room_of self.new.waits.all ≡ room_of self.old.waits.all }
     {
         match waiting {
             Waiting::ForValue(_) => self.state = State::Lost,
@@ -195,9 +198,9 @@ impl Position {
     // The return of a call that crossed the cut.
     fn take_return(&mut self, call: Call, value: u64)
         requires room { length (held self.old.values) < room_of self.old.values }
-        ensures fed { (l : Laid) (x : Answers) → config self.new ≡ heard l (with_args (take_args call.args [] (held self.old.values)) (returning value call (held self.old.waits))) x }
+        ensures fed { (l : Laid) (x : Answers) → config self.new ≡ heard l (with_args (take_args call.args [] (held self.old.values)) (returning value call (held self.old.waits.all))) x }
         ensures values { room_of self.new.values ≡ room_of self.old.values }
-        ensures waits { room_of self.new.waits ≡ room_of self.old.waits }
+        ensures waits { room_of self.new.waits.all ≡ room_of self.old.waits.all }
     {
         if has_args(&self.values, call.args) {
             self.replace(call, value);
@@ -209,9 +212,9 @@ impl Position {
     // Gives the result of a function to what waits for it.
     fn give(&mut self, value: u64)
         requires room { length (held self.old.values) < room_of self.old.values }
-        ensures given { config self.new ≡ given value (held self.old.waits) (held self.old.values) }
+        ensures given { config self.new ≡ given value (held self.old.waits.all) (held self.old.values) }
         ensures values { room_of self.new.values ≡ room_of self.old.values }
-        ensures waits { room_of self.new.waits ≡ room_of self.old.waits }
+        ensures waits { room_of self.new.waits.all ≡ room_of self.old.waits.all }
     {
         match self.waits.pop() {
             None => self.state = State::Done(value),

@@ -1,24 +1,26 @@
 //! One simulated thread of flat code, run one mark at a time.
 #![tactic(auto)]
 
+mod act;
+mod act_call;
 mod begin;
-mod called;
 mod calls;
-mod effect;
+mod edits;
 mod feed;
-mod hear;
 mod laws;
 mod look;
 mod opens;
 mod operators;
+mod outcome;
+mod places;
 mod position;
 mod readers;
 mod run;
 mod settle;
 mod state;
-mod stops;
 mod thread;
 mod tops;
+mod waits;
 mod wants;
 
 pub use calls::start_of;

@@ -19,6 +19,7 @@ struct Bits {
     half: u64,
 }
 
+#[inline(always)]
 fn bits_of(kind: IntKind) -> Bits
     ensures all { result.all ≡ 2 ^ width_of kind - 1 }
     ensures half { result.half ≡ unsigned_abs (least kind) }
@@ -57,6 +58,7 @@ fn bits_of(kind: IntKind) -> Bits
 }
 
 // The value that is converted to the kind.
+#[inline(always)]
 pub(crate) fn convert(kind: IntKind, value: u64) -> u64
     ensures { result ≡ converted kind value }
 {
@@ -65,6 +67,7 @@ pub(crate) fn convert(kind: IntKind, value: u64) -> u64
 }
 
 // What becomes of the value.
+#[inline(always)]
 pub(crate) fn change(how: &Change, value: u64) -> u64
     ensures { result ≡ changed how.now value }
 {
@@ -78,10 +81,13 @@ pub(crate) fn change(how: &Change, value: u64) -> u64
     }
 }
 
-// Whether the first word is below the second, as numbers of the kind.
-fn is_less(kind: IntKind, a: u64, b: u64) -> bool
-    ensures { result ≡ int_lt (number kind a) (number kind b) }
+// Whether the first word is below the second, both converted to the kind.
+#[inline(always)]
+fn is_less(kind: IntKind, left: u64, right: u64) -> bool
+    ensures { result ≡ int_lt (read kind left) (read kind right) }
 {
+    let a = convert(kind, left);
+    let b = convert(kind, right);
     if kind.is_signed() {
         a.cast_signed() < b.cast_signed()
     } else {
@@ -89,33 +95,34 @@ fn is_less(kind: IntKind, a: u64, b: u64) -> bool
     }
 }
 
-// What the operator gives, still to be converted to the kind; `None` where it faults.
+// What the operator gives, still to be converted to the kind; `None` where it faults. Sums, products and bits hang on the low bits
+// alone, so their operands needn't be converted.
+#[inline(always)]
 fn unconverted(op: Op, kind: IntKind, left: u64, right: u64) -> Option<u64>
     ensures { option_map (converted kind) result ≡ result_ok (arith_of op kind left right) }
 {
-    let a = convert(kind, left);
-    let b = convert(kind, right);
     match op {
-        Op::Add => Some(a.wrapping_add(b)),
-        Op::Sub => Some(a.wrapping_sub(b)),
-        Op::Mul => Some(a.wrapping_mul(b)),
-        Op::Div => quotient(kind, a, b),
-        Op::Rem => remainder(kind, a, b),
-        Op::Shl => shifted_left(kind, a, right),
-        Op::Shr => shifted_right(kind, a, right),
-        Op::And => Some(a & b),
-        Op::Or => Some(a | b),
-        Op::Xor => Some(a ^ b),
-        Op::Eq => Some(u64::from(a == b)),
-        Op::Ne => Some(u64::from(a != b)),
-        Op::Lt => Some(u64::from(is_less(kind, a, b))),
-        Op::Le => Some(u64::from(!is_less(kind, b, a))),
-        Op::Gt => Some(u64::from(is_less(kind, b, a))),
-        Op::Ge => Some(u64::from(!is_less(kind, a, b))),
+        Op::Add => Some(left.wrapping_add(right)),
+        Op::Sub => Some(left.wrapping_sub(right)),
+        Op::Mul => Some(left.wrapping_mul(right)),
+        Op::And => Some(left & right),
+        Op::Or => Some(left | right),
+        Op::Xor => Some(left ^ right),
+        Op::Div => quotient(kind, convert(kind, left), convert(kind, right)),
+        Op::Rem => remainder(kind, convert(kind, left), convert(kind, right)),
+        Op::Shl => shifted_left(kind, convert(kind, left), right),
+        Op::Shr => shifted_right(kind, convert(kind, left), right),
+        Op::Eq => Some(u64::from(convert(kind, left) == convert(kind, right))),
+        Op::Ne => Some(u64::from(convert(kind, left) != convert(kind, right))),
+        Op::Lt => Some(u64::from(is_less(kind, left, right))),
+        Op::Le => Some(u64::from(!is_less(kind, right, left))),
+        Op::Gt => Some(u64::from(is_less(kind, right, left))),
+        Op::Ge => Some(u64::from(!is_less(kind, left, right))),
     }
 }
 
 // Whether a division at the kind faults.
+#[inline(always)]
 fn divides_wrong(kind: IntKind, a: u64, b: u64) -> bool
     ensures { result ≡ divide_fault kind (number kind a) (number kind b) }
 {
@@ -128,6 +135,7 @@ fn divides_wrong(kind: IntKind, a: u64, b: u64) -> bool
 }
 
 // The left word divided by the right one, towards zero.
+#[inline(always)]
 fn quotient(kind: IntKind, a: u64, b: u64) -> Option<u64>
     requires { IsValue kind (number kind a) }
     ensures { result ≡ written_unless (divide_fault kind (number kind a) (number kind b)) (int_div (number kind a) (number kind b)) }
@@ -142,6 +150,7 @@ fn quotient(kind: IntKind, a: u64, b: u64) -> Option<u64>
 }
 
 // What the division leaves, with the sign of the left word.
+#[inline(always)]
 fn remainder(kind: IntKind, a: u64, b: u64) -> Option<u64>
     requires { IsValue kind (number kind a) }
     ensures { result ≡ written_unless (divide_fault kind (number kind a) (number kind b)) (int_rem (number kind a) (number kind b)) }
@@ -156,6 +165,7 @@ fn remainder(kind: IntKind, a: u64, b: u64) -> Option<u64>
 }
 
 // The count of a shift at the kind; `None` where it is out of range.
+#[inline(always)]
 fn count_of(kind: IntKind, right: u64) -> Option<u32>
     ensures { result ≡ cond (shift_fault kind (read I64 right)) None (Some (unsigned_abs (read I64 right))) }
 {
@@ -167,6 +177,7 @@ fn count_of(kind: IntKind, right: u64) -> Option<u32>
 }
 
 // The bits that leave the word are lost.
+#[inline(always)]
 fn shifted_left(kind: IntKind, a: u64, right: u64) -> Option<u64>
     ensures { result ≡ written_unless (shift_fault kind (read I64 right)) (number kind a *ℤ pos (2 ^ unsigned_abs (read I64 right))) }
 {
@@ -175,6 +186,7 @@ fn shifted_left(kind: IntKind, a: u64, right: u64) -> Option<u64>
 }
 
 // It rounds down.
+#[inline(always)]
 fn shifted_right(kind: IntKind, a: u64, right: u64) -> Option<u64>
     ensures { result ≡ written_unless (shift_fault kind (read I64 right)) (int_div_euclid (number kind a) (pos (2 ^ unsigned_abs (read I64 right)))) }
 {
@@ -187,6 +199,7 @@ fn shifted_right(kind: IntKind, a: u64, right: u64) -> Option<u64>
 }
 
 // The result of the operator at the kind; `None` where it faults.
+#[inline(always)]
 fn arith(op: Op, kind: IntKind, left: u64, right: u64) -> Option<u64>
     ensures { result ≡ result_ok (arith_of op kind left right) }
 {
@@ -195,6 +208,7 @@ fn arith(op: Op, kind: IntKind, left: u64, right: u64) -> Option<u64>
 }
 
 // What the left and the right operand give together; `None` where the operator faults.
+#[inline(always)]
 pub(crate) fn combine(how: &Combine, left: u64, right: u64) -> Option<u64>
     ensures { result ≡ result_ok (combined how.now left right) }
 {

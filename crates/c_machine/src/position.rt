@@ -1,7 +1,7 @@
 // What a thread keeps.
 
 use crate::state::State;
-use c_code::Waiting;
+use crate::waits::Waits;
 use c_machine_stack::Stack;
 
 /// Where a thread is, its values, and what waits for the ends of the functions that it is in.
@@ -9,5 +9,5 @@ use c_machine_stack::Stack;
 pub(crate) struct Position {
     pub(crate) state: State,
     pub(crate) values: Stack<u64>,
-    pub(crate) waits: Stack<Waiting>,
+    pub(crate) waits: Waits,
 }

@@ -23,10 +23,10 @@ impl Position {
         requires may { MayRun (laid code.now placed.now) (config self.old) }
         requires few { length (args_of (config self.old)) ≤ most_values }
         requires values { length (values_of (config self.old)) + length (args_of (config self.old)) < room_of self.old.values }
-        requires waits { length (waits_of (config self.old)) < room_of self.old.waits }
+        requires waits { length (waits_of (config self.old)) < room_of self.old.waits.all }
         ensures run { config self.new ≡ begun (laid code.now placed.now) (config self.old) (func_at (config self.old)) (args_of (config self.old)) (side_at (laid code.now placed.now) (config self.old)) false }
         ensures values { room_of self.new.values ≡ room_of self.old.values }
-        ensures waits { room_of self.new.waits ≡ room_of self.old.waits }
+        ensures waits { room_of self.new.waits.all ≡ room_of self.old.waits.all }
     {
         if let State::Calling(call, _) = self.state {
             self.run_call(call, crosses(call, code, placed));
@@ -43,10 +43,10 @@ impl Position {
     pub(crate) fn go_up(&mut self, code: &Code, placed: &Placed)
         requires may { MayGoUp (laid code.now placed.now) (config self.old) }
         requires few { length (args_of (config self.old)) ≤ most_values }
-        requires waits { length (waits_of (config self.old)) < room_of self.old.waits }
+        requires waits { length (waits_of (config self.old)) < room_of self.old.waits.all }
         ensures up { config self.new ≡ begun (laid code.now placed.now) (config self.old) (func_at (config self.old)) (args_of (config self.old)) Replay true }
         ensures values { room_of self.new.values ≡ room_of self.old.values }
-        ensures waits { room_of self.new.waits ≡ room_of self.old.waits }
+        ensures waits { room_of self.new.waits.all ≡ room_of self.old.waits.all }
     {
         if let State::Calling(call, _) = self.state {
             self.up_call(call);
@@ -64,10 +64,10 @@ impl Position {
     fn run_call(&mut self, call: Call, crosses: bool)
         requires enough { call.args ≤ length (held self.old.values) }
         requires values { length (held self.old.values) + call.args < room_of self.old.values }
-        requires waits { length (held self.old.waits) < room_of self.old.waits }
-        ensures run { config self.new ≡ Entering (cond crosses System call.then.side) (call.indirect && not crosses) call.func (reverse (take call.args (held self.old.values))) (kept crosses (held self.old.values) (uncovered call.indirect (drop call.args (held self.old.values)))) (waiting_of crosses call ∷ held self.old.waits) }
+        requires waits { length (held self.old.waits.all) < room_of self.old.waits.all }
+        ensures run { config self.new ≡ Entering (cond crosses System call.then.side) (call.indirect && not crosses) call.func (reverse (take call.args (held self.old.values))) (kept crosses (held self.old.values) (uncovered call.indirect (drop call.args (held self.old.values)))) (waiting_of crosses call ∷ held self.old.waits.all) }
         ensures values { room_of self.new.values ≡ room_of self.old.values }
-        ensures waits { room_of self.new.waits ≡ room_of self.old.waits }
+        ensures waits { room_of self.new.waits.all ≡ room_of self.old.waits.all }
     {
         if crosses {
             self.values.repeat_top(call.args as usize);
@@ -83,10 +83,10 @@ impl Position {
     // A call by system code calls its function back.
     fn up_call(&mut self, call: Call)
         requires enough { call.args ≤ length (held self.old.values) }
-        requires waits { length (held self.old.waits) < room_of self.old.waits }
-        ensures up { config self.new ≡ Entering Replay false call.func (reverse (take call.args (held self.old.values))) (uncovered call.indirect (drop call.args (held self.old.values))) (ForUpRet call.then call.func ∷ held self.old.waits) }
+        requires waits { length (held self.old.waits.all) < room_of self.old.waits.all }
+        ensures up { config self.new ≡ Entering Replay false call.func (reverse (take call.args (held self.old.values))) (uncovered call.indirect (drop call.args (held self.old.values))) (ForUpRet call.then call.func ∷ held self.old.waits.all) }
         ensures values { room_of self.new.values ≡ room_of self.old.values }
-        ensures waits { room_of self.new.waits ≡ room_of self.old.waits }
+        ensures waits { room_of self.new.waits.all ≡ room_of self.old.waits.all }
     {
         self.uncover_below(call);
         self.waits.push(Waiting::ForUpRet(call.then, call.func));
@@ -108,7 +108,7 @@ impl Position {
 
     // The function of the call is to be entered, with the arguments on top.
     fn enter_top(&mut self, call: Call, side: Side, indirect: bool)
-        ensures entering { config self.new ≡ Entering side indirect call.func (reverse (take call.args (held self.old.values))) (drop call.args (held self.old.values)) (held self.old.waits) }
+        ensures entering { config self.new ≡ Entering side indirect call.func (reverse (take call.args (held self.old.values))) (drop call.args (held self.old.values)) (held self.old.waits.all) }
         ensures values { self.new.values ≡ self.old.values }
         ensures waits { self.new.waits ≡ self.old.waits }
     {
@@ -123,7 +123,7 @@ impl Position {
     // The function is to be entered, with all values as arguments.
     fn enter_all(&mut self, side: Side, indirect: bool, func: u16)
         requires few { length (held self.old.values) ≤ most_values }
-        ensures entering { config self.new ≡ Entering side indirect func (reverse (held self.old.values)) [] (held self.old.waits) }
+        ensures entering { config self.new ≡ Entering side indirect func (reverse (held self.old.values)) [] (held self.old.waits.all) }
         ensures values { self.new.values ≡ self.old.values }
         ensures waits { self.new.waits ≡ self.old.waits }
     {

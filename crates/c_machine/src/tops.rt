@@ -1,11 +1,11 @@
 // The arguments on top of the values, and what is known of the functions that are called with them.
 
-ghost use Rattle.std.specs.Prelude.{◌≡◌, ℕ, ◌+◌, ◌<◌, ◌≤◌, List, [], length, take, drop, reverse, IsTrue, IsFalse, IfSome, IfNone, Some, None};
+ghost use Rattle.std.specs.Prelude.{◌≡◌, ℕ, ◌+◌, ◌<◌, ◌≤◌, List, [], length, take, drop, reverse, IsTrue, IsFalse, Some, None};
 ghost use Rattle.memory_map.specs.declared.placed.Placed.{Placed as Places};
 ghost use Rattle.c_code.specs.declared.activation.Activation.{Activation};
 ghost use Rattle.c_code.specs.declared.activation.Waiting.{Waiting};
 ghost use Rattle.c_code.specs.Valid.{IsValid};
-ghost use Rattle.c_code.specs.Machine.{Flat, Laid, take_args, with_args, pointer_act, to_callee, Stuck, is_pool as pool_of, is_face as face_of, callee as callee_of, func_of, entry_of, has_sig as has_type};
+ghost use Rattle.c_code.specs.Machine.{Flat, Laid, take_args, with_args, pointer_act, to_callee, is_pool as pool_of, is_face as face_of, callee as callee_of, func_of, entry_of, has_sig as has_type};
 ghost use Rattle.c_code.specs.MarkLists.{result_shape as shape_of};
 ghost use Rattle.c_machine_stack.specs.Stacks.{held};
 ghost use Rattle.c_machine.specs.Positions.{laid};
@@ -28,20 +28,13 @@ pub(crate) fn has_args(values: &Stack<u64>, n: u8) -> bool
     }
 }
 
-// The value below so many arguments; `None` where there are too few.
-pub(crate) fn below_args(values: &Stack<u64>, n: u8) -> Option<u64>
-    ensures some { IfSome result (λ address. (l : Laid) (sig : ℕ) (a : Activation) (ws : List Waiting) → with_args (take_args n [] (held values.now)) (pointer_act l sig a (held values.now) ws) ≡ to_callee (callee_of l sig address) a (reverse (take n (held values.now))) (held values.now) (drop (n + 1) (held values.now)) ws) }
-    ensures enough { IfSome result (λ _. n < length (held values.now)) }
-    ensures none { IfNone result ((l : Laid) (sig : ℕ) (a : Activation) (ws : List Waiting) → with_args (take_args n [] (held values.now)) (pointer_act l sig a (held values.now) ws) ≡ Stuck) }
+// The value below so many arguments.
+pub(crate) fn address_below(values: &Stack<u64>, n: u8) -> u64
+    requires { n < length (held values.now) }
+    ensures { (l : Laid) (sig : ℕ) (a : Activation) (ws : List Waiting) → with_args (take_args n [] (held values.now)) (pointer_act l sig a (held values.now) ws) ≡ to_callee (callee_of l sig result) a (reverse (take n (held values.now))) (held values.now) (drop (n + 1) (held values.now)) ws }
 {
-    if n as usize >= values.len() {
-        return None;
-    }
     let top = values.top_slice(n as usize + 1);
-    if top.len() == 0 {
-        return None;
-    }
-    Some(top[0])
+    top[0]
 }
 
 // The function of the source at the address, where it is of the type.

@@ -1,5 +1,12 @@
 //! What a thread wants next, and what it is told.
 
+ghost use Rattle.std.specs.Prelude.{◌≡◌, ◌%◌, ◌^◌, length};
+ghost use Rattle.marks.specs.Ranges.{number_of_bytes, bytes_of_number};
+ghost use Rattle.c_code.specs.Values.{bytes_of};
+ghost use Rattle.c_machine.specs.declared.wants.Want.TheVariants.{Load as ShownLoad, Store as ShownStore};
+
+use r2_num::IntKind;
+
 /// The next mark of a thread, or its next call.
 #[derive(Clone, Copy)]
 pub enum Want {
@@ -38,4 +45,51 @@ pub enum Answer {
     Value(u64),
     /// The address of the frame.
     Frame(u64),
+}
+
+#[inline(always)]
+pub(crate) fn load_want(kind: IntKind, addr: u64) -> Want
+    ensures { result ≡ ShownLoad addr (bytes_of kind) }
+{
+    Want::Load {
+        addr,
+        width: width(kind),
+    }
+}
+
+#[inline(always)]
+pub(crate) fn store_want(kind: IntKind, addr: u64, value: u64) -> Want
+    ensures { result ≡ ShownStore addr (length (bytes_of_number (bytes_of kind) value)) (number_of_bytes (bytes_of_number (bytes_of kind) value)) }
+{
+    Want::Store {
+        addr,
+        width: width(kind),
+        value: low_bytes(kind, value),
+    }
+}
+
+// The bytes of the kind.
+#[inline(always)]
+fn width(kind: IntKind) -> u8
+    ensures { result ≡ bytes_of kind }
+{
+    match kind {
+        IntKind::I8 | IntKind::U8 => 1,
+        IntKind::I16 | IntKind::U16 => 2,
+        IntKind::I32 | IntKind::U32 => 4,
+        IntKind::I64 | IntKind::U64 => 8,
+    }
+}
+
+// The number that is left where the value is stored in the bytes of the kind.
+#[inline(always)]
+fn low_bytes(kind: IntKind, value: u64) -> u64
+    ensures { result ≡ value % 256 ^ bytes_of kind }
+{
+    match kind {
+        IntKind::I8 | IntKind::U8 => value % 0x100,
+        IntKind::I16 | IntKind::U16 => value % 0x1_0000,
+        IntKind::I32 | IntKind::U32 => value % 0x1_0000_0000,
+        IntKind::I64 | IntKind::U64 => value,
+    }
 }

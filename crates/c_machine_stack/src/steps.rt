@@ -17,6 +17,7 @@ impl<T: Copy + Drop> Stack<T> {
     }
 
     /// How many values it holds.
+    #[inline(always)]
     pub fn len(&self) -> usize
         ensures len { result ≡ length (held self.now) }
         ensures few { result ≤ room_of self.now }
@@ -25,6 +26,7 @@ impl<T: Copy + Drop> Stack<T> {
     }
 
     /// Whether it holds none.
+    #[inline(always)]
     pub fn is_empty(&self) -> bool
         ensures { result ≡ (length (held self.now) == 0) }
     {
@@ -32,6 +34,7 @@ impl<T: Copy + Drop> Stack<T> {
     }
 
     /// Puts a value on top.
+    #[inline(always)]
     pub fn push(&mut self, value: T)
         requires { length (held self.old) < room_of self.old }
         ensures pushed { held self.new ≡ value ∷ held self.old }
@@ -44,6 +47,7 @@ impl<T: Copy + Drop> Stack<T> {
     }
 
     /// Takes the topmost value; `None` where there is none.
+    #[inline(always)]
     pub fn pop(&mut self) -> Option<T>
         ensures some { IfSome result (λ value. held self.old ≡ value ∷ held self.new) }
         ensures none { IfNone result ((held self.old ≡ []) × (held self.new ≡ [])) }
@@ -53,6 +57,7 @@ impl<T: Copy + Drop> Stack<T> {
     }
 
     /// Puts a value in the place of the topmost one.
+    #[inline(always)]
     pub fn replace_top(&mut self, value: T)
         requires some { 0 < length (held self.old) }
         ensures replaced { held self.new ≡ value ∷ drop 1 (held self.old) }
@@ -63,6 +68,7 @@ impl<T: Copy + Drop> Stack<T> {
     }
 
     /// Puts a value in the place of the two topmost ones.
+    #[inline(always)]
     pub fn replace_two(&mut self, value: T)
         requires two { 1 < length (held self.old) }
         ensures replaced { held self.new ≡ value ∷ drop 2 (held self.old) }
@@ -72,35 +78,41 @@ impl<T: Copy + Drop> Stack<T> {
         self.replace_top(value);
     }
 
-    /// The topmost value; `None` where there is none.
-    pub fn top(&self) -> Option<T>
-        ensures some { IfSome result (λ value. (below : List T) × (held self.now ≡ value ∷ below)) }
-        ensures none { IfNone result (held self.now ≡ []) }
+    /// The topmost value.
+    #[inline(always)]
+    pub fn peek(&self) -> T
+        requires some { 0 < length (held self.now) }
+        ensures { (below : List T) × (held self.now ≡ result ∷ below) }
     {
-        let len = self.items.len();
-        if len == 0 {
-            return None;
-        }
-        Some(self.items[len - 1])
+        let top = self.items.len() - 1;
+        self.items[top]
     }
 
-    /// The topmost value and the one below it; `None` where there are fewer.
-    pub fn top_two(&self) -> Option<(T, T)>
-        ensures some { IfSome result (λ two. (below : List T) × (held self.now ≡ two.0 ∷ (two.1 ∷ below))) }
-        ensures none { IfNone result (length (held self.now) < 2) }
+    /// The topmost value and the one below it.
+    #[inline(always)]
+    pub fn peek_two(&self) -> (T, T)
+        requires two { 1 < length (held self.now) }
+        ensures { (below : List T) × (held self.now ≡ result.0 ∷ (result.1 ∷ below)) }
     {
-        let len = self.items.len();
-        if len < 2 {
-            return None;
-        }
-        Some((self.items[len - 1], self.items[len - 2]))
+        let top = self.items.len() - 1;
+        (self.items[top], self.items[top - 1])
     }
 
     /// The topmost `count` values, the lowest of them first; all where there are fewer.
+    #[inline(always)]
     pub fn top_slice(&self, count: usize) -> &[T]
         ensures { result.now ≡ reverse (take count (held self.now)) }
     {
         &self.items[self.items.len().saturating_sub(count)..]
+    }
+
+    /// Takes the topmost value away, where there is one.
+    #[inline(always)]
+    pub fn drop_one(&mut self)
+        ensures dropped { held self.new ≡ drop 1 (held self.old) }
+        ensures room { room_of self.new ≡ room_of self.old }
+    {
+        let _gone = self.items.pop();
     }
 
     /// Takes the topmost `count` values away; all where there are fewer.

@@ -11,7 +11,7 @@ pub up_call-requires-clause-enough : goal.up_call-requires-clause-enough
 up_call-requires-clause-enough c =
     let l = laid c.args.code.now c.args.placed.now in
     let vs = held c.args.self.now.values in
-    let ws = held c.args.self.now.waits in
+    let ws = held c.args.self.now.waits.all in
     let here = config c.args.self.now in
     let call = c.in-Calling.call in
     let at_call : here ≡ Under call vs ws = ap (λ s. config_of s vs ws) c.in-Calling.is in
@@ -21,7 +21,7 @@ pub returns-in-Calling-clause-up : goal.returns-in-Calling-clause-up
 returns-in-Calling-clause-up c =
     let l = laid c.args.code.now c.args.placed.now in
     let vs = held c.args.self.now.values in
-    let ws = held c.args.self.now.waits in
+    let ws = held c.args.self.now.waits.all in
     let here = config c.args.self.now in
     let call = c.in-Calling.call in
     let at_call : here ≡ Under call vs ws = ap (λ s. config_of s vs ws) c.in-Calling.is in

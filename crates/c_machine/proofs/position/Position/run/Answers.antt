@@ -12,7 +12,7 @@ pub run_call-requires-clause-enough : goal.run_call-requires-clause-enough
 run_call-requires-clause-enough c =
     let l = laid c.args.code.now c.args.placed.now in
     let vs = held c.args.self.now.values in
-    let ws = held c.args.self.now.waits in
+    let ws = held c.args.self.now.waits.all in
     let here = config c.args.self.now in
     let call = c.in-Calling.call in
     let at_call : here ≡ Under call vs ws = ap (λ s. config_of s vs ws) c.in-Calling.is in
@@ -22,7 +22,7 @@ pub run_call-requires-clause-values : goal.run_call-requires-clause-values
 run_call-requires-clause-values c =
     let l = laid c.args.code.now c.args.placed.now in
     let vs = held c.args.self.now.values in
-    let ws = held c.args.self.now.waits in
+    let ws = held c.args.self.now.waits.all in
     let here = config c.args.self.now in
     let call = c.in-Calling.call in
     let at_call : here ≡ Under call vs ws = ap (λ s. config_of s vs ws) c.in-Calling.is in
@@ -33,7 +33,7 @@ pub returns-in-Calling-clause-run : goal.returns-in-Calling-clause-run
 returns-in-Calling-clause-run c =
     let l = laid c.args.code.now c.args.placed.now in
     let vs = held c.args.self.now.values in
-    let ws = held c.args.self.now.waits in
+    let ws = held c.args.self.now.waits.all in
     let here = config c.args.self.now in
     let call = c.in-Calling.call in
     let at_call : here ≡ Under call vs ws = ap (λ s. config_of s vs ws) c.in-Calling.is in

@@ -1,8 +1,9 @@
 use Rattle.std.proofs.Common.{sym, subst, ap, ◌∙◌, arith}
 use Rattle.c_machine_stack.specs.Stacks.{room_of}
+use Rattle.c_machine.specs.declared.waits.Waits.{Waits}
 use Rattle.c_machine.specs.Positions.{laid, config}
 use Rattle.c_machine.specs.Wants.{told}
-use Rattle.c_machine.specs.Moves.{ThreadState, IsInside, MayFeed, FitsIn, ready, rested}
+use Rattle.c_machine.specs.Moves.{ThreadState, IsInside, MayFeed, FitsIn, rested}
 use Rattle.c_machine.proofs.Onward.{After}
 use Rattle.c_machine.proofs.Insides.{fed_on, fed_fits, fed_inside, enters_there}
 use Rattle.c_machine.proofs.Space.{take_room, settle_room, kept_room}
@@ -34,20 +35,24 @@ settle-requires-clause-room c =
     let after : After (config p) (config q) = subst (After (config p)) (sym c.take.ensures.fed) (fed_on l (config p) (told c.args.answer) inside may) in
     settle_room l c.self.inside.depth p q c.check.ensures c.self.invariant c.take.ensures.values fits after
 
+pub take-requires-clause-fits : goal.take-requires-clause-fits
+take-requires-clause-fits c =
+    let l = laid c.args.code.now c.args.placed.now in
+    let inside : IsInside l (config c.self.inside.position) = subst (λ (t : ThreadState). IsInside l t.config) (sym c.self.view_is) c.requires.inside in
+    inside.fits
+
 pub invariant_of-self : goal.invariant_of-self
 invariant_of-self c =
     let l = laid c.args.code.now c.args.placed.now in
     let p = c.self.inside.position in
     let q = c.take.new.self in
-    let r = c.settle.new.self in
-    let t = c.stop_at_call.new.self in
     let inside : IsInside l (config p) = subst (λ (u : ThreadState). IsInside l u.config) (sym c.self.view_is) c.requires.inside in
     let may : MayFeed l (config p) (told c.args.answer) = subst (λ (u : ThreadState). MayFeed l u.config (told c.args.answer)) (sym c.self.view_is) c.requires.may in
     let after : After (config p) (config q) = subst (After (config p)) (sym c.take.ensures.fed) (fed_on l (config p) (told c.args.answer) inside may) in
-    kept_room c.self.inside.depth p t c.self.invariant
-    (ap room_of c.stop_at_call.ensures.values ∙ c.settle.ensures.values ∙ c.take.ensures.values)
-    (ap room_of c.stop_at_call.ensures.waits ∙ ap room_of c.settle.ensures.waits ∙ c.take.ensures.waits)
-    (λ s. omega (arith, c.stop_at_call.ensures.active s, c.settle.ensures.active s, after.active s))
+    kept_room c.self.inside.depth p c.settle.new.self c.self.invariant
+    (c.settle.ensures.values ∙ c.take.ensures.values)
+    (ap (λ (w : Waits). room_of w.all) c.settle.ensures.waits ∙ c.take.ensures.waits)
+    (λ s. omega (arith, c.settle.ensures.active s, after.active s))
 
 pub returns-clause-inside : goal.returns-clause-inside
 returns-clause-inside c =
@@ -58,6 +63,6 @@ returns-clause-inside c =
     let inside : IsInside l (config p) = subst (λ (u : ThreadState). IsInside l u.config) (sym c.self.view_is) c.requires.inside in
     let may : MayFeed l (config p) x = subst (λ (u : ThreadState). MayFeed l u.config x) (sym c.self.view_is) c.requires.may in
     let after : After (config p) (config q) = subst (After (config p)) (sym c.take.ensures.fed) (fed_on l (config p) x inside may) in
-    fed_inside l (config p) (config c.stop_at_call.new.self) x inside may
-    (c.stop_at_call.ensures.ready c.args.placed.now ∙ ap (ready l) c.settle.ensures.settled ∙ ap (rested l) c.take.ensures.fed)
-    (c.stop_at_call.ensures.enters c.args.placed.now (c.settle.ensures.enters (enters_there l (config q) after.arrives)))
+    fed_inside l (config p) (config c.settle.new.self) x inside may
+    (c.settle.ensures.rested ∙ ap (rested l) c.take.ensures.fed)
+    (c.settle.ensures.enters (enters_there l (config q) after.arrives))

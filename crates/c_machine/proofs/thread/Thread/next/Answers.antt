@@ -30,3 +30,9 @@ returns-clause-ret c = λ f v e.
     let l = laid c.args.code.now c.args.placed.now in
     let inside : IsInside l (config c.self.inside.position) = subst (λ (t : ThreadState). IsInside l t.config) (sym c.self.view_is) c.requires.inside in
     subst (λ (t : ThreadState). IsAtReturn l t.config f v) c.self.view_is (return_wanted l f v (config c.self.inside.position) inside.enters (sym c.look.ensures ∙ c.in-Some.is ∙ ap (λ w. Some w) e))
+
+pub look-requires-clause-fits : goal.look-requires-clause-fits
+look-requires-clause-fits c =
+    let l = laid c.args.code.now c.args.placed.now in
+    let inside : IsInside l (config c.self.inside.position) = subst (λ (t : ThreadState). IsInside l t.config) (sym c.self.view_is) c.requires.inside in
+    inside.fits

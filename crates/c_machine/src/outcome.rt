@@ -1,0 +1,45 @@
+// What an instruction comes to.
+
+use crate::wants::Want;
+use c_code::Call;
+use r2_num::IntKind;
+
+// What becomes of the topmost values.
+#[derive(Clone, Copy)]
+pub(crate) enum Edit {
+    Keep,
+    Push(u64),
+    Drop,
+    // One in the place of the topmost.
+    Replace(u64),
+    // One in the place of the two topmost.
+    Join(u64),
+    // One in the place of so many.
+    Give(u8, u64),
+}
+
+// What the answer to a mark does.
+#[derive(Clone, Copy)]
+pub(crate) enum Heard {
+    // Whatever it says, the activation goes on at the place.
+    Goes(Edit, u32),
+    // A loaded value is converted to the kind; it takes the place of its address.
+    Loads(IntKind, u32),
+    // The same, above its address.
+    LoadsAbove(IntKind, u32),
+    // What the pool gives takes the place of so many arguments.
+    Takes(u8, u32),
+    // The function ends with the topmost value.
+    Ends,
+    // There is no way on.
+    Nothing,
+}
+
+// What an instruction comes to: it makes no mark, and the activation goes on at the place; it makes this mark; or it makes a call
+// that is no event of the pool.
+#[derive(Clone, Copy)]
+pub(crate) enum Outcome {
+    Silent(Edit, u32),
+    Asks(Want, Heard),
+    Pends(Call),
+}
