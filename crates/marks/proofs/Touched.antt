@@ -4,7 +4,8 @@ use Rattle.std.proofs.lemmas.Bool.{le-leb, lt-ltb, and_from}
 use Rattle.marks.specs.declared.fault.FaultKind.{FaultKind}
 use Rattle.marks.specs.declared.fault.FaultKind.TheVariants.{Divide, Shift, NotLive, ReadOnly, StackFull, BadCall}
 use Rattle.marks.specs.Places.{is_constant}
-use Rattle.marks.specs.Ranges.{Range, Piece, within, in_range, any_range, any_piece}
+use Rattle.marks.specs.declared.range.Range.{Range}
+use Rattle.marks.specs.Ranges.{Piece, within, covers, any_range, any_piece}
 use Rattle.marks.specs.Marks.{Access, Nowhere, Reading, Writing, Freeing, EventKind, Call, Ret, Up, UpRet, Alloc, Free, Stop, Act, Turn, Load, Store, Enter, Leave, Step, Fault, Made, released}
 use Rattle.marks.specs.Bytes.{Cell, IsLive, Byte, event_reads, event_writes, access_reads, access_writes, writes, touches, event_leaves, cell_after, event_block, block_after, leaves, give, give_any, Shows, EventAsks, SomeDead, AccessAsks, Asks}
 
@@ -30,7 +31,7 @@ not_both b e f = absurd cc
 no_pieces : (ps : List Piece) (x : ℕ) (c c' : Cell) → any_piece ps x ≡ false → Shows ps x c → Shows ps x c'
 no_pieces [] x c c' e h = tt
 no_pieces (p ∷ ps) x c c' e h =
-    (λ w. not_both _ (or_left (in_range p.range x) (any_piece ps x) e) w, no_pieces ps x c c' (or_right (in_range p.range x) (any_piece ps x) e) h.1)
+    (λ w. not_both _ (or_left (covers p.range x) (any_piece ps x) e) w, no_pieces ps x c c' (or_right (covers p.range x) (any_piece ps x) e) h.1)
 
 asks_event : (k : EventKind) (x : ℕ) (b b' : Byte) → event_reads k x ≡ false → event_writes k x ≡ false → EventAsks k x b → EventAsks k x b'
 asks_event (Call func args ins outs prepared) x b b' r w h = (no_pieces ins x b.cell b'.cell r h.0, λ e. not_both _ w e)
@@ -41,7 +42,7 @@ asks_event (Alloc at size) x b b' r w h = tt
 asks_event (Free at size) x b b' r w h = λ e. not_both _ w e
 asks_event (Stop f) x b b' r w h = tt
 
-some_dead : (r : Range) (c c' : ℕ → Byte) → ((x : ℕ) → in_range r x ≡ true → c x ≡ c' x) → SomeDead r c → SomeDead r c'
+some_dead : (r : Range) (c c' : ℕ → Byte) → ((x : ℕ) → covers r x ≡ true → c x ≡ c' x) → SomeDead r c → SomeDead r c'
 some_dead r c c' t h = (h.0, h.1, sym (ap (λ b. b.cell) (t h.0 h.1)) ∙ h.2)
 
 inside : (at : ℕ) → within at 1 at ≡ true
@@ -56,12 +57,12 @@ written_or_read false c e = absurd cc
 access_agree : (k : FaultKind) (a : Access) (c c' : ℕ → Byte) → ((x : ℕ) → (access_reads a x || access_writes a x) ≡ true → c x ≡ c' x) → AccessAsks k a c → AccessAsks k a c'
 access_agree k Nowhere c c' t h = tt
 access_agree k (Reading r) c c' t h = some_dead r c c' (λ x e. t x (or_true_left _ _ e)) h
-access_agree ReadOnly (Writing r) c c' t h = λ x e. subst (λ b. IsLive b.cell) (t x (written_or_read (in_range r x) (is_constant x) e)) (h x e)
-access_agree Divide (Writing r) c c' t h = some_dead r c c' (λ x e. t x (written_or_read (in_range r x) (is_constant x) e)) h
-access_agree Shift (Writing r) c c' t h = some_dead r c c' (λ x e. t x (written_or_read (in_range r x) (is_constant x) e)) h
-access_agree NotLive (Writing r) c c' t h = some_dead r c c' (λ x e. t x (written_or_read (in_range r x) (is_constant x) e)) h
-access_agree StackFull (Writing r) c c' t h = some_dead r c c' (λ x e. t x (written_or_read (in_range r x) (is_constant x) e)) h
-access_agree BadCall (Writing r) c c' t h = some_dead r c c' (λ x e. t x (written_or_read (in_range r x) (is_constant x) e)) h
+access_agree ReadOnly (Writing r) c c' t h = λ x e. subst (λ b. IsLive b.cell) (t x (written_or_read (covers r x) (is_constant x) e)) (h x e)
+access_agree Divide (Writing r) c c' t h = some_dead r c c' (λ x e. t x (written_or_read (covers r x) (is_constant x) e)) h
+access_agree Shift (Writing r) c c' t h = some_dead r c c' (λ x e. t x (written_or_read (covers r x) (is_constant x) e)) h
+access_agree NotLive (Writing r) c c' t h = some_dead r c c' (λ x e. t x (written_or_read (covers r x) (is_constant x) e)) h
+access_agree StackFull (Writing r) c c' t h = some_dead r c c' (λ x e. t x (written_or_read (covers r x) (is_constant x) e)) h
+access_agree BadCall (Writing r) c c' t h = some_dead r c c' (λ x e. t x (written_or_read (covers r x) (is_constant x) e)) h
 access_agree k (Freeing at) c c' t h = sym (ap (λ b. b.block) (t at (written_or_read (within at 1 at) (is_constant at) (inside at)))) ∙ h
 
 -- what a mark asks of memory, it asks of the bytes that it touches
@@ -102,7 +103,7 @@ cond_false false x y e = refl
 give_none : (ps : List Piece) (x : ℕ) (c : Cell) → any_piece ps x ≡ false → give_any ps x c ≡ c
 give_none [] x c e = refl
 give_none (p ∷ ps) x c e =
-    cond_false (in_range p.range x) (give p x c) (give_any ps x c) (or_left _ _ e) ∙ give_none ps x c (or_right (in_range p.range x) _ e)
+    cond_false (covers p.range x) (give p x c) (give_any ps x c) (or_left _ _ e) ∙ give_none ps x c (or_right (covers p.range x) _ e)
 
 event_keeps : (k : EventKind) (x : ℕ) (c : Cell) → event_writes k x ≡ false → event_leaves k x c ≡ c
 event_keeps (Call func args ins outs prepared) x c e = cond_false _ _ _ e

@@ -1,6 +1,7 @@
 -- Which bytes a mark reads and writes, what it leaves of a byte, and what it asks of memory.
 use Rattle.std.specs.Prelude.{◌≡◌, ℕ, suc, ◌+◌, Bool, true, false, ◌&&◌, ◌||◌, not, cond, eqb, ltb, List, [], ◌∷◌, ◌++◌, length}
-use Rattle.marks.specs.Ranges.{Range, Piece, within, in_range, any_range, any_piece, any_prepared, byte_at}
+use Rattle.marks.specs.declared.range.Range.{Range}
+use Rattle.marks.specs.Ranges.{Piece, within, covers, any_range, any_piece, any_prepared, byte_at}
 use Rattle.marks.specs.declared.fault.FaultKind.{FaultKind}
 use Rattle.marks.specs.declared.fault.FaultKind.TheVariants.{ReadOnly}
 use Rattle.marks.specs.Places.{is_constant}
@@ -42,13 +43,13 @@ event_writes _ x = false
 
 -- a refused write counts as one where it meets no constant; constants are never written, and reading them is free
 abbrev pub access_reads : Access → ℕ → Bool
-access_reads (Reading r) x = in_range r x
-access_reads (Writing r) x = in_range r x && is_constant x
+access_reads (Reading r) x = covers r x
+access_reads (Writing r) x = covers r x && is_constant x
 access_reads (Freeing at) x = within at 1 x && is_constant x
 access_reads _ x = false
 
 abbrev pub access_writes : Access → ℕ → Bool
-access_writes (Writing r) x = in_range r x && not (is_constant x)
+access_writes (Writing r) x = covers r x && not (is_constant x)
 access_writes (Freeing at) x = within at 1 x && not (is_constant x)
 access_writes _ x = false
 
@@ -95,11 +96,11 @@ release c = c
 
 -- what a piece leaves of a byte of its range
 abbrev pub give : Piece → ℕ → Cell → Cell
-give p x c = cond (ltb x (p.range.at + length p.bytes)) (Live (byte_at p.range.at p.bytes x)) (release c)
+give p x c = cond (ltb x (p.range.addr + length p.bytes)) (Live (byte_at p.range.addr p.bytes x)) (release c)
 
 abbrev pub give_any : List Piece → ℕ → Cell → Cell
 give_any [] x c = c
-give_any (p ∷ ps) x c = cond (in_range p.range x) (give p x c) (give_any ps x c)
+give_any (p ∷ ps) x c = cond (covers p.range x) (give p x c) (give_any ps x c)
 
 abbrev pub event_leaves : EventKind → ℕ → Cell → Cell
 event_leaves (Call func args ins outs prepared) x c = cond (any_range outs x || any_prepared prepared x) (hold c) c
@@ -132,7 +133,7 @@ leaves a x b = record { cell = cell_after a x b.cell; block = block_after a x b.
 -- the byte is what these pieces say
 abbrev pub Shows : List Piece → ℕ → Cell → Type 0
 Shows [] x c = Unit {0}
-Shows (p ∷ ps) x c = (in_range p.range x ≡ true → c ≡ Live (byte_at p.range.at p.bytes x)) × Shows ps x c
+Shows (p ∷ ps) x c = (covers p.range x ≡ true → c ≡ Live (byte_at p.range.addr p.bytes x)) × Shows ps x c
 
 -- what an event asks of a byte: a Call reads and holds live bytes that aren't pending, a Free gives back a whole block
 abbrev pub EventAsks : EventKind → ℕ → Byte → Type 0
@@ -142,11 +143,11 @@ EventAsks _ x b = Unit {0}
 
 -- each byte of the range is live and not pending
 abbrev pub AllLive : Range → (ℕ → Byte) → Type 0
-AllLive r c = (x : ℕ) → in_range r x ≡ true → IsLive (c x).cell
+AllLive r c = (x : ℕ) → covers r x ≡ true → IsLive (c x).cell
 
 -- some byte of the range is in no live object
 abbrev pub SomeDead : Range → (ℕ → Byte) → Type 0
-SomeDead r c = (x : ℕ) × (in_range r x ≡ true) × ((c x).cell ≡ Dead)
+SomeDead r c = (x : ℕ) × (covers r x ≡ true) × ((c x).cell ≡ Dead)
 
 -- what memory shows of the access that a fault stops
 abbrev pub AccessAsks : FaultKind → Access → (ℕ → Byte) → Type 0

@@ -4,7 +4,8 @@ use Rattle.run_events.specs.declared.key.KeyMark.{KeyMark}
 use Rattle.marks.specs.declared.side.Side.{Side}
 use Rattle.marks.specs.declared.side.Side.TheVariants.{Replay}
 use Rattle.marks.specs.declared.fault.FaultKind.{FaultKind}
-use Rattle.marks.specs.Ranges.{Range, Piece, Prepared}
+use Rattle.marks.specs.declared.range.Range.{Range}
+use Rattle.marks.specs.Ranges.{Piece, Prepared}
 
 -- the access that a fault stops; `r2_free` of an address that begins no block touches the one byte there
 pub data Access : Type 0 where

@@ -1,10 +1,6 @@
--- Ranges of memory, and bytes that stand in them.
-use Rattle.std.specs.Prelude.{ℕ, zero, suc, ◌+◌, ◌-◌, ◌*◌, ◌/◌, ◌%◌, Bool, true, false, ◌&&◌, ◌||◌, leb, ltb, List, [], ◌∷◌, map, get_or}
-
--- a first address and a length
-pub record Range : Type 0 where
-  pub at : ℕ
-  pub size : ℕ
+-- Ranges of memory, bytes that stand in them, and the first byte of a range at which something holds.
+use Rattle.std.specs.Prelude.{ℕ, zero, suc, ◌+◌, ◌-◌, ◌*◌, ◌/◌, ◌%◌, ◌^◌, ◌<◌, ◌≤◌, Bool, true, false, ◌&&◌, ◌||◌, nat_le, nat_lt, ltb, List, [], ◌∷◌, map, get_or, Option, MatchOption}
+use Rattle.marks.specs.declared.range.Range.{Range}
 
 -- a range, and what its first bytes are
 pub record Piece : Type 0 where
@@ -17,26 +13,45 @@ pub record Prepared : Type 0 where
   pub range : Range
 
 abbrev pub range : ℕ → ℕ → Range
-range at size = record { at = at; size = size }
+range addr len = record { addr = addr; len = len }
 
--- the byte at x is one of the `size` bytes from `at` on
+-- the address is that of a byte of the range
+abbrev pub IsInRange : Range → ℕ → Type 0
+IsInRange r x = (r.addr ≤ x) × (x < r.addr + r.len) × (x < 2 ^ 64)
+
+-- whether the address is one of those from the first on, as far as they would go without a last address
+abbrev pub covers : Range → ℕ → Bool
+covers r x = nat_le r.addr x && nat_lt x (r.addr + r.len)
+
+-- the same, where the range is given by its first address and its length
 abbrev pub within : ℕ → ℕ → ℕ → Bool
-within at size x = leb at x && ltb x (at + size)
+within addr len x = covers (range addr len) x
 
-abbrev pub in_range : Range → ℕ → Bool
-in_range r x = within r.at r.size x
+-- P holds at no byte of the range
+abbrev pub NoneIn : Range → (ℕ → Type 0) → Type 0
+NoneIn r P = (x : ℕ) → IsInRange r x → ¬ P x
+
+-- the least byte of the range at which P holds
+pub record IsLeastIn (r : Range) (P : ℕ → Type 0) (x : ℕ) : Type 0 where
+  pub in_range : IsInRange r x
+  pub holds : P x
+  pub least : (y : ℕ) → IsInRange r y → P y → x ≤ y
+
+-- the least byte of the range at which P holds, if there is one
+abbrev pub IsFirstIn : Range → (ℕ → Type 0) → Option ℕ → Type 0
+IsFirstIn r P first = MatchOption first (NoneIn r P) (IsLeastIn r P)
 
 abbrev pub any_range : List Range → ℕ → Bool
 any_range [] x = false
-any_range (r ∷ rs) x = in_range r x || any_range rs x
+any_range (r ∷ rs) x = covers r x || any_range rs x
 
 abbrev pub any_piece : List Piece → ℕ → Bool
 any_piece [] x = false
-any_piece (p ∷ ps) x = in_range p.range x || any_piece ps x
+any_piece (p ∷ ps) x = covers p.range x || any_piece ps x
 
 abbrev pub any_prepared : List Prepared → ℕ → Bool
 any_prepared [] x = false
-any_prepared (p ∷ ps) x = in_range p.range x || any_prepared ps x
+any_prepared (p ∷ ps) x = covers p.range x || any_prepared ps x
 
 abbrev pub piece_ranges : List Piece → List Range
 piece_ranges ps = map (λ p. p.range) ps

@@ -1,6 +1,7 @@
 -- What a thread's code may want to do next, and which mark answers it.
 use Rattle.std.specs.Prelude.{ℕ, Bool, true, false, ◌&&◌, ◌||◌, not, cond, eqb, List, [], ◌∷◌, length, Option, Some, None}
-use Rattle.marks.specs.Ranges.{Range, range, are_bytes, number_of_bytes}
+use Rattle.marks.specs.declared.range.Range.{Range}
+use Rattle.marks.specs.Ranges.{range, are_bytes, number_of_bytes}
 use Rattle.marks.specs.declared.fault.FaultKind.{FaultKind}
 use Rattle.marks.specs.declared.fault.FaultKind.TheVariants.{NotLive, ReadOnly, StackFull}
 use Rattle.marks.specs.Kinds.{fault_number}
@@ -52,8 +53,8 @@ no_ranges _ = false
 
 abbrev pub same_access : Access → Access → Bool
 same_access Nowhere Nowhere = true
-same_access (Reading r) (Reading q) = eqb r.at q.at && eqb r.size q.size
-same_access (Writing r) (Writing q) = eqb r.at q.at && eqb r.size q.size
+same_access (Reading r) (Reading q) = eqb r.addr q.addr && eqb r.len q.len
+same_access (Writing r) (Writing q) = eqb r.addr q.addr && eqb r.len q.len
 same_access (Freeing at) (Freeing x) = eqb at x
 same_access _ _ = false
 

@@ -6,10 +6,12 @@ mod breach;
 mod fault;
 mod laws;
 mod places;
+mod range;
 mod side;
 
 pub use breach::BreachKind;
 pub use fault::FaultKind;
 pub use laws::{only_touched_bytes_count, returns_are_below, unwritten_bytes_stay};
 pub use places::{function_address, stack, thread_count};
+pub use range::Range;
 pub use side::Side;

@@ -5,7 +5,6 @@ mod areas;
 mod laws;
 mod lists;
 mod placed;
-mod range;
 
 pub use areas::{
     CONSTANTS, FRAMES, GLOBALS_SIZE, POOL_SIZE, REPLAY_GLOBALS, REPLAY_MEMORY, REPLAY_POOL,
@@ -13,5 +12,5 @@ pub use areas::{
 };
 pub use laws::areas_are_those_of_runs;
 pub use lists::{Bytes8, Flags, Places};
+pub use marks::Range;
 pub use placed::{Place, Placed};
-pub use range::Range;

@@ -3,7 +3,8 @@ use Rattle.std.proofs.Common.{◌≡◌, ◌⊎◌, inl, inr, ⊎_elim, ℕ, ◌
 use Rattle.std.proofs.lemmas.Bool.{leb-true, ltb-true, le-leb, lt-ltb, and_parts, and_from, ne_eqb, true≢false, cases_eq, cases_lt, cases_Bool}
 use Rattle.run_events.specs.declared.key.Class.TheVariants.{Pool}
 use Rattle.marks.specs.Places.{replay_pool}
-use Rattle.marks.specs.Ranges.{Range, range, within}
+use Rattle.marks.specs.declared.range.Range.{Range}
+use Rattle.marks.specs.Ranges.{range, within}
 use Rattle.marks.specs.Marks.{EventKind, Call, Ret, Up, UpRet, Alloc, Free, Stop, Event, Act, Turn, Load, Store, Enter, Leave, Step, Fault, Made, Mark}
 use Rattle.marks.specs.Bytes.{granted, event_block, block_after, EventAsks, Asks}
 use Rattle.replay_runs.specs.Runs.{Link, OfKey, Start, keys_of, is_listed, Run, Allowed, marks_of, new_events, byte}
@@ -29,45 +30,45 @@ bounds at n x e = let p = and_parts (leb at x) (ltb x (at + n)) e in (leb-true a
 none_begins : (bs : List Range) (at n x : ℕ) → LieApart bs → MeetsNone bs at n → within at n x ≡ true → size_at x bs ≡ 0
 none_begins [] at n x s m e = refl
 none_begins (b ∷ bs) at n x s m e =
-    cond_false (eqb b.at x) b.size (size_at x bs) (ne_eqb b.at x (λ z. let w = bounds at n x e in ⊎_elim (λ l. absurd (omega (arith, z, l, w.0, s.1))) (λ l. absurd (omega (arith, z, l, w.1))) m.0))
+    cond_false (eqb b.addr x) b.len (size_at x bs) (ne_eqb b.addr x (λ z. let w = bounds at n x e in ⊎_elim (λ l. absurd (omega (arith, z, l, w.0, s.1))) (λ l. absurd (omega (arith, z, l, w.1))) m.0))
     ∙ none_begins bs at n x s.3 m.1 e
 
 -- a block of the list lies apart from what meets none of it
 lies_apart : (bs : List Range) (a n at size : ℕ) → MeetsNone bs a n → size_at at bs ≡ size → 1 ≤ size → (at + size ≤ a) ⊎ (a + n ≤ at)
 lies_apart [] a n at size m e h = absurd (omega (arith, e, h))
-lies_apart (b ∷ bs) a n at size m e h = go (eqb b.at at) refl e (λ g. lies_apart bs a n at size m.1 g h)
+lies_apart (b ∷ bs) a n at size m e h = go (eqb b.addr at) refl e (λ g. lies_apart bs a n at size m.1 g h)
   where
-    go : (c : Bool) → eqb b.at at ≡ c → cond c b.size (size_at at bs) ≡ size → (size_at at bs ≡ size → (at + size ≤ a) ⊎ (a + n ≤ at)) → (at + size ≤ a) ⊎ (a + n ≤ at)
-    go true f g again = let z : b.at ≡ at = eqb-true b.at at f in ⊎_elim (λ l. inl (omega (arith, l, z, g))) (λ l. inr (omega (arith, l, z))) m.0
+    go : (c : Bool) → eqb b.addr at ≡ c → cond c b.len (size_at at bs) ≡ size → (size_at at bs ≡ size → (at + size ≤ a) ⊎ (a + n ≤ at)) → (at + size ≤ a) ⊎ (a + n ≤ at)
+    go true f g again = let z : b.addr ≡ at = eqb-true b.addr at f in ⊎_elim (λ l. inl (omega (arith, l, z, g))) (λ l. inr (omega (arith, l, z))) m.0
     go false f g again = again g
 
 -- no other block begins inside a block
 none_inside : (bs : List Range) (at size x : ℕ) → LieApart bs → size_at at bs ≡ size → 1 ≤ size → within at size x ≡ true → (x ≡ at → ⊥) → size_at x bs ≡ 0
 none_inside [] at size x s e h w ne = refl
-none_inside (b ∷ bs) at size x s e h w ne = go (eqb b.at at) refl e (λ g. none_inside bs at size x s.3 g h w ne)
+none_inside (b ∷ bs) at size x s e h w ne = go (eqb b.addr at) refl e (λ g. none_inside bs at size x s.3 g h w ne)
   where
     k : (at ≤ x) × (x < at + size)
     k = bounds at size x w
 
-    rest : size_at at bs ≡ size → (b.at ≡ x → ⊥)
-    rest g z = ⊎_elim (λ l. absurd (omega (arith, l, z, k.1))) (λ l. absurd (omega (arith, l, z, k.0, s.1))) (lies_apart bs b.at b.size at size s.2 g h)
+    rest : size_at at bs ≡ size → (b.addr ≡ x → ⊥)
+    rest g z = ⊎_elim (λ l. absurd (omega (arith, l, z, k.1))) (λ l. absurd (omega (arith, l, z, k.0, s.1))) (lies_apart bs b.addr b.len at size s.2 g h)
 
-    go : (c : Bool) → eqb b.at at ≡ c → cond c b.size (size_at at bs) ≡ size → (size_at at bs ≡ size → size_at x bs ≡ 0) → cond (eqb b.at x) b.size (size_at x bs) ≡ 0
+    go : (c : Bool) → eqb b.addr at ≡ c → cond c b.len (size_at at bs) ≡ size → (size_at at bs ≡ size → size_at x bs ≡ 0) → cond (eqb b.addr x) b.len (size_at x bs) ≡ 0
     go true f g again =
-        let z : b.at ≡ at = eqb-true b.at at f in
-        cond_false (eqb b.at x) b.size (size_at x bs) (ne_eqb b.at x (λ y. ne (sym y ∙ z)))
-        ∙ none_begins bs at size x s.3 (subst (λ u. MeetsNone bs u size) z (subst (MeetsNone bs b.at) g s.2)) w
+        let z : b.addr ≡ at = eqb-true b.addr at f in
+        cond_false (eqb b.addr x) b.len (size_at x bs) (ne_eqb b.addr x (λ y. ne (sym y ∙ z)))
+        ∙ none_begins bs at size x s.3 (subst (λ u. MeetsNone bs u size) z (subst (MeetsNone bs b.addr) g s.2)) w
     go false f g again =
-        cond_false (eqb b.at x) b.size (size_at x bs) (ne_eqb b.at x (rest g))
+        cond_false (eqb b.addr x) b.len (size_at x bs) (ne_eqb b.addr x (rest g))
         ∙ again g
 
 without_other : (bs : List Range) (at x : ℕ) → (x ≡ at → ⊥) → size_at x (without at bs) ≡ size_at x bs
 without_other [] at x ne = refl
-without_other (b ∷ bs) at x ne = go (eqb b.at at) refl (without_other bs at x ne)
+without_other (b ∷ bs) at x ne = go (eqb b.addr at) refl (without_other bs at x ne)
   where
-    go : (c : Bool) → eqb b.at at ≡ c → size_at x (without at bs) ≡ size_at x bs → size_at x (cond c bs (b ∷ without at bs)) ≡ cond (eqb b.at x) b.size (size_at x bs)
-    go true f g = sym (cond_false (eqb b.at x) b.size (size_at x bs) (ne_eqb b.at x (λ y. ne (sym y ∙ eqb-true b.at at f))))
-    go false f g = ap (cond (eqb b.at x) b.size) g
+    go : (c : Bool) → eqb b.addr at ≡ c → size_at x (without at bs) ≡ size_at x bs → size_at x (cond c bs (b ∷ without at bs)) ≡ cond (eqb b.addr x) b.len (size_at x bs)
+    go true f g = sym (cond_false (eqb b.addr x) b.len (size_at x bs) (ne_eqb b.addr x (λ y. ne (sym y ∙ eqb-true b.addr at f))))
+    go false f g = ap (cond (eqb b.addr x) b.len) g
 
 -- a block that meets the others nowhere is the only one at its place
 only_one : (bs : List Range) (a n : ℕ) → LieApart bs → MeetsNone bs a n → 1 ≤ n → size_at a bs ≡ 0
@@ -75,15 +76,15 @@ only_one bs a n s m h = none_begins bs a n a s m (and_from _ _ (le-leb a a (omeg
 
 without_it : (bs : List Range) (at : ℕ) → LieApart bs → size_at at (without at bs) ≡ 0
 without_it [] at s = refl
-without_it (b ∷ bs) at s = go (eqb b.at at) refl (without_it bs at s.3)
+without_it (b ∷ bs) at s = go (eqb b.addr at) refl (without_it bs at s.3)
   where
-    go : (c : Bool) → eqb b.at at ≡ c → size_at at (without at bs) ≡ 0 → size_at at (cond c bs (b ∷ without at bs)) ≡ 0
-    go true f g = subst (λ u. size_at u bs ≡ 0) (eqb-true b.at at f) (only_one bs b.at b.size s.3 s.2 s.1)
-    go false f g = cond_false (eqb b.at at) b.size (size_at at (without at bs)) f ∙ g
+    go : (c : Bool) → eqb b.addr at ≡ c → size_at at (without at bs) ≡ 0 → size_at at (cond c bs (b ∷ without at bs)) ≡ 0
+    go true f g = subst (λ u. size_at u bs ≡ 0) (eqb-true b.addr at f) (only_one bs b.addr b.len s.3 s.2 s.1)
+    go false f g = cond_false (eqb b.addr at) b.len (size_at at (without at bs)) f ∙ g
 
 without_meets : (bs : List Range) (at a n : ℕ) → MeetsNone bs a n → MeetsNone (without at bs) a n
 without_meets [] at a n m = m
-without_meets (b ∷ bs) at a n m = go (eqb b.at at) (without_meets bs at a n m.1)
+without_meets (b ∷ bs) at a n m = go (eqb b.addr at) (without_meets bs at a n m.1)
   where
     go : (c : Bool) → MeetsNone (without at bs) a n → MeetsNone (cond c bs (b ∷ without at bs)) a n
     go true k = m.1
@@ -91,11 +92,11 @@ without_meets (b ∷ bs) at a n m = go (eqb b.at at) (without_meets bs at a n m.
 
 without_sound : (bs : List Range) (at : ℕ) → LieApart bs → LieApart (without at bs)
 without_sound [] at s = tt
-without_sound (b ∷ bs) at s = go (eqb b.at at) (without_sound bs at s.3)
+without_sound (b ∷ bs) at s = go (eqb b.addr at) (without_sound bs at s.3)
   where
     go : (c : Bool) → LieApart (without at bs) → LieApart (cond c bs (b ∷ without at bs))
     go true k = s.3
-    go false k = (s.0, s.1, without_meets bs at b.at b.size s.2, k)
+    go false k = (s.0, s.1, without_meets bs at b.addr b.len s.2, k)
 
 allocs : (bs : List Range) (block : ℕ → ℕ) (at size : ℕ) → ListsBlocks bs block → IsPlace replay_pool bs size at → ListsBlocks (blocks_after (Alloc at size) bs) (λ x. event_block (Alloc at size) x (block x))
 allocs bs block at size h (inr n) =
@@ -132,7 +133,7 @@ frees bs block at size h z k = record { apart = without_sound bs at h.apart; sam
   where
     no_zero : (bs : List Range) → LieApart bs → size_at 0 bs ≡ 0
     no_zero [] s = refl
-    no_zero (b ∷ bs) s = cond_false (eqb b.at 0) b.size (size_at 0 bs) (ne_eqb b.at 0 (λ e. absurd (omega (arith, e, s.0)))) ∙ no_zero bs s.3
+    no_zero (b ∷ bs) s = cond_false (eqb b.addr 0) b.len (size_at 0 bs) (ne_eqb b.addr 0 (λ e. absurd (omega (arith, e, s.0)))) ∙ no_zero bs s.3
 
     empty : (x : ℕ) → size ≡ 0 → within at size x ≡ false
     empty x e = ⊎_elim (λ y. let w = bounds at size x y in absurd (omega (arith, w.0, w.1, e))) (λ y. y) (cases_Bool (within at size x))

@@ -2,7 +2,8 @@
 use Rattle.std.proofs.Common.{◌≡◌, ◌↔◌, ⊎_elim, ℕ, ◌<◌, ◌≤◌, Bool, true, false, ◌&&◌, ◌||◌, not, cond, List, [], ◌∷◌, ◌++◌, refl, sym, ap, ◌∙◌, arith}
 use Rattle.std.proofs.lemmas.Bool.{and_parts, or_cases, true≢false, cases_lt}
 use Rattle.marks.specs.Places.{is_constant, is_system}
-use Rattle.marks.specs.Ranges.{Range, Piece, Prepared, in_range, any_range, any_piece, any_prepared, piece_ranges, prepared_ranges}
+use Rattle.marks.specs.declared.range.Range.{Range}
+use Rattle.marks.specs.Ranges.{Piece, Prepared, covers, any_range, any_piece, any_prepared, piece_ranges, prepared_ranges}
 use Rattle.marks.specs.Marks.{Call, Event, Made, Mark}
 use Rattle.marks.specs.Bytes.{IsLive, event_reads, event_writes, late_event, touches, writes, late, place, conflict}
 use Rattle.marks.proofs.Touched.{or_true_left, or_true_right}
@@ -15,12 +16,12 @@ use Rattle.replay_runs.specs.Calls.{CallIsFree}
 
 pieces_any : (ps : List Piece) (x : ℕ) → any_range (piece_ranges ps) x ≡ any_piece ps x
 pieces_any [] x = refl
-pieces_any (p ∷ ps) x = ap (λ b. in_range p.range x || b) (pieces_any ps x)
+pieces_any (p ∷ ps) x = ap (λ b. covers p.range x || b) (pieces_any ps x)
 
 held_any : (rs : List Range) (ps : List Prepared) (x : ℕ) → any_range (rs ++ prepared_ranges ps) x ≡ (any_range rs x || any_prepared ps x)
 held_any [] [] x = refl
-held_any [] (p ∷ ps) x = ap (λ b. in_range p.range x || b) (held_any [] ps x)
-held_any (r ∷ rs) ps x = ap (λ b. in_range r x || b) (held_any rs ps x) ∙ joined (in_range r x) (any_range rs x) (any_prepared ps x)
+held_any [] (p ∷ ps) x = ap (λ b. covers p.range x || b) (held_any [] ps x)
+held_any (r ∷ rs) ps x = ap (λ b. covers r x || b) (held_any rs ps x) ∙ joined (covers r x) (any_range rs x) (any_prepared ps x)
   where
     joined : (a b c : Bool) → (a || (b || c)) ≡ ((a || b) || c)
     joined true b c = refl
@@ -44,16 +45,16 @@ module _ (s : Start) (past : List Mark) (t : ℕ) where
   reads_to (r ∷ rs) h =
       let k = reads_to rs h.1 in
       record {
-        space = λ x e. ⊎_elim (λ z. h.0.own_space x z) (λ z. k.space x z) (or_cases (in_range r x) (any_range rs x) e);
-        unraced = λ x u e w. ⊎_elim (λ z. h.0.unraced x u z w) (λ z. k.unraced x u z w) (or_cases (in_range r x) (any_range rs x) e);
-        live = λ x e. ⊎_elim (λ z. h.0.live x z) (λ z. k.live x z) (or_cases (in_range r x) (any_range rs x) e);
+        space = λ x e. ⊎_elim (λ z. h.0.own_space x z) (λ z. k.space x z) (or_cases (covers r x) (any_range rs x) e);
+        unraced = λ x u e w. ⊎_elim (λ z. h.0.unraced x u z w) (λ z. k.unraced x u z w) (or_cases (covers r x) (any_range rs x) e);
+        live = λ x e. ⊎_elim (λ z. h.0.live x z) (λ z. k.live x z) (or_cases (covers r x) (any_range rs x) e);
       }
 
   pub reads_from : (rs : List Range) → Reads (any_range rs) → AllMayRead s past t rs
   reads_from [] h = tt
   reads_from (r ∷ rs) h = (
-    record { own_space = λ x e. h.space x (or_true_left (in_range r x) (any_range rs x) e); unraced = λ x u e w. h.unraced x u (or_true_left (in_range r x) (any_range rs x) e) w; live = λ x e. h.live x (or_true_left (in_range r x) (any_range rs x) e) },
-    reads_from rs (record { space = λ x e. h.space x (or_true_right (in_range r x) (any_range rs x) e); unraced = λ x u e w. h.unraced x u (or_true_right (in_range r x) (any_range rs x) e) w; live = λ x e. h.live x (or_true_right (in_range r x) (any_range rs x) e) }),
+    record { own_space = λ x e. h.space x (or_true_left (covers r x) (any_range rs x) e); unraced = λ x u e w. h.unraced x u (or_true_left (covers r x) (any_range rs x) e) w; live = λ x e. h.live x (or_true_left (covers r x) (any_range rs x) e) },
+    reads_from rs (record { space = λ x e. h.space x (or_true_right (covers r x) (any_range rs x) e); unraced = λ x u e w. h.unraced x u (or_true_right (covers r x) (any_range rs x) e) w; live = λ x e. h.live x (or_true_right (covers r x) (any_range rs x) e) }),
   )
 
   pub writes_to : (rs : List Range) → AllMayWrite s past t rs → Writes (any_range rs)
@@ -61,17 +62,17 @@ module _ (s : Start) (past : List Mark) (t : ℕ) where
   writes_to (r ∷ rs) h =
       let k = writes_to rs h.1 in
       record {
-        space = λ x e. ⊎_elim (λ z. h.0.own_space x z) (λ z. k.space x z) (or_cases (in_range r x) (any_range rs x) e);
-        unraced = λ x u e w. ⊎_elim (λ z. h.0.unraced x u z w) (λ z. k.unraced x u z w) (or_cases (in_range r x) (any_range rs x) e);
-        live = λ x e. ⊎_elim (λ z. h.0.live x z) (λ z. k.live x z) (or_cases (in_range r x) (any_range rs x) e);
-        constant = λ x e. ⊎_elim (λ z. h.0.writable x z) (λ z. k.constant x z) (or_cases (in_range r x) (any_range rs x) e);
+        space = λ x e. ⊎_elim (λ z. h.0.own_space x z) (λ z. k.space x z) (or_cases (covers r x) (any_range rs x) e);
+        unraced = λ x u e w. ⊎_elim (λ z. h.0.unraced x u z w) (λ z. k.unraced x u z w) (or_cases (covers r x) (any_range rs x) e);
+        live = λ x e. ⊎_elim (λ z. h.0.live x z) (λ z. k.live x z) (or_cases (covers r x) (any_range rs x) e);
+        constant = λ x e. ⊎_elim (λ z. h.0.writable x z) (λ z. k.constant x z) (or_cases (covers r x) (any_range rs x) e);
       }
 
   pub writes_from : (rs : List Range) → Writes (any_range rs) → AllMayWrite s past t rs
   writes_from [] h = tt
   writes_from (r ∷ rs) h = (
-    record { own_space = λ x e. h.space x (or_true_left (in_range r x) (any_range rs x) e); unraced = λ x u e w. h.unraced x u (or_true_left (in_range r x) (any_range rs x) e) w; live = λ x e. h.live x (or_true_left (in_range r x) (any_range rs x) e); writable = λ x e. h.constant x (or_true_left (in_range r x) (any_range rs x) e) },
-    writes_from rs (record { space = λ x e. h.space x (or_true_right (in_range r x) (any_range rs x) e); unraced = λ x u e w. h.unraced x u (or_true_right (in_range r x) (any_range rs x) e) w; live = λ x e. h.live x (or_true_right (in_range r x) (any_range rs x) e); constant = λ x e. h.constant x (or_true_right (in_range r x) (any_range rs x) e) }),
+    record { own_space = λ x e. h.space x (or_true_left (covers r x) (any_range rs x) e); unraced = λ x u e w. h.unraced x u (or_true_left (covers r x) (any_range rs x) e) w; live = λ x e. h.live x (or_true_left (covers r x) (any_range rs x) e); writable = λ x e. h.constant x (or_true_left (covers r x) (any_range rs x) e) },
+    writes_from rs (record { space = λ x e. h.space x (or_true_right (covers r x) (any_range rs x) e); unraced = λ x u e w. h.unraced x u (or_true_right (covers r x) (any_range rs x) e) w; live = λ x e. h.live x (or_true_right (covers r x) (any_range rs x) e); constant = λ x e. h.constant x (or_true_right (covers r x) (any_range rs x) e) }),
   )
 
 module _ (s : Start) (past : List Mark) (m : Mark) (e : Event) (func : ℕ) (args : List ℕ) (ins : List Piece) (outs : List Range) (prepared : List Prepared) (is : m.act ≡ Made e) (kind : e.kind ≡ Call func args ins outs prepared) where

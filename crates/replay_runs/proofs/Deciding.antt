@@ -7,7 +7,8 @@ use Rattle.marks.specs.declared.fault.FaultKind.{FaultKind}
 use Rattle.marks.specs.declared.fault.FaultKind.TheVariants.{NotLive, ReadOnly, StackFull}
 use Rattle.marks.specs.declared.breach.BreachKind.TheVariants.{Pending, OtherSpace, Mode, KeyInUse, NoKey, Size}
 use Rattle.marks.specs.Places.{function_address, frame_count, stack, stack_size, is_constant, is_system}
-use Rattle.marks.specs.Ranges.{Range, Prepared, range, in_range, any_range, prepared_ranges}
+use Rattle.marks.specs.declared.range.Range.{Range}
+use Rattle.marks.specs.Ranges.{Prepared, range, covers, any_range, prepared_ranges}
 use Rattle.marks.specs.Marks.{Mark}
 use Rattle.marks.specs.Bytes.{Cell, Dead, Live, Held, IsHeld}
 use Rattle.marks.specs.Wants.{Want, Outside, Turns, Loads, Stores, Enters, Leaves, Allocs, Frees, Calls, Below, Gives, Returns, CallsBack, UpReturns, Steps, Fails}
@@ -15,7 +16,6 @@ use Rattle.replay_runs.specs.Runs.{Start, marks_of, byte}
 use Rattle.replay_runs.specs.Interface.{Interface, Committing}
 use Rattle.replay_runs.specs.Threads.{tail, frames, frame_place, HasRoom}
 use Rattle.replay_runs.specs.Pool.{in_use}
-use Rattle.replay_runs.specs.Keys.{key}
 use Rattle.replay_runs.specs.Checks.{Finding, FaultFound, BreachFound, Checks, Done, Least, any_number, freed_range, range_checks, read_checks, hold_checks, key_checks, mode_checks, indirect_check, checks, Answered, IsSpoiled, first_length, size_check, size_checks, commit_size_check, return_checks, other_space_check, race_check, live_check, pending_check, constant_check}
 use Rattle.replay_runs.proofs.Tested.{Tested, done_tested, all_from, all_from_true, Here, seek_tested, not_both, first_bad, first_is, one_bad, named, range_least, range_some, byte_tested, point_tested, plain_tested, false_is, or_false}
 use Rattle.replay_runs.proofs.Racing.{is_unraced, race_here}
@@ -70,16 +70,16 @@ not_written write x h w c = ⊎_elim (λ z. not_both write z w) (λ z. not_both 
 pub written : (write : Bool) (x : ℕ) → (not write || not (is_constant x)) ≡ false → (write ≡ true) × (is_constant x ≡ true)
 written write x h = let p = or_false (not write) (not (is_constant x)) h in (false_is write p.0, false_is (is_constant x) p.1)
 
-pub constant_least : (write : Bool) (r : Range) (f : Finding) → named (λ x. FaultFound ReadOnly) (first_bad (λ x. not write || not (is_constant x)) r.at r.size) ≡ Some f → (x : ℕ) × Least (λ x. (in_range r x ≡ true) × (write ≡ true) × (is_constant x ≡ true)) x × (f ≡ FaultFound ReadOnly)
+pub constant_least : (write : Bool) (r : Range) (f : Finding) → named (λ x. FaultFound ReadOnly) (first_bad (λ x. not write || not (is_constant x)) r.addr r.len) ≡ Some f → (x : ℕ) × Least (λ x. (covers r x ≡ true) × (write ≡ true) × (is_constant x ≡ true)) x × (f ≡ FaultFound ReadOnly)
 constant_least write r f h =
-    let w = range_least r (λ x. (write ≡ true) × (is_constant x ≡ true)) (λ x. not write || not (is_constant x)) (λ x h b. not_written write x h b.0 b.1) (written write) (λ x. FaultFound ReadOnly) (first_bad (λ x. not write || not (is_constant x)) r.at r.size) refl f h in
+    let w = range_least r (λ x. (write ≡ true) × (is_constant x ≡ true)) (λ x. not write || not (is_constant x)) (λ x h b. not_written write x h b.0 b.1) (written write) (λ x. FaultFound ReadOnly) (first_bad (λ x. not write || not (is_constant x)) r.addr r.len) refl f h in
     (w.0, ((w.1.0.0, w.1.0.1.0, w.1.0.1.1), λ y b. w.1.1 y (b.0, (b.1, b.2))), w.2)
 
 abbrev pub constant_tested : (write : Bool) (r : Range) (cs : Checks) → Tested cs → Tested (constant_check write r cs)
 constant_tested write r cs k =
-    seek_tested _ _ cs (all_from (λ x. not write || not (is_constant x)) r.at r.size) (record {
-      none = λ h x b. not_written write x (all_from_true (λ x. not write || not (is_constant x)) r.at r.size h x b.0) b.1 b.2;
-      found = named (λ x. FaultFound ReadOnly) (first_bad (λ x. not write || not (is_constant x)) r.at r.size);
+    seek_tested _ _ cs (all_from (λ x. not write || not (is_constant x)) r.addr r.len) (record {
+      none = λ h x b. not_written write x (all_from_true (λ x. not write || not (is_constant x)) r.addr r.len h x b.0) b.1 b.2;
+      found = named (λ x. FaultFound ReadOnly) (first_bad (λ x. not write || not (is_constant x)) r.addr r.len);
       least = constant_least write r;
       some = range_some r (λ x. not write || not (is_constant x)) (λ x. FaultFound ReadOnly);
     }) k
@@ -209,47 +209,47 @@ module _ (s : Start) (past : List Mark) (t : ℕ) where
 module _ (below : Answered) where
   -- each byte past the used size is as it was
   abbrev is_kept : Range → ℕ → Bool
-  is_kept r used = all_from (λ y. ltb y (r.at + used) || not (below.changed y)) r.at r.size
+  is_kept r used = all_from (λ y. ltb y (r.addr + used) || not (below.changed y)) r.addr r.len
 
   abbrev is_filled : ℕ → Range → ℕ → Bool
-  is_filled piece r used = leb piece r.size && (leb used r.size && is_kept r used)
+  is_filled piece r used = leb piece r.len && (leb used r.len && is_kept r used)
 
   -- one may be changed where it is used
-  kept : (r : Range) (used : ℕ) → is_kept r used ≡ true → (y : ℕ) → in_range r y ≡ true → r.at + used ≤ y → below.changed y ≡ true → ⊥
+  kept : (r : Range) (used : ℕ) → is_kept r used ≡ true → (y : ℕ) → covers r y ≡ true → r.addr + used ≤ y → below.changed y ≡ true → ⊥
   kept r used h y e le c = ⊎_elim
-      (λ z. let k = ltb-true y (r.at + used) z in omega (arith, k, le))
+      (λ z. let k = ltb-true y (r.addr + used) z in omega (arith, k, le))
       (λ z. not_both (below.changed y) z c)
-      (or_cases (ltb y (r.at + used)) (not (below.changed y)) (all_from_true (λ y. ltb y (r.at + used) || not (below.changed y)) r.at r.size h y e))
+      (or_cases (ltb y (r.addr + used)) (not (below.changed y)) (all_from_true (λ y. ltb y (r.addr + used) || not (below.changed y)) r.addr r.len h y e))
 
-  not_kept : (r : Range) (used : ℕ) → is_kept r used ≡ false → (y : ℕ) × (in_range r y ≡ true) × (r.at + used ≤ y) × (below.changed y ≡ true)
+  not_kept : (r : Range) (used : ℕ) → is_kept r used ≡ false → (y : ℕ) × (covers r y ≡ true) × (r.addr + used ≤ y) × (below.changed y ≡ true)
   not_kept r used h =
-      let x = one_bad (λ y. ltb y (r.at + used) || not (below.changed y)) r.at r.size h in
-      let f = first_is (λ y. ltb y (r.at + used) || not (below.changed y)) r.at r.size x.0 x.1 in
-      let p = or_false (ltb x.0 (r.at + used)) (not (below.changed x.0)) f.is_bad in
-      (x.0, f.within_is, ltb-false x.0 (r.at + used) p.0, false_is (below.changed x.0) p.1)
+      let x = one_bad (λ y. ltb y (r.addr + used) || not (below.changed y)) r.addr r.len h in
+      let f = first_is (λ y. ltb y (r.addr + used) || not (below.changed y)) r.addr r.len x.0 x.1 in
+      let p = or_false (ltb x.0 (r.addr + used)) (not (below.changed x.0)) f.is_bad in
+      (x.0, f.within_is, ltb-false x.0 (r.addr + used) p.0, false_is (below.changed x.0) p.1)
 
   pub filled : (piece : ℕ) (r : Range) (used : ℕ) → is_filled piece r used ≡ true → IsSpoiled below.changed piece r used → ⊥
   filled piece r used h b =
-      let p = and_parts (leb piece r.size) (leb used r.size && is_kept r used) h in
-      let q = and_parts (leb used r.size) (is_kept r used) p.1 in
+      let p = and_parts (leb piece r.len) (leb used r.len && is_kept r used) h in
+      let q = and_parts (leb used r.len) (is_kept r used) p.1 in
       ⊎_elim
-      (λ z. let k = leb-true piece r.size p.0 in omega (arith, k, z))
+      (λ z. let k = leb-true piece r.len p.0 in omega (arith, k, z))
       (λ c. ⊎_elim
-      (λ z. let k = leb-true used r.size q.0 in omega (arith, k, z))
+      (λ z. let k = leb-true used r.len q.0 in omega (arith, k, z))
       (λ z. kept r used q.1 z.0 z.1 z.2 z.3)
       c)
       b
 
   pub spoiled : (piece : ℕ) (r : Range) (used : ℕ) → is_filled piece r used ≡ false → IsSpoiled below.changed piece r used
-  spoiled piece r used h = go (leb piece r.size) (leb used r.size) refl refl h
+  spoiled piece r used h = go (leb piece r.len) (leb used r.len) refl refl h
     where
-      go : (b c : Bool) → leb piece r.size ≡ b → leb used r.size ≡ c → (b && (c && is_kept r used)) ≡ false → IsSpoiled below.changed piece r used
-      go false c e f h = inl (leb-false piece r.size e)
-      go true false e f h = inr (inl (leb-false used r.size f))
+      go : (b c : Bool) → leb piece r.len ≡ b → leb used r.len ≡ c → (b && (c && is_kept r used)) ≡ false → IsSpoiled below.changed piece r used
+      go false c e f h = inl (leb-false piece r.len e)
+      go true false e f h = inr (inl (leb-false used r.len f))
       go true true e f h = inr (inr (not_kept r used h))
 
   abbrev pub size_tested : (piece : ℕ) (r : Range) (used : ℕ) (cs : Checks) → Tested cs → Tested (size_check below.changed piece r used cs)
-  size_tested piece r used cs k = point_tested r.at (λ x. IsSpoiled below.changed piece r used) (is_filled piece r used) (filled piece r used) (spoiled piece r used) (λ x. BreachFound Size x None) cs k
+  size_tested piece r used cs k = point_tested r.addr (λ x. IsSpoiled below.changed piece r used) (is_filled piece r used) (filled piece r used) (spoiled piece r used) (λ x. BreachFound Size x None) cs k
 
   abbrev pub sizes_tested : (pieces : List ℕ) (rs : List Range) (ns : List ℕ) (cs : Checks) → Tested cs → Tested (size_checks below.changed pieces rs ns cs)
   sizes_tested pieces [] ns cs k = k
@@ -258,7 +258,7 @@ module _ (below : Answered) where
 
   abbrev pub commit_tested : (piece : ℕ) (o : Option Range) (used : ℕ) → Tested (commit_size_check below.changed piece o used Done)
   commit_tested piece None used = done_tested
-  commit_tested piece (Some r) used = size_tested piece r (cond (eqb r.at 0) 0 used) Done done_tested
+  commit_tested piece (Some r) used = size_tested piece r (cond (eqb r.addr 0) 0 used) Done done_tested
 
   pub key_there : (o : Option Range) → not (is_none o) ≡ true → o ≡ None → ⊥
   key_there o h e = not_both (is_none o) h (ap is_none e)

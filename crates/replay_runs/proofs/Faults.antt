@@ -8,7 +8,8 @@ use Rattle.marks.specs.declared.fault.FaultKind.TheVariants.{Divide, NotLive, Re
 use Rattle.marks.specs.declared.breach.BreachKind.{BreachKind}
 use Rattle.marks.specs.Kinds.{fault_number}
 use Rattle.marks.specs.Places.{thread_count, function_address, is_constant, is_system}
-use Rattle.marks.specs.Ranges.{Range, Prepared, range, in_range, any_range, prepared_ranges}
+use Rattle.marks.specs.declared.range.Range.{Range}
+use Rattle.marks.specs.Ranges.{Prepared, range, covers, any_range, prepared_ranges}
 use Rattle.marks.specs.Marks.{Access, Nowhere, Reading, Writing, Freeing, Fault, Mark}
 use Rattle.marks.specs.Bytes.{Byte, IsLive, AllLive, SomeDead, Asks, writes, touches}
 use Rattle.marks.specs.Wants.{Want, Outside, Turns, Loads, Stores, Enters, Leaves, Allocs, Frees, Calls, Below, Gives, Returns, CallsBack, UpReturns, Steps, Fails, stopped_if, answer_to}
@@ -106,7 +107,7 @@ module _ (s : Start) (past : List Mark) (t : ℕ) where
     clear : AllClear s past t more before
     space : InOwnSpace at
     unraced : Unraced past t true at
-    bad : (SomeDead at (λ x. byte s x past) × (kind ≡ NotLive)) ⊎ (AllLive at (λ x. byte s x past) × ((x : ℕ) → in_range at x ≡ true → any_range before x ≡ false) × Clear more at × SomeConstant at × (kind ≡ ReadOnly))
+    bad : (SomeDead at (λ x. byte s x past) × (kind ≡ NotLive)) ⊎ (AllLive at (λ x. byte s x past) × ((x : ℕ) → covers at x ≡ true → any_range before x ≡ false) × Clear more at × SomeConstant at × (kind ≡ ReadOnly))
 
   holds_find : (more rs : List Range) (kind : FaultKind) (cs : Checks) → (Finds cs (FaultFound kind) → ⊥) → Finds (hold_checks s past t more rs cs) (FaultFound kind) → HoldFinds more rs kind
   holds_find more [] kind cs none h = absurd (none h)
@@ -130,8 +131,8 @@ module _ (s : Start) (past : List Mark) (t : ℕ) where
             unraced = z.unraced;
             bad = ⊎_elim (λ b. inl b) (λ b. inr (
               b.0,
-              (λ x e. or_from (in_range r x) (any_range z.before x) (or_parts (in_range r x) (any_range more x) (b.2 x e)).0 (b.1 x e)),
-              (λ x e. (or_parts (in_range r x) (any_range more x) (b.2 x e)).1),
+              (λ x e. or_from (covers r x) (any_range z.before x) (or_parts (covers r x) (any_range more x) (b.2 x e)).0 (b.1 x e)),
+              (λ x e. (or_parts (covers r x) (any_range more x) (b.2 x e)).1),
               b.3,
               b.4,
             )) z.bad;
@@ -173,22 +174,22 @@ module _ (s : Start) (past : List Mark) (t : ℕ) where
         writing = λ x u e w. true≢false (sym e);
       }
     where
-      split : (x : ℕ) → touches (Fault k cr ins [] (Reading r)) x ≡ true → (any_range ins x ≡ true) ⊎ (in_range r x ≡ true)
-      split x e = ⊎_elim (λ z. or_cases (any_range ins x) (in_range r x) z) (λ z. absurd (true≢false (sym z))) (or_cases (any_range ins x || in_range r x) false e)
+      split : (x : ℕ) → touches (Fault k cr ins [] (Reading r)) x ≡ true → (any_range ins x ≡ true) ⊎ (covers r x ≡ true)
+      split x e = ⊎_elim (λ z. or_cases (any_range ins x) (covers r x) z) (λ z. absurd (true≢false (sym z))) (or_cases (any_range ins x || covers r x) false e)
 
   module _ (k : FaultKind) (cr : Bool) (ins outs : List Range) (r : Range) where
-    written : (x : ℕ) → writes (Fault k cr ins outs (Writing r)) x ≡ true → (any_range outs x ≡ true) ⊎ ((in_range r x ≡ true) × (is_constant x ≡ false))
-    written x e = ⊎_elim (λ z. inl z) (λ z. let p = and_parts (in_range r x) (not (is_constant x)) z in inr (p.0, of_not (is_constant x) p.1)) (or_cases (any_range outs x) (in_range r x && not (is_constant x)) e)
+    written : (x : ℕ) → writes (Fault k cr ins outs (Writing r)) x ≡ true → (any_range outs x ≡ true) ⊎ ((covers r x ≡ true) × (is_constant x ≡ false))
+    written x e = ⊎_elim (λ z. inl z) (λ z. let p = and_parts (covers r x) (not (is_constant x)) z in inr (p.0, of_not (is_constant x) p.1)) (or_cases (any_range outs x) (covers r x && not (is_constant x)) e)
       where
         of_not : (b : Bool) → not b ≡ true → b ≡ false
         of_not true e = absurd (true≢false (sym e))
         of_not false e = refl
 
-    touched : (x : ℕ) → touches (Fault k cr ins outs (Writing r)) x ≡ true → (any_range ins x ≡ true) ⊎ ((any_range outs x ≡ true) ⊎ (in_range r x ≡ true))
+    touched : (x : ℕ) → touches (Fault k cr ins outs (Writing r)) x ≡ true → (any_range ins x ≡ true) ⊎ ((any_range outs x ≡ true) ⊎ (covers r x ≡ true))
     touched x e = ⊎_elim
-        (λ z. ⊎_elim (λ y. inl y) (λ y. inr (inr (and_parts (in_range r x) (is_constant x) y).0)) (or_cases (any_range ins x) (in_range r x && is_constant x) z))
+        (λ z. ⊎_elim (λ y. inl y) (λ y. inr (inr (and_parts (covers r x) (is_constant x) y).0)) (or_cases (any_range ins x) (covers r x && is_constant x) z))
         (λ z. ⊎_elim (λ y. inr (inl y)) (λ y. inr (inr y.0)) (written x z))
-        (or_cases (any_range ins x || (in_range r x && is_constant x)) (writes (Fault k cr ins outs (Writing r)) x) e)
+        (or_cases (any_range ins x || (covers r x && is_constant x)) (writes (Fault k cr ins outs (Writing r)) x) e)
 
     free_writing : AllMayRead s past t ins → AllMayWrite s past t outs → InOwnSpace r → Unraced past t true r → IsFree past t (Fault k cr ins outs (Writing r))
     free_writing reads holds own free =
@@ -261,8 +262,8 @@ module _ (program : Program) (s : Start) (past : List Mark) (t : ℕ) (below : t
 
   -- the fault is one that the want is answered by
 
-  same_range : (r : Range) → (eqb r.at r.at && eqb r.size r.size) ≡ true
-  same_range r = and_from _ _ (eq-eqb r.at r.at refl) (eq-eqb r.size r.size refl)
+  same_range : (r : Range) → (eqb r.addr r.addr && eqb r.len r.len) ≡ true
+  same_range r = and_from _ _ (eq-eqb r.addr r.addr refl) (eq-eqb r.len r.len refl)
 
   load_reply : (o : Option ℕ) (at n : ℕ) → is_reply (Loads o at n) (Fault NotLive false [] [] (Reading (range at n))) ≡ true
   unfolding answer_to
@@ -330,15 +331,15 @@ module _ (program : Program) (s : Start) (past : List Mark) (t : ℕ) (below : t
   frees (suc at) kind is ends (inr (n, inl h)) = no_breach _ _ _ _ h.2.2
   frees (suc at) kind is ends (inr (n, inr (n', inl h))) =
       let one : freed_range (suc at) (byte s (suc at) past).block ≡ range (suc at) 1 = ap (λ z. range (suc at) (cond z 1 (byte s (suc at) past).block)) (eq-eqb (byte s (suc at) past).block 0 h.1.0.1) in
-      let in_freed : (x : ℕ) → in_range (range (suc at) 1) x ≡ true → in_range (freed_range (suc at) (byte s (suc at) past).block) x ≡ true = λ x e. subst (λ r. in_range r x ≡ true) (sym one) e in
+      let in_freed : (x : ℕ) → covers (range (suc at) 1) x ≡ true → covers (freed_range (suc at) (byte s (suc at) past).block) x ≡ true = λ x e. subst (λ r. covers r x ≡ true) (sym one) e in
       subst Comes (sym (same_found kind NotLive h.2)) (comes (Frees (suc at)) is NotLive false [] [] (Freeing (suc at)) (free_reply at) tt tt
       (free_freeing s past t (suc at) (λ x e. no_true (is_system x) (λ z. n x (in_freed x e, z))) (λ x u e w. n' x (in_freed x e, (u, w))))
       (none_before s past t, h.1.0.1))
   frees (suc at) kind is ends (inr (n, inr (n', inr (n'', inl h)))) =
       let begins = some_block s past t (byte s (suc at) past).block (λ z. n'' (suc at) (refl, z)) in
       let same : freed_range (suc at) (byte s (suc at) past).block ≡ range (suc at) (byte s (suc at) past).block = block_range s past t (suc at) (byte s (suc at) past).block begins in
-      let own : is_system (suc at) ≡ false = no_true (is_system (suc at)) (λ z. n (suc at) (subst (λ r. in_range r (suc at) ≡ true) (sym same) (block_at (suc at) (byte s (suc at) past).block begins), z)) in
-      absurd (ends own h.0 (subst (λ r. in_range r h.0 ≡ true) same h.1.0.0) h.1.0.1)
+      let own : is_system (suc at) ≡ false = no_true (is_system (suc at)) (λ z. n (suc at) (subst (λ r. covers r (suc at) ≡ true) (sym same) (block_at (suc at) (byte s (suc at) past).block begins), z)) in
+      absurd (ends own h.0 (subst (λ r. covers r h.0 ≡ true) same h.1.0.0) h.1.0.1)
   frees (suc at) kind is ends (inr (n, inr (n', inr (n'', inr (n''', inl h))))) = no_breach _ _ _ _ h.2
   frees (suc at) kind is ends (inr (n, inr (n', inr (n'', inr (n''', inr k))))) = absurd k.1
 

@@ -4,7 +4,8 @@ use Rattle.std.proofs.lemmas.Bool.{or_from, true≢false}
 use Rattle.marks.specs.declared.side.Side.{Side}
 use Rattle.marks.specs.declared.side.Side.TheVariants.{Replay}
 use Rattle.marks.specs.declared.fault.FaultKind.TheVariants.{NotLive, ReadOnly}
-use Rattle.marks.specs.Ranges.{Range, in_range, any_range}
+use Rattle.marks.specs.declared.range.Range.{Range}
+use Rattle.marks.specs.Ranges.{covers, any_range}
 use Rattle.marks.specs.Marks.{Mark}
 use Rattle.marks.specs.Bytes.{Cell, Dead, Live, Held, IsLive, IsHeld, AllLive, SomeDead}
 use Rattle.replay_runs.specs.Runs.{Start, byte}
@@ -34,7 +35,7 @@ piled (r ∷ rs) more = piled rs (r ∷ more)
 
 pub piled_clear : (rs more : List Range) (x : ℕ) → any_range rs x ≡ false → any_range more x ≡ false → any_range (piled rs more) x ≡ false
 piled_clear [] more x e f = f
-piled_clear (r ∷ rs) more x e f = piled_clear rs (r ∷ more) x (parts (in_range r x) (any_range rs x) e).1 (or_from (in_range r x) (any_range more x) (parts (in_range r x) (any_range rs x) e).0 f)
+piled_clear (r ∷ rs) more x e f = piled_clear rs (r ∷ more) x (parts (covers r x) (any_range rs x) e).1 (or_from (covers r x) (any_range more x) (parts (covers r x) (any_range rs x) e).0 f)
   where
     parts : (a b : Bool) → (a || b) ≡ false → (a ≡ false) × (b ≡ false)
     parts true b e = no_two (true || b) refl e

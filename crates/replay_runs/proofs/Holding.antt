@@ -3,7 +3,8 @@ use Rattle.std.proofs.Common.{◌≡◌, ◌⊎◌, inl, inr, ⊎_elim, ℕ, ◌
 use Rattle.std.proofs.lemmas.Bool.{and_parts, and_from, or_cases, true≢false}
 use Rattle.run_events.specs.declared.key.Class.TheVariants.{Async}
 use Rattle.run_events.specs.declared.key.KeyMark.{KeyMark}
-use Rattle.marks.specs.Ranges.{Range, Piece, Prepared, in_range, any_range, any_piece, any_prepared, byte_at, piece_ranges, prepared_ranges}
+use Rattle.marks.specs.declared.range.Range.{Range}
+use Rattle.marks.specs.Ranges.{Piece, Prepared, covers, any_range, any_piece, any_prepared, byte_at, piece_ranges, prepared_ranges}
 use Rattle.marks.specs.Marks.{EventKind, Call, Ret, Up, UpRet, Alloc, Free, Stop, Commit, NoRegion, Withheld, Released, Act, Turn, Load, Store, Enter, Leave, Step, Fault, Made, Mark, is_event}
 use Rattle.marks.specs.Bytes.{Cell, Dead, Live, Held, IsLive, IsHeld, Shows, hold, release, give, give_any, writes, late, cell_after}
 use Rattle.marks.proofs.Touched.{or_true_left, or_true_right}
@@ -49,32 +50,32 @@ release_held Dead l = absurd l
 pub given_live : (ps : List Piece) (x : ℕ) (c : Cell) → IsLive c → IsLive (give_any ps x c)
 given_live [] x c l = l
 given_live (p ∷ ps) x c l =
-    cond_live (in_range p.range x) (give p x c) (give_any ps x c)
-    (cond_live (ltb x (p.range.at + length p.bytes)) (Live (byte_at p.range.at p.bytes x)) (release c) tt (release_live c l))
+    cond_live (covers p.range x) (give p x c) (give_any ps x c)
+    (cond_live (ltb x (p.range.addr + length p.bytes)) (Live (byte_at p.range.addr p.bytes x)) (release c) tt (release_live c l))
     (given_live ps x c l)
 
 pub given_held : (ps : List Piece) (x : ℕ) (c : Cell) → any_piece ps x ≡ true → IsHeld c → IsLive (give_any ps x c)
 given_held [] x c e l = absurd (true≢false (sym e))
-given_held (p ∷ ps) x c e l = go (in_range p.range x) e (given_held ps x c)
+given_held (p ∷ ps) x c e l = go (covers p.range x) e (given_held ps x c)
   where
     go : (b : Bool) → (b || any_piece ps x) ≡ true → (any_piece ps x ≡ true → IsHeld c → IsLive (give_any ps x c)) → IsLive (cond b (give p x c) (give_any ps x c))
-    go true f again = cond_live (ltb x (p.range.at + length p.bytes)) (Live (byte_at p.range.at p.bytes x)) (release c) tt (release_held c l)
+    go true f again = cond_live (ltb x (p.range.addr + length p.bytes)) (Live (byte_at p.range.addr p.bytes x)) (release c) tt (release_held c l)
     go false f again = again f l
 
 pub shown_live : (ps : List Piece) (x : ℕ) (c : Cell) → any_piece ps x ≡ true → Shows ps x c → IsLive c
 shown_live [] x c e h = absurd (true≢false (sym e))
-shown_live (p ∷ ps) x c e h = ⊎_elim (λ z. subst IsLive (sym (h.0 z)) tt) (λ z. shown_live ps x c z h.1) (or_cases (in_range p.range x) (any_piece ps x) e)
+shown_live (p ∷ ps) x c e h = ⊎_elim (λ z. subst IsLive (sym (h.0 z)) tt) (λ z. shown_live ps x c z h.1) (or_cases (covers p.range x) (any_piece ps x) e)
 
 pub piece_range_of : (ps : List Piece) (x : ℕ) → any_range (piece_ranges ps) x ≡ any_piece ps x
 piece_range_of [] x = refl
-piece_range_of (p ∷ ps) x = ap (λ b. in_range p.range x || b) (piece_range_of ps x)
+piece_range_of (p ∷ ps) x = ap (λ b. covers p.range x || b) (piece_range_of ps x)
 
 pub pieces_cases : (ps qs : List Piece) (x : ℕ) → any_piece (ps ++ qs) x ≡ true → (any_piece ps x ≡ true) ⊎ (any_piece qs x ≡ true)
 pieces_cases [] qs x e = inr e
 pieces_cases (p ∷ ps) qs x e = ⊎_elim
-    (λ z. inl (or_true_left (in_range p.range x) (any_piece ps x) z))
-    (λ z. ⊎_elim (λ y. inl (or_true_right (in_range p.range x) (any_piece ps x) y)) (λ y. inr y) (pieces_cases ps qs x z))
-    (or_cases (in_range p.range x) (any_piece (ps ++ qs) x) e)
+    (λ z. inl (or_true_left (covers p.range x) (any_piece ps x) z))
+    (λ z. ⊎_elim (λ y. inl (or_true_right (covers p.range x) (any_piece ps x) y)) (λ y. inr y) (pieces_cases ps qs x z))
+    (or_cases (covers p.range x) (any_piece (ps ++ qs) x) e)
 
 -- what a Call takes
 
@@ -91,9 +92,9 @@ under_any : (ps : List Prepared) (k x : ℕ) → is_in (prepared_under ps k None
 under_any [] k x e = absurd (true≢false (sym e))
 under_any (p ∷ ps) k x e = go (eqb p.key k) e (under_any ps k x)
   where
-    go : (b : Bool) → is_in (cond b (Some p.range) (prepared_under ps k None)) x ≡ true → (is_in (prepared_under ps k None) x ≡ true → any_prepared ps x ≡ true) → (in_range p.range x || any_prepared ps x) ≡ true
-    go true f again = or_true_left (in_range p.range x) (any_prepared ps x) f
-    go false f again = or_true_right (in_range p.range x) (any_prepared ps x) (again f)
+    go : (b : Bool) → is_in (cond b (Some p.range) (prepared_under ps k None)) x ≡ true → (is_in (prepared_under ps k None) x ≡ true → any_prepared ps x ≡ true) → (covers p.range x || any_prepared ps x) ≡ true
+    go true f again = or_true_left (covers p.range x) (any_prepared ps x) f
+    go false f again = or_true_right (covers p.range x) (any_prepared ps x) (again f)
 
 under_or_before : (ps : List Prepared) (k x : ℕ) (r : Option Range) → is_in (prepared_under ps k r) x ≡ true → (is_in r x ≡ true) ⊎ (is_in (prepared_under ps k None) x ≡ true)
 under_or_before [] k x r e = inl e
@@ -105,14 +106,14 @@ under_or_before (p ∷ ps) k x r e = go (eqb p.key k) e (under_or_before ps k x 
 
 prepared_range_of : (ps : List Prepared) (x : ℕ) → any_range (prepared_ranges ps) x ≡ any_prepared ps x
 prepared_range_of [] x = refl
-prepared_range_of (p ∷ ps) x = ap (λ b. in_range p.range x || b) (prepared_range_of ps x)
+prepared_range_of (p ∷ ps) x = ap (λ b. covers p.range x || b) (prepared_range_of ps x)
 
 -- of two keys that have a byte
 one_key : (ps : List Prepared) (k j x : ℕ) → Apart (prepared_ranges ps) → is_in (prepared_under ps k None) x ≡ true → is_in (prepared_under ps j None) x ≡ true → k ≡ j
 one_key [] k j x a e f = absurd (true≢false (sym e))
 one_key (p ∷ ps) k j x a e f = go (eqb p.key k) (eqb p.key j) refl refl e f (one_key ps k j x a.1)
   where
-    twice : (i : ℕ) → in_range p.range x ≡ true → is_in (prepared_under ps i None) x ≡ true → ⊥
+    twice : (i : ℕ) → covers p.range x ≡ true → is_in (prepared_under ps i None) x ≡ true → ⊥
     twice i z w = true≢false (sym (under_any ps i x w) ∙ sym (prepared_range_of ps x) ∙ a.0 x z)
 
     go : (b d : Bool) → eqb p.key k ≡ b → eqb p.key j ≡ d → is_in (cond b (Some p.range) (prepared_under ps k None)) x ≡ true → is_in (cond d (Some p.range) (prepared_under ps j None)) x ≡ true → (is_in (prepared_under ps k None) x ≡ true → is_in (prepared_under ps j None) x ≡ true → k ≡ j) → k ≡ j
@@ -127,14 +128,14 @@ apart_right (r ∷ rs) qs a = apart_right rs qs a.1
 
 any_append_right : (rs qs : List Range) (x : ℕ) → any_range qs x ≡ true → any_range (rs ++ qs) x ≡ true
 any_append_right [] qs x e = e
-any_append_right (r ∷ rs) qs x e = or_true_right (in_range r x) (any_range (rs ++ qs) x) (any_append_right rs qs x e)
+any_append_right (r ∷ rs) qs x e = or_true_right (covers r x) (any_range (rs ++ qs) x) (any_append_right rs qs x e)
 
 apart_both : (rs qs : List Range) (x : ℕ) → Apart (rs ++ qs) → any_range rs x ≡ true → any_range qs x ≡ true → ⊥
 apart_both [] qs x a e f = true≢false (sym e)
 apart_both (r ∷ rs) qs x a e f = ⊎_elim
     (λ z. true≢false (sym (any_append_right rs qs x f) ∙ a.0 x z))
     (λ z. apart_both rs qs x a.1 z f)
-    (or_cases (in_range r x) (any_range rs x) e)
+    (or_cases (covers r x) (any_range rs x) e)
 
 pub one_taken : (func : ℕ) (args : List ℕ) (ins : List Piece) (outs : List Range) (ps : List Prepared) (t x : ℕ) (h j : Holder) → Apart (outs ++ prepared_ranges ps) → event_taken (Call func args ins outs ps) t x h ≡ true → event_taken (Call func args ins outs ps) t x j ≡ true → h ≡ j
 one_taken func args ins outs ps t x (Calling u) (Calling v) a e f = ap Calling (sym (eqb-true t u (and_parts (eqb t u) (any_range outs x) e).0) ∙ eqb-true t v (and_parts (eqb t v) (any_range outs x) f).0)

@@ -3,7 +3,8 @@ use Rattle.std.proofs.Common.{◌≡◌, ◌⊎◌, inl, inr, ⊎_elim, ℕ, ◌
 use Rattle.std.proofs.lemmas.Bool.{and_from, or_cases, or_from, true≢false, lt-ltb, le-leb, false_from_ne_true}
 use Rattle.marks.specs.declared.side.Side.TheVariants.{Replay}
 use Rattle.marks.specs.Places.{thread_count, stack, stack_size, replay_pool, pool_size}
-use Rattle.marks.specs.Ranges.{Range, within, in_range, any_range}
+use Rattle.marks.specs.declared.range.Range.{Range}
+use Rattle.marks.specs.Ranges.{within, covers, any_range}
 use Rattle.marks.proofs.Touched.{or_true_left, or_true_right}
 use Rattle.replay_runs.specs.Threads.{end_of}
 use Rattle.replay_runs.specs.Pool.{MeetsNone, without}
@@ -26,7 +27,7 @@ not_both_areas t x a b c = absurd (omega (arith, a, b, c))
 
 pub without_in_pool : (bs : List Range) (at : ℕ) → InPool bs → InPool (without at bs)
 without_in_pool [] at h = tt
-without_in_pool (b ∷ bs) at h = go (eqb b.at at) (without_in_pool bs at h.2)
+without_in_pool (b ∷ bs) at h = go (eqb b.addr at) (without_in_pool bs at h.2)
   where
     go : (c : Bool) → InPool (without at bs) → InPool (cond c bs (b ∷ without at bs))
     go true k = h.2
@@ -34,35 +35,35 @@ without_in_pool (b ∷ bs) at h = go (eqb b.at at) (without_in_pool bs at h.2)
 
 pub block_in_pool : (bs : List Range) (at size : ℕ) → InPool bs → size_at at bs ≡ size → 1 ≤ size → (replay_pool ≤ at) × (at + size ≤ replay_pool + pool_size)
 block_in_pool [] at size h e l = absurd (omega (arith, e, l))
-block_in_pool (b ∷ bs) at size h e l = go (eqb b.at at) refl e (λ g. block_in_pool bs at size h.2 g l)
+block_in_pool (b ∷ bs) at size h e l = go (eqb b.addr at) refl e (λ g. block_in_pool bs at size h.2 g l)
   where
-    go : (c : Bool) → eqb b.at at ≡ c → cond c b.size (size_at at bs) ≡ size → (size_at at bs ≡ size → (replay_pool ≤ at) × (at + size ≤ replay_pool + pool_size)) → (replay_pool ≤ at) × (at + size ≤ replay_pool + pool_size)
-    go true f g again = let z : b.at ≡ at = eqb-true b.at at f in (omega (arith, z, h.0), omega (arith, z, g, h.1))
+    go : (c : Bool) → eqb b.addr at ≡ c → cond c b.len (size_at at bs) ≡ size → (size_at at bs ≡ size → (replay_pool ≤ at) × (at + size ≤ replay_pool + pool_size)) → (replay_pool ≤ at) × (at + size ≤ replay_pool + pool_size)
+    go true f g again = let z : b.addr ≡ at = eqb-true b.addr at f in (omega (arith, z, h.0), omega (arith, z, g, h.1))
     go false f g again = again g
 
 pub meets_none_out : (bs : List Range) (at size x : ℕ) → MeetsNone bs at size → at ≤ x → x < at + size → any_range bs x ≡ false
 meets_none_out [] at size x m le lt = refl
 meets_none_out (b ∷ bs) at size x m le lt =
-    or_from (in_range b x) (any_range bs x)
-    (false_from_ne_true (in_range b x) (λ z. let w = bounds b.at b.size x z in ⊎_elim (λ k. absurd (omega (arith, w.1, k, le))) (λ k. absurd (omega (arith, w.0, k, lt))) m.0))
+    or_from (covers b x) (any_range bs x)
+    (false_from_ne_true (covers b x) (λ z. let w = bounds b.addr b.len x z in ⊎_elim (λ k. absurd (omega (arith, w.1, k, le))) (λ k. absurd (omega (arith, w.0, k, lt))) m.0))
     (meets_none_out bs at size x m.1 le lt)
 
 -- a byte of the blocks is of those that are left, or of the one that is freed
 pub left_or_freed : (bs : List Range) (at x : ℕ) → any_range bs x ≡ true → (any_range (without at bs) x ≡ true) ⊎ (within at (size_at at bs) x ≡ true)
 left_or_freed [] at x e = absurd (true≢false (sym e))
-left_or_freed (b ∷ bs) at x e = go (eqb b.at at) refl (left_or_freed bs at x)
+left_or_freed (b ∷ bs) at x e = go (eqb b.addr at) refl (left_or_freed bs at x)
   where
-    go : (c : Bool) → eqb b.at at ≡ c → (any_range bs x ≡ true → (any_range (without at bs) x ≡ true) ⊎ (within at (size_at at bs) x ≡ true)) → (any_range (cond c bs (b ∷ without at bs)) x ≡ true) ⊎ (within at (cond c b.size (size_at at bs)) x ≡ true)
-    go true f again = ⊎_elim (λ z. inr (subst (λ u. within u b.size x ≡ true) (eqb-true b.at at f) z)) (λ z. inl z) (or_cases (in_range b x) (any_range bs x) e)
+    go : (c : Bool) → eqb b.addr at ≡ c → (any_range bs x ≡ true → (any_range (without at bs) x ≡ true) ⊎ (within at (size_at at bs) x ≡ true)) → (any_range (cond c bs (b ∷ without at bs)) x ≡ true) ⊎ (within at (cond c b.len (size_at at bs)) x ≡ true)
+    go true f again = ⊎_elim (λ z. inr (subst (λ u. within u b.len x ≡ true) (eqb-true b.addr at f) z)) (λ z. inl z) (or_cases (covers b x) (any_range bs x) e)
     go false f again = ⊎_elim
-        (λ z. inl (or_true_left (in_range b x) (any_range (without at bs) x) z))
-        (λ z. ⊎_elim (λ y. inl (or_true_right (in_range b x) (any_range (without at bs) x) y)) (λ y. inr y) (again z))
-        (or_cases (in_range b x) (any_range bs x) e)
+        (λ z. inl (or_true_left (covers b x) (any_range (without at bs) x) z))
+        (λ z. ⊎_elim (λ y. inl (or_true_right (covers b x) (any_range (without at bs) x) y)) (λ y. inr y) (again z))
+        (or_cases (covers b x) (any_range bs x) e)
 
 pub no_block_at_zero : (bs : List Range) → LieApart bs → size_at 0 bs ≡ 0
 no_block_at_zero [] s = refl
-no_block_at_zero (b ∷ bs) s = go (eqb b.at 0) refl (no_block_at_zero bs s.3)
+no_block_at_zero (b ∷ bs) s = go (eqb b.addr 0) refl (no_block_at_zero bs s.3)
   where
-    go : (c : Bool) → eqb b.at 0 ≡ c → size_at 0 bs ≡ 0 → cond c b.size (size_at 0 bs) ≡ 0
-    go true f k = absurd (omega (arith, eqb-true b.at 0 f, s.0))
+    go : (c : Bool) → eqb b.addr 0 ≡ c → size_at 0 bs ≡ 0 → cond c b.len (size_at 0 bs) ≡ 0
+    go true f k = absurd (omega (arith, eqb-true b.addr 0 f, s.0))
     go false f k = k

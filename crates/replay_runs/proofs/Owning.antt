@@ -3,7 +3,8 @@ use Rattle.std.proofs.Common.{◌≡◌, inl, inr, ⊎_elim, ℕ, ◌+◌, ◌<�
 use Rattle.std.proofs.lemmas.Bool.{leb-true, ltb-true, and_parts, or_cases, true≢false}
 use Rattle.marks.specs.declared.side.Side.TheVariants.{Replay}
 use Rattle.marks.specs.Places.{thread_count, stack, stack_size, replay_stacks, replay_pool, replay_end, replay_globals, system_globals, system_end, pool_size, constants, is_constant, is_system}
-use Rattle.marks.specs.Ranges.{Range, Piece, within, in_range, any_range, any_piece, piece_ranges}
+use Rattle.marks.specs.declared.range.Range.{Range}
+use Rattle.marks.specs.Ranges.{Piece, within, covers, any_range, any_piece, piece_ranges}
 use Rattle.marks.specs.Marks.{Commit, NoRegion, Withheld, Released, Leave, Mark, released}
 use Rattle.marks.specs.Bytes.{granted, reads, writes}
 use Rattle.marks.proofs.Touched.{or_true_left, or_true_right}
@@ -101,7 +102,7 @@ released_held : (s : Start) (past : List Mark) (commit : Commit) (x : ℕ) → R
 released_held s past NoRegion x u e = absurd (true≢false (sym e))
 released_held s past Withheld x u e = absurd (true≢false (sym e))
 released_held s past (Released k p) x u e =
-    let there : in_range p.range x ≡ true = ⊎_elim (λ z. z) (λ z. absurd (true≢false (sym z))) (or_cases (in_range p.range x) false e) in
+    let there : covers p.range x ≡ true = ⊎_elim (λ z. z) (λ z. absurd (true≢false (sym z))) (or_cases (covers p.range x) false e) in
     (Preparing k, ap (λ r. is_in r x) u ∙ there)
 
 pub gives : (s : Start) → RetsGiveWhatIsHeld s

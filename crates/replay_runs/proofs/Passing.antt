@@ -4,7 +4,8 @@ use Rattle.std.proofs.lemmas.Bool.{ne_eqb, true≢false}
 use Rattle.marks.specs.declared.side.Side.{Side}
 use Rattle.marks.specs.declared.side.Side.TheVariants.{Replay, System}
 use Rattle.marks.specs.Places.{function_address, is_constant, is_system}
-use Rattle.marks.specs.Ranges.{Range, Prepared, range, in_range, any_range, prepared_ranges}
+use Rattle.marks.specs.declared.range.Range.{Range}
+use Rattle.marks.specs.Ranges.{Prepared, range, covers, any_range, prepared_ranges}
 use Rattle.marks.specs.Marks.{Mark}
 use Rattle.marks.specs.Bytes.{Cell, Dead, Live, Held, IsLive, IsHeld, AllLive}
 use Rattle.marks.specs.Wants.{Enters, Frees, Calls}
@@ -12,7 +13,6 @@ use Rattle.marks.proofs.Touched.{or_left, or_right}
 use Rattle.replay_runs.specs.Runs.{Start, byte}
 use Rattle.replay_runs.specs.Interface.{Interface}
 use Rattle.replay_runs.specs.Pool.{prepares_key, in_use}
-use Rattle.replay_runs.specs.Keys.{key}
 use Rattle.replay_runs.specs.Rules.{AllMayRun, Apart, DistinctKeys}
 use Rattle.replay_runs.specs.Checks.{Checks, Done, Passes, range_checks, read_checks, hold_checks, any_number, key_checks, mode_checks, indirect_check, freed_range, checks}
 use Rattle.replay_runs.specs.Passing.{Unraced, InOwnSpace, MayRead, MayWrite, AllMayRead, AllMayWrite, NoneInUse, CallMayPass, EnterMayPass, FreeMayPass, ChecksSayMayPass}
@@ -41,7 +41,7 @@ live_cell (Held v) d h = absurd (h tt)
 
 -- no byte of the range is among these
 abbrev pub Clear : List Range → Range → Type 0
-Clear more r = (x : ℕ) → in_range r x ≡ true → any_range more x ≡ false
+Clear more r = (x : ℕ) → covers r x ≡ true → any_range more x ≡ false
 
 module _ (s : Start) (past : List Mark) (t : ℕ) where
   -- one range that is read
@@ -115,23 +115,23 @@ module _ (s : Start) (past : List Mark) (t : ℕ) where
   AllClear more [] = Unit {0}
   AllClear more (r ∷ rs) = Clear more r × AllClear more rs
 
-  pub clear_less : (q : Range) (more rs : List Range) → AllClear (q ∷ more) rs → AllClear more rs × ((x : ℕ) → in_range q x ≡ true → any_range rs x ≡ false)
+  pub clear_less : (q : Range) (more rs : List Range) → AllClear (q ∷ more) rs → AllClear more rs × ((x : ℕ) → covers q x ≡ true → any_range rs x ≡ false)
   clear_less q more [] h = (tt, λ x e. refl)
   clear_less q more (r ∷ rs) h =
       let w = clear_less q more rs h.1 in (
-        ((λ x e. or_right (in_range q x) (any_range more x) (h.0 x e)), w.0),
-        λ x e. both (in_range r x) (any_range rs x) (no_true (in_range r x) (λ z. not_false (in_range q x) (or_left (in_range q x) (any_range more x) (h.0 x z)) e)) (w.1 x e),
+        ((λ x e. or_right (covers q x) (any_range more x) (h.0 x e)), w.0),
+        λ x e. both (covers r x) (any_range rs x) (no_true (covers r x) (λ z. not_false (covers q x) (or_left (covers q x) (any_range more x) (h.0 x z)) e)) (w.1 x e),
       )
     where
       both : (a b : Bool) → a ≡ false → b ≡ false → (a || b) ≡ false
       both true b e f = e
       both false b e f = f
 
-  pub clear_more : (q : Range) (more rs : List Range) → AllClear more rs → ((x : ℕ) → in_range q x ≡ true → any_range rs x ≡ false) → AllClear (q ∷ more) rs
+  pub clear_more : (q : Range) (more rs : List Range) → AllClear more rs → ((x : ℕ) → covers q x ≡ true → any_range rs x ≡ false) → AllClear (q ∷ more) rs
   clear_more q more [] h k = tt
   clear_more q more (r ∷ rs) h k = (
-    (λ x e. both (in_range q x) (any_range more x) (no_true (in_range q x) (λ z. not_false (in_range r x) (or_left (in_range r x) (any_range rs x) (k x z)) e)) (h.0 x e)),
-    clear_more q more rs h.1 (λ x e. or_right (in_range r x) (any_range rs x) (k x e)),
+    (λ x e. both (covers q x) (any_range more x) (no_true (covers q x) (λ z. not_false (covers r x) (or_left (covers r x) (any_range rs x) (k x z)) e)) (h.0 x e)),
+    clear_more q more rs h.1 (λ x e. or_right (covers r x) (any_range rs x) (k x e)),
   )
     where
       both : (a b : Bool) → a ≡ false → b ≡ false → (a || b) ≡ false

@@ -4,7 +4,8 @@ use Rattle.std.proofs.lemmas.Bool.{or_cases, or_parts, true≢false, cases_Bool,
 use Rattle.run_events.specs.declared.key.Class.TheVariants.{Callback, Async}
 use Rattle.run_events.specs.declared.key.KeyMark.{KeyMark}
 use Rattle.marks.specs.declared.side.Side.{Side}
-use Rattle.marks.specs.Ranges.{Range, Piece, Prepared, within, in_range, any_range, any_piece, any_prepared, byte_at, piece_ranges}
+use Rattle.marks.specs.declared.range.Range.{Range}
+use Rattle.marks.specs.Ranges.{Piece, Prepared, within, covers, any_range, any_piece, any_prepared, byte_at, piece_ranges}
 use Rattle.marks.specs.Marks.{EventKind, Call, Ret, Up, UpRet, Alloc, Free, Stop, Commit, NoRegion, Withheld, Released, Act, Turn, Load, Store, Enter, Leave, Step, Fault, Made, Mark, released}
 use Rattle.marks.specs.Bytes.{Cell, Dead, Live, IsLive, IsHeld, granted, give_any, hold, event_leaves, event_reads, event_writes, reads, writes, touches}
 use Rattle.marks.proofs.Touched.{or_true_left, or_true_right, keeps}
@@ -43,7 +44,7 @@ found (p ∷ ps) x d e = ⊎_elim
       prepares = or_true_right (eqb p.key f.number) (prepares_key ps f.number) f.prepares;
       under = λ r. ap (λ o. is_in o x) (cond_false (eqb p.key f.number) (Some p.range) (prepared_under ps f.number r) apart) ∙ f.under r;
     })
-    (or_cases (in_range p.range x) (any_prepared ps x) e)
+    (or_cases (covers p.range x) (any_prepared ps x) e)
 
 -- what isn't prepared stays
 not_prepared : (ps : List Prepared) (k : ℕ) (r : Option Range) → prepares_key ps k ≡ false → prepared_under ps k r ≡ r
@@ -70,7 +71,7 @@ first_held (d ∷ cs) f args outs x c n e = ⊎_elim
 pieces_left : (ps qs : List Piece) (x : ℕ) → any_piece (ps ++ qs) x ≡ false → (any_piece ps x ≡ false) × (any_piece qs x ≡ false)
 pieces_left [] qs x e = (refl, e)
 pieces_left (p ∷ ps) qs x e =
-    let w = or_parts (in_range p.range x) (any_piece (ps ++ qs) x) e in
+    let w = or_parts (covers p.range x) (any_piece (ps ++ qs) x) e in
     let r = pieces_left ps qs x w.1 in
     (ap (λ b. b || any_piece ps x) w.0 ∙ r.0, r.1)
 
@@ -144,7 +145,7 @@ module _ (program : Program) (s : Start) (past : List Mark) (inv : Inv s past) (
         go NoRegion rule out = e
         go Withheld rule out = e
         go (Released i p) rule out = ⊎_elim
-            (λ z. absurd (true≢false (sym (sym (ap (λ o. is_in o x) (rule z)) ∙ e) ∙ (or_parts (in_range p.range x) false out).0)))
+            (λ z. absurd (true≢false (sym (sym (ap (λ o. is_in o x) (rule z)) ∙ e) ∙ (or_parts (covers p.range x) false out).0)))
             (λ z. ap (λ o. is_in o x) (cond_false (eqb i j) None (in_use s j past) (ne_eqb i j z)) ∙ e)
             (cases_eq i j)
     keys_kept (Up f args) may j x listed not e = e

@@ -4,7 +4,8 @@ use Rattle.std.proofs.Math.Nat.{le-max_left, le-max_right}
 use Rattle.std.proofs.lemmas.Bool.{le-leb, lt-ltb, ltb-true, and_from, and_parts, or_cases, true≢false, cases_lt, ltb-false}
 use Rattle.marks.specs.declared.breach.BreachKind.TheVariants.{Race}
 use Rattle.marks.specs.Places.{is_constant}
-use Rattle.marks.specs.Ranges.{Range, in_range}
+use Rattle.marks.specs.declared.range.Range.{Range}
+use Rattle.marks.specs.Ranges.{covers}
 use Rattle.marks.specs.Marks.{Act, Mark}
 use Rattle.marks.specs.Bytes.{touches, writes, place}
 use Rattle.replay_runs.specs.Runs.{OfThread, In}
@@ -27,7 +28,7 @@ abbrev pub meets : Bool → Act → ℕ → Bool
 meets write a x = writes a x || (write && (not (is_constant x) && touches a x))
 
 abbrev pub misses : Bool → Range → Act → Bool
-misses write r a = all_from (λ x. not (meets write a x)) r.at r.size
+misses write r a = all_from (λ x. not (meets write a x)) r.addr r.len
 
 -- the threads of the marks are below it
 unfoldable pub threads_of : List Mark → ℕ
@@ -47,12 +48,12 @@ is_ordered past t write r a = eqb a.thread t || (misses write r a.act || ltb (pl
 abbrev pub is_unraced : List Mark → ℕ → Bool → Range → Bool
 is_unraced past t write r = all_marks past (is_ordered past t write r)
 
-pub unraced : (past : List Mark) (t : ℕ) (write : Bool) (r : Range) → is_unraced past t write r ≡ true → (x : ℕ) → in_range r x ≡ true → (u : ℕ) → Races past t write x u → ⊥
+pub unraced : (past : List Mark) (t : ℕ) (write : Bool) (r : Range) → is_unraced past t write r ≡ true → (x : ℕ) → covers r x ≡ true → (u : ℕ) → Races past t write x u → ⊥
 unraced past t write r h x e u b =
     ⊎_elim
     (λ z. b.3 (sym b.2 ∙ eqb-true _ _ z))
     (λ z. ⊎_elim
-    (λ y. not_both (meets write b.0.act x) (all_from_true (λ x. not (meets write b.0.act x)) r.at r.size y x e) b.4)
+    (λ y. not_both (meets write b.0.act x) (all_from_true (λ x. not (meets write b.0.act x)) r.addr r.len y x e) b.4)
     (λ y. let k = ltb-true (place b.0) (known past (OfThread t) b.0.thread) y in let l = b.5 in omega (arith, k, l, ap (λ v. known past (OfThread t) v) b.2))
     (or_cases (misses write r b.0.act) (ltb (place b.0) (known past (OfThread t) b.0.thread)) z))
     (or_cases (eqb b.0.thread t) (misses write r b.0.act || ltb (place b.0) (known past (OfThread t) b.0.thread)) (all_marks_true past (is_ordered past t write r) h b.0 b.1))
@@ -114,14 +115,14 @@ abbrev race_found : List Mark → ℕ → Bool → Option ℕ → Option Finding
 race_found past t write None = None
 race_found past t write (Some x) = race_by x (first_bad (is_unraced_by past t write x) 0 (threads_of past))
 
-pub race_least : (past : List Mark) (t : ℕ) (write : Bool) (r : Range) (o : Option ℕ) → first_bad (is_byte_unraced past t write) r.at r.size ≡ o → (f : Finding) → race_found past t write o ≡ Some f → (x : ℕ) × Least (λ x. (in_range r x ≡ true) × ((u : ℕ) × Races past t write x u)) x × IsRace past t write x f
+pub race_least : (past : List Mark) (t : ℕ) (write : Bool) (r : Range) (o : Option ℕ) → first_bad (is_byte_unraced past t write) r.addr r.len ≡ o → (f : Finding) → race_found past t write o ≡ Some f → (x : ℕ) × Least (λ x. (covers r x ≡ true) × ((u : ℕ) × Races past t write x u)) x × IsRace past t write x f
 race_least past t write r None e f h = none_some f h
 race_least past t write r (Some x) e f h = go (first_bad (is_unraced_by past t write x) 0 (threads_of past)) refl h
   where
-    go : (o : Option ℕ) → first_bad (is_unraced_by past t write x) 0 (threads_of past) ≡ o → race_by x o ≡ Some f → (x : ℕ) × Least (λ x. (in_range r x ≡ true) × ((u : ℕ) × Races past t write x u)) x × IsRace past t write x f
+    go : (o : Option ℕ) → first_bad (is_unraced_by past t write x) 0 (threads_of past) ≡ o → race_by x o ≡ Some f → (x : ℕ) × Least (λ x. (covers r x ≡ true) × ((u : ℕ) × Races past t write x u)) x × IsRace past t write x f
     go None d h = none_some f h
     go (Some u) d h =
-        let w = first_is (is_byte_unraced past t write) r.at r.size x e in
+        let w = first_is (is_byte_unraced past t write) r.addr r.len x e in
         let v = first_is (is_unraced_by past t write x) 0 (threads_of past) u d in
         let same : BreachFound Race x (Some u) ≡ f = cc in
         let race = raced_by past t write x u v.is_bad in (
@@ -141,8 +142,8 @@ marks_differ past p a i e = go (all_marks past p) refl
 from_or : (a b c : Bool) → a ≡ false → b ≡ false → c ≡ false → (a || (b || c)) ≡ false
 from_or a b c e f g = ap (λ z. z || (b || c)) e ∙ ap (λ z. z || c) f ∙ g
 
-one_byte : (past : List Mark) (t : ℕ) (write : Bool) (r : Range) → is_unraced past t write r ≡ false → all_from (is_byte_unraced past t write) r.at r.size ≡ false
-one_byte past t write r h = go (all_from (is_byte_unraced past t write) r.at r.size) refl
+one_byte : (past : List Mark) (t : ℕ) (write : Bool) (r : Range) → is_unraced past t write r ≡ false → all_from (is_byte_unraced past t write) r.addr r.len ≡ false
+one_byte past t write r h = go (all_from (is_byte_unraced past t write) r.addr r.len) refl
   where
     w : (a : Mark) × In a past × (is_ordered past t write r a ≡ false)
     w = one_mark past (is_ordered past t write r) h
@@ -153,13 +154,13 @@ one_byte past t write r h = go (all_from (is_byte_unraced past t write) r.at r.s
     q : (misses write r w.0.act ≡ false) × (ltb (place w.0) (known past (OfThread t) w.0.thread) ≡ false)
     q = or_false (misses write r w.0.act) (ltb (place w.0) (known past (OfThread t) w.0.thread)) p.1
 
-    go : (b : Bool) → all_from (is_byte_unraced past t write) r.at r.size ≡ b → b ≡ false
+    go : (b : Bool) → all_from (is_byte_unraced past t write) r.addr r.len ≡ b → b ≡ false
     go false e = refl
     go true e =
-        let x = one_bad (λ x. not (meets write w.0.act x)) r.at r.size q.0 in
-        let f = first_is (λ x. not (meets write w.0.act x)) r.at r.size x.0 x.1 in
+        let x = one_bad (λ x. not (meets write w.0.act x)) r.addr r.len q.0 in
+        let f = first_is (λ x. not (meets write w.0.act x)) r.addr r.len x.0 x.1 in
         let bad = from_or (eqb w.0.thread t) (not (meets write w.0.act x.0)) (ltb (place w.0) (known past (OfThread t) w.0.thread)) p.0 f.is_bad q.1 in
-        absurd (true≢false (sym (all_from_true (is_byte_unraced past t write) r.at r.size e x.0 f.within_is) ∙ marks_differ past (is_ordered_at past t write x.0) w.0 w.1 bad))
+        absurd (true≢false (sym (all_from_true (is_byte_unraced past t write) r.addr r.len e x.0 f.within_is) ∙ marks_differ past (is_ordered_at past t write x.0) w.0 w.1 bad))
 
 -- by some thread
 one_thread : (past : List Mark) (t : ℕ) (write : Bool) (x : ℕ) → is_byte_unraced past t write x ≡ false → (u : ℕ) × (first_bad (is_unraced_by past t write x) 0 (threads_of past) ≡ Some u)
@@ -178,17 +179,17 @@ one_thread past t write x h = go (all_from (is_unraced_by past t write x) 0 (thr
         let there = and_from (leb 0 w.0.thread) (ltb w.0.thread (0 + threads_of past)) (le-leb 0 w.0.thread (omega arith)) (lt-ltb w.0.thread (0 + threads_of past) (omega (arith, k))) in
         absurd (true≢false (sym (all_from_true (is_unraced_by past t write x) 0 (threads_of past) e w.0.thread there) ∙ its))
 
-pub race_some : (past : List Mark) (t : ℕ) (write : Bool) (r : Range) → is_unraced past t write r ≡ false → (f : Finding) × (race_found past t write (first_bad (is_byte_unraced past t write) r.at r.size) ≡ Some f)
+pub race_some : (past : List Mark) (t : ℕ) (write : Bool) (r : Range) → is_unraced past t write r ≡ false → (f : Finding) × (race_found past t write (first_bad (is_byte_unraced past t write) r.addr r.len) ≡ Some f)
 race_some past t write r h =
-    let x = one_bad (is_byte_unraced past t write) r.at r.size (one_byte past t write r h) in
-    let f = first_is (is_byte_unraced past t write) r.at r.size x.0 x.1 in
+    let x = one_bad (is_byte_unraced past t write) r.addr r.len (one_byte past t write r h) in
+    let f = first_is (is_byte_unraced past t write) r.addr r.len x.0 x.1 in
     let u = one_thread past t write x.0 f.is_bad in
     (BreachFound Race x.0 (Some u.0), ap (race_found past t write) x.1 ∙ ap (race_by x.0) u.1)
 
-abbrev pub race_here : (past : List Mark) (t : ℕ) (write : Bool) (r : Range) → Here (λ x. (in_range r x ≡ true) × ((u : ℕ) × Races past t write x u)) (IsRace past t write) (is_unraced past t write r)
+abbrev pub race_here : (past : List Mark) (t : ℕ) (write : Bool) (r : Range) → Here (λ x. (covers r x ≡ true) × ((u : ℕ) × Races past t write x u)) (IsRace past t write) (is_unraced past t write r)
 race_here past t write r = record {
   none = λ h x b. unraced past t write r h x b.0 b.1.0 b.1.1;
-  found = race_found past t write (first_bad (is_byte_unraced past t write) r.at r.size);
-  least = race_least past t write r (first_bad (is_byte_unraced past t write) r.at r.size) refl;
+  found = race_found past t write (first_bad (is_byte_unraced past t write) r.addr r.len);
+  least = race_least past t write r (first_bad (is_byte_unraced past t write) r.addr r.len) refl;
   some = race_some past t write r;
 }

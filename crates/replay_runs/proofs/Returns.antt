@@ -1,9 +1,10 @@
 -- The checks of a Ret in a replay pass exactly where it keeps the rules of sizes and of its key.
-use Rattle.std.proofs.Common.{◌≡◌, ⊎_elim, ℕ, ◌+◌, ◌≤◌, Bool, true, false, cond, eqb, List, [], ◌∷◌, ◌++◌, length, map, Option, Some, None, inl, inr, refl, sym, ap, ◌∙◌, subst, arith, eqb-true}
+use Rattle.std.proofs.Common.{◌≡◌, ⊎_elim, ℕ, ◌≤◌, Bool, true, false, cond, eqb, List, [], ◌∷◌, ◌++◌, length, map, Option, Some, None, inl, inr, refl, sym, ap, ◌∙◌, subst, arith, eqb-true}
 use Rattle.std.proofs.lemmas.Bool.{cases_lt, true≢false}
 use Rattle.run_events.specs.declared.key.Class.TheVariants.{Async}
 use Rattle.run_events.specs.declared.key.Key.{Key}
-use Rattle.marks.specs.Ranges.{Range, Piece, are_bytes, piece_ranges}
+use Rattle.marks.specs.declared.range.Range.{Range}
+use Rattle.marks.specs.Ranges.{Piece, are_bytes, piece_ranges}
 use Rattle.marks.specs.Marks.{EventKind, Call, Ret, Up, UpRet, Alloc, Free, Stop, Commit, NoRegion, Withheld, Released, Event, Act, Turn, Load, Store, Enter, Leave, Step, Fault, Made, Mark}
 use Rattle.replay_runs.specs.Runs.{OfKey, Start, Allowed, is_listed, keys_of, marks_of, new_events}
 use Rattle.replay_runs.specs.Interface.{Interface, Program, Committing}
@@ -19,10 +20,10 @@ abbrev none : ℕ → Bool
 none x = false
 
 -- a region of a replay is spoiled only by its used size
-fits : (r : Range) (n : ℕ) → ((x : ℕ) → (x ≡ r.at) × IsSpoiled none 0 r n → ⊥) → n ≤ r.size
-fits r n h = ⊎_elim (λ lt. absurd (h r.at (refl, inr (inl lt)))) (λ le. le) (cases_lt r.size n)
+fits : (r : Range) (n : ℕ) → ((x : ℕ) → (x ≡ r.addr) × IsSpoiled none 0 r n → ⊥) → n ≤ r.len
+fits r n h = ⊎_elim (λ lt. absurd (h r.addr (refl, inr (inl lt)))) (λ le. le) (cases_lt r.len n)
 
-unspoiled : (r : Range) (n : ℕ) → n ≤ r.size → (x : ℕ) → (x ≡ r.at) × IsSpoiled none 0 r n → ⊥
+unspoiled : (r : Range) (n : ℕ) → n ≤ r.len → (x : ℕ) → (x ≡ r.addr) × IsSpoiled none 0 r n → ⊥
 unspoiled r n le x b = ⊎_elim (λ z. omega (arith, z)) (λ c. ⊎_elim (λ z. omega (arith, z, le)) (λ z. true≢false (sym z.3)) c) b.1
 
 first_range : (p : Piece) (ps : List Piece) (r : Range) (rs : List Range) → piece_ranges (p ∷ ps) ≡ r ∷ rs → p.range ≡ r
@@ -39,7 +40,7 @@ sizes_say [] (r ∷ rs) ns cs e c p = absurd cc
 sizes_say (q ∷ qs) [] ns cs e c p = absurd cc
 sizes_say (q ∷ qs) (r ∷ rs) [] cs e c p = absurd c
 sizes_say (q ∷ qs) (r ∷ rs) (n ∷ ns) cs e c p =
-    let le : n ≤ q.range.size = subst (λ z. n ≤ z.size) (sym (first_range q qs r rs e)) (fits r n p.0) in
+    let le : n ≤ q.range.len = subst (λ z. n ≤ z.len) (sym (first_range q qs r rs e)) (fits r n p.0) in
     let w = sizes_say qs rs ns cs (other_ranges q qs r rs e) c.2 p.1 in
     (((c.0, le, c.1), w.0), w.1)
 
@@ -49,7 +50,7 @@ say_sizes [] (r ∷ rs) ns cs e u p = absurd cc
 say_sizes (q ∷ qs) [] ns cs e u p = p
 say_sizes (q ∷ qs) (r ∷ rs) [] cs e u p = p
 say_sizes (q ∷ qs) (r ∷ rs) (n ∷ ns) cs e u p =
-    (unspoiled r n (subst (λ z. n ≤ z.size) (first_range q qs r rs e) u.0.1), say_sizes qs rs ns cs (other_ranges q qs r rs e) u.1 p)
+    (unspoiled r n (subst (λ z. n ≤ z.len) (first_range q qs r rs e) u.0.1), say_sizes qs rs ns cs (other_ranges q qs r rs e) u.1 p)
 
 some_range : (r q : Range) → Some r ≡ Some q → r ≡ q
 some_range r q e = cc
@@ -80,7 +81,7 @@ module _ (i : Interface) (s : Start) (past : List Mark) (f : ℕ) (args : List �
     commits = Some (record { key = k; used = Some n })
 
     abbrev small : Range → ℕ
-    small r = cond (eqb r.at 0) 0 n
+    small r = cond (eqb r.addr 0) 0 n
 
     later : (o : Option Range) → in_use s k past ≡ o → HaveCounts (i.used f args v) outs → length p.bytes ≡ small p.range → are_bytes p.bytes ≡ true → ((r : Range) → in_use s k past ≡ Some r → p.range ≡ r) → Pass commits → Keeps commits (Released k p)
     later None e c count bytes its h = absurd (h.0 k (refl, e))
@@ -88,7 +89,7 @@ module _ (i : Interface) (s : Start) (past : List Mark) (f : ℕ) (args : List �
         let same : p.range ≡ r = its r e in
         let checks : Passes (size_checks none [] (i.outs f args) (i.used f args v) (size_check none 0 r (small r) Done)) = subst (λ o. Passes (size_checks none [] (i.outs f args) (i.used f args v) (commit_size_check none 0 o n Done))) e h.1 in
         let w = sizes_say outs (i.outs f args) (i.used f args v) (size_check none 0 r (small r) Done) ranges c checks in
-        let le : small p.range ≤ p.range.size = subst (λ z. small z ≤ z.size) (sym same) (fits r (small r) w.1.0) in
+        let le : small p.range ≤ p.range.len = subst (λ z. small z ≤ z.len) (sym same) (fits r (small r) w.1.0) in
         (w.0, (refl, (count, le, bytes)), e ∙ ap Some (sym same))
 
     pub forth : HaveCounts (i.used f args v) outs → ReleasesUsed s past k (Some n) (Released k p) → Pass commits → Keeps commits (Released k p)

@@ -5,7 +5,8 @@ use Rattle.run_events.specs.declared.key.Class.TheVariants.{Callback, Async}
 use Rattle.marks.specs.declared.side.Side.TheVariants.{Replay, System}
 use Rattle.marks.specs.declared.fault.FaultKind.{FaultKind}
 use Rattle.marks.specs.declared.fault.FaultKind.TheVariants.{NotLive, ReadOnly, StackFull}
-use Rattle.marks.specs.Ranges.{Range, Piece, Prepared, range, within, in_range, any_range, any_piece, any_prepared, prepared_ranges}
+use Rattle.marks.specs.declared.range.Range.{Range}
+use Rattle.marks.specs.Ranges.{Piece, Prepared, range, within, covers, any_range, any_piece, any_prepared, prepared_ranges}
 use Rattle.marks.specs.Marks.{Access, Reading, Writing, Freeing, EventKind, Call, Free, Event, Act, Load, Store, Enter, Leave, Fault, Made, Mark, is_event}
 use Rattle.marks.specs.Bytes.{Cell, Byte, IsLive, Shows, EventAsks, Asks, event_writes, reads, writes, late, late_event}
 use Rattle.marks.specs.Wants.{Want, Outside, Turns, Loads, Stores, Enters, Leaves, Allocs, Frees, Calls, Below, Gives, Returns, CallsBack, UpReturns, Steps, Fails, Answer, Go, same_numbers, answer_if, event_answer, answer_to, is_above, is_below}
@@ -106,8 +107,8 @@ module _ (s : Start) (past : List Mark) (t : ℕ) where
         as_write : IsFree past t (Fault NotLive false [] [] (Writing (range (suc at) 1)))
         as_write = record { space = free.space; constant = free.constant; reading = free.reading; writing = free.writing }
 
-        inside : (x : ℕ) → in_range (freed_range (suc at) (byte s (suc at) past).block) x ≡ true → in_range (range (suc at) 1) x ≡ true
-        inside x z = subst (λ r. in_range r x ≡ true) (one_byte (suc at) e) z
+        inside : (x : ℕ) → covers (freed_range (suc at) (byte s (suc at) past).block) x ≡ true → covers (range (suc at) 1) x ≡ true
+        inside x z = subst (λ r. covers r x ≡ true) (one_byte (suc at) e) z
 
         found : Finds (checks i s past t (Frees (suc at))) f → f ≡ FaultFound NotLive
         found (inl h) = absurd (true≢false (sym h.1.0.1 ∙ (writing_free past t NotLive false [] [] (range (suc at) 1) as_write).0 h.0 (inside h.0 h.1.0.0)))
@@ -218,8 +219,8 @@ free_passes s past t at size e kind same free asks =
     let some = some_size at size same in
     let ask : (x : ℕ) → within (suc at) size x ≡ true → IsLive (byte s x past).cell × (x ≡ suc at → (byte s x past).block ≡ size) = λ x z. subst (λ k. EventAsks k x (byte s x past)) kind (asks x) z in
     let block : (byte s (suc at) past).block ≡ size = (ask (suc at) (block_at (suc at) size some)).1 refl in
-    let inside : (x : ℕ) → in_range (range (suc at) (byte s (suc at) past).block) x ≡ true → within (suc at) size x ≡ true = λ x z. subst (λ n. within (suc at) n x ≡ true) block z in
-    let wrote : (x : ℕ) → in_range (range (suc at) (byte s (suc at) past).block) x ≡ true → writes (Made e) x ≡ true = λ x z. ap (λ k. event_writes k x) kind ∙ inside x z in
+    let inside : (x : ℕ) → covers (range (suc at) (byte s (suc at) past).block) x ≡ true → within (suc at) size x ≡ true = λ x z. subst (λ n. within (suc at) n x ≡ true) block z in
+    let wrote : (x : ℕ) → covers (range (suc at) (byte s (suc at) past).block) x ≡ true → writes (Made e) x ≡ true = λ x z. ap (λ k. event_writes k x) kind ∙ inside x z in
     record {
       begins = omega (arith, block, some);
       own_space = λ x z. free.space x (or_true_right (reads (Made e) x) (writes (Made e) x) (wrote x z));
@@ -231,7 +232,7 @@ free_passes s past t at size e kind same free asks =
 
 shown_live : (ps : List Piece) (x : ℕ) (c : Cell) → Shows ps x c → any_piece ps x ≡ true → IsLive c
 shown_live [] x c h e = absurd (true≢false (sym e))
-shown_live (p ∷ ps) x c h e = ⊎_elim (λ z. subst IsLive (sym (h.0 z)) tt) (λ z. shown_live ps x c h.1 z) (or_cases (in_range p.range x) (any_piece ps x) e)
+shown_live (p ∷ ps) x c h e = ⊎_elim (λ z. subst IsLive (sym (h.0 z)) tt) (λ z. shown_live ps x c h.1 z) (or_cases (covers p.range x) (any_piece ps x) e)
 
 pub any_prepares : (ps : List Prepared) (k : ℕ) → prepares_key ps k ≡ true → any_key (map (λ p. key Async p.key) ps) (key Async k) ≡ true
 unfolding any_key

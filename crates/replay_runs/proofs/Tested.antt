@@ -1,7 +1,8 @@
 -- Tests of checks, by computation: that none fails, or what the first one that fails finds.
 use Rattle.std.proofs.Common.{◌≡◌, inl, inr, ⊎_elim, ℕ, zero, suc, ◌+◌, ◌<◌, ◌≤◌, Bool, true, false, ◌&&◌, ◌||◌, not, cond, leb, ltb, Option, Some, None, refl, sym, ap, ◌∙◌, subst, arith}
 use Rattle.std.proofs.lemmas.Bool.{le-leb, lt-ltb, leb-true, ltb-true, and_from, and_parts, true≢false, cases_eq, cases_lt}
-use Rattle.marks.specs.Ranges.{Range, within, in_range}
+use Rattle.marks.specs.declared.range.Range.{Range}
+use Rattle.marks.specs.Ranges.{within, covers}
 use Rattle.replay_runs.specs.Checks.{Finding, Checks, Done, Check, Passes, Least, Finds}
 
 -- each byte of a range passes
@@ -138,29 +139,29 @@ abbrev pub named : (ℕ → Finding) → Option ℕ → Option Finding
 named g None = None
 named g (Some x) = Some (g x)
 
-pub least_of : (r : Range) (good : ℕ → Bool) (x : ℕ) → IsFirst good r.at r.size x → (y : ℕ) → in_range r y ≡ true → (good y ≡ true → ⊥) → x ≤ y
+pub least_of : (r : Range) (good : ℕ → Bool) (x : ℕ) → IsFirst good r.addr r.len x → (y : ℕ) → covers r y ≡ true → (good y ≡ true → ⊥) → x ≤ y
 least_of r good x w y e b =
     ⊎_elim
-    (λ z. absurd (b (w.before y (leb-true r.at y (and_parts (leb r.at y) (ltb y (r.at + r.size)) e).0) z)))
+    (λ z. absurd (b (w.before y (leb-true r.addr y (and_parts (leb r.addr y) (ltb y (r.addr + r.len)) e).0) z)))
     (λ z. omega (arith, z))
     (cases_lt y x)
 
-pub range_least : (r : Range) (P : ℕ → Type 0) (good : ℕ → Bool) → ((x : ℕ) → good x ≡ true → P x → ⊥) → ((x : ℕ) → good x ≡ false → P x) → (g : ℕ → Finding) (o : Option ℕ) → first_bad good r.at r.size ≡ o → (f : Finding) → named g o ≡ Some f → (x : ℕ) × Least (λ x. (in_range r x ≡ true) × P x) x × (f ≡ g x)
+pub range_least : (r : Range) (P : ℕ → Type 0) (good : ℕ → Bool) → ((x : ℕ) → good x ≡ true → P x → ⊥) → ((x : ℕ) → good x ≡ false → P x) → (g : ℕ → Finding) (o : Option ℕ) → first_bad good r.addr r.len ≡ o → (f : Finding) → named g o ≡ Some f → (x : ℕ) × Least (λ x. (covers r x ≡ true) × P x) x × (f ≡ g x)
 range_least r P good fine wrong g None e f h = none_some f h
 range_least r P good fine wrong g (Some x) e f h =
-    let w = first_is good r.at r.size x e in
+    let w = first_is good r.addr r.len x e in
     let same : g x ≡ f = cc in
     (x, ((w.within_is, wrong x w.is_bad), λ y b. least_of r good x w y b.0 (λ z. fine y z b.1)), sym same)
 
-pub range_some : (r : Range) (good : ℕ → Bool) (g : ℕ → Finding) → all_from good r.at r.size ≡ false → (f : Finding) × (named g (first_bad good r.at r.size) ≡ Some f)
-range_some r good g h = let w = one_bad good r.at r.size h in (g w.0, ap (named g) w.1)
+pub range_some : (r : Range) (good : ℕ → Bool) (g : ℕ → Finding) → all_from good r.addr r.len ≡ false → (f : Finding) × (named g (first_bad good r.addr r.len) ≡ Some f)
+range_some r good g h = let w = one_bad good r.addr r.len h in (g w.0, ap (named g) w.1)
 
 -- a check of each byte of a range
-abbrev pub byte_tested : (r : Range) (P : ℕ → Type 0) (good : ℕ → Bool) → ((x : ℕ) → good x ≡ true → P x → ⊥) → ((x : ℕ) → good x ≡ false → P x) → (g : ℕ → Finding) (cs : Checks) → Tested cs → Tested (Check (λ x. (in_range r x ≡ true) × P x) (λ x f. f ≡ g x) cs)
-byte_tested r P good fine wrong g cs k = seek_tested _ _ cs (all_from good r.at r.size) (record {
-  none = λ h x b. fine x (all_from_true good r.at r.size h x b.0) b.1;
-  found = named g (first_bad good r.at r.size);
-  least = range_least r P good fine wrong g (first_bad good r.at r.size) refl;
+abbrev pub byte_tested : (r : Range) (P : ℕ → Type 0) (good : ℕ → Bool) → ((x : ℕ) → good x ≡ true → P x → ⊥) → ((x : ℕ) → good x ≡ false → P x) → (g : ℕ → Finding) (cs : Checks) → Tested cs → Tested (Check (λ x. (covers r x ≡ true) × P x) (λ x f. f ≡ g x) cs)
+byte_tested r P good fine wrong g cs k = seek_tested _ _ cs (all_from good r.addr r.len) (record {
+  none = λ h x b. fine x (all_from_true good r.addr r.len h x b.0) b.1;
+  found = named g (first_bad good r.addr r.len);
+  least = range_least r P good fine wrong g (first_bad good r.addr r.len) refl;
   some = range_some r good g;
 }) k
 

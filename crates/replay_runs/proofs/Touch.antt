@@ -6,7 +6,7 @@ use Rattle.run_events.specs.declared.key.KeyMark.{KeyMark}
 use Rattle.marks.specs.declared.side.Side.{Side}
 use Rattle.marks.specs.declared.side.Side.TheVariants.{Replay}
 use Rattle.marks.specs.Places.{thread_count, stack, stack_size, replay_pool, pool_size}
-use Rattle.marks.specs.Ranges.{Piece, range, within, in_range, any_range, any_piece, any_prepared, byte_at, piece_ranges}
+use Rattle.marks.specs.Ranges.{Piece, range, within, covers, any_range, any_piece, any_prepared, byte_at, piece_ranges}
 use Rattle.marks.specs.Marks.{EventKind, Call, Ret, Up, UpRet, Alloc, Free, Stop, Commit, NoRegion, Withheld, Released, Act, Turn, Load, Store, Enter, Leave, Step, Fault, Made, Mark, released}
 use Rattle.marks.specs.Bytes.{Dead, Live, IsLive, IsHeld, granted, event_reads, event_writes, touches, place}
 use Rattle.marks.specs.Wants.{Want}
@@ -221,7 +221,7 @@ module _ (program : Program) (s : Start) (past : List Mark) (inv : Inv s past) (
           there : any_range d.outs x ≡ true
           there = sym (ap (λ l. any_range l x) z.2) ∙ piece_range_of outs x ∙ e
 
-      of_region : (k : ℕ) (p : Piece) → commit ≡ Released k p → May ret → (o : Option Committing) → program.interface.commits f args v ≡ o → (x : ℕ) → in_range p.range x ≡ true → Back x
+      of_region : (k : ℕ) (p : Piece) → commit ≡ Released k p → May ret → (o : Option Committing) → program.interface.commits f args v ≡ o → (x : ℕ) → covers p.range x ≡ true → Back x
       of_region k p is h None nothing x e = absurd (no_region commit k p is (subst (λ o. Commits o commit) nothing h.own.carries.committed))
       of_region k p is h (Some q) some x e =
           record {
@@ -256,7 +256,7 @@ module _ (program : Program) (s : Start) (past : List Mark) (inv : Inv s past) (
           region : (w : Commit) → commit ≡ w → any_piece (released w) x ≡ true → Back x
           region NoRegion is z = absurd (true≢false (sym z))
           region Withheld is z = absurd (true≢false (sym z))
-          region (Released k p) is z = of_region k p is h (program.interface.commits f args v) refl x (⊎_elim (λ y. y) (λ y. absurd (true≢false (sym y))) (or_cases (in_range p.range x) false z))
+          region (Released k p) is z = of_region k p is h (program.interface.commits f args v) refl x (⊎_elim (λ y. y) (λ y. absurd (true≢false (sym y))) (or_cases (covers p.range x) false z))
 
       pub returned : May ret → (x : ℕ) → any_piece (outs ++ released commit) x ≡ true → Over s past (mk ret) x
       returned h x e =

@@ -4,7 +4,8 @@ use Rattle.std.proofs.Common.{◌≡◌, ⊎_elim, ℕ, ◌≤◌, Bool, true, f
 use Rattle.std.proofs.lemmas.Bool.{and_parts, and_from, or_cases, cases_Bool, true≢false, cases_lt}
 use Rattle.marks.specs.declared.fault.FaultKind.{FaultKind}
 use Rattle.marks.specs.Places.{is_constant, is_system}
-use Rattle.marks.specs.Ranges.{Range, in_range, any_range}
+use Rattle.marks.specs.declared.range.Range.{Range}
+use Rattle.marks.specs.Ranges.{covers, any_range}
 use Rattle.marks.specs.Marks.{Access, Reading, Writing, Act, Fault, Mark}
 use Rattle.marks.specs.Bytes.{access_reads, access_writes, reads, writes, touches, late, place, conflict}
 use Rattle.marks.proofs.Touched.{or_true_left, or_true_right}
@@ -90,17 +91,17 @@ module _ (past : List Mark) (t : ℕ) (k : FaultKind) (cr : Bool) (ins outs : Li
   pub in_outs : (a : Access) (x : ℕ) → any_range outs x ≡ true → writes (Fault k cr ins outs a) x ≡ true
   in_outs a x e = or_true_left (any_range outs x) (access_writes a x) e
 
-  read_in : (r : Range) (x : ℕ) → in_range r x ≡ true → touches (Fault k cr ins outs (Reading r)) x ≡ true
-  read_in r x e = or_true_left (any_range ins x || in_range r x) (any_range outs x || false) (or_true_right (any_range ins x) (in_range r x) e)
+  read_in : (r : Range) (x : ℕ) → covers r x ≡ true → touches (Fault k cr ins outs (Reading r)) x ≡ true
+  read_in r x e = or_true_left (any_range ins x || covers r x) (any_range outs x || false) (or_true_right (any_range ins x) (covers r x) e)
 
-  write_in : (r : Range) (x : ℕ) → in_range r x ≡ true → touches (Fault k cr ins outs (Writing r)) x ≡ true
-  write_in r x e = both (in_range r x) (is_constant x) (any_range ins x) (any_range outs x) e
+  write_in : (r : Range) (x : ℕ) → covers r x ≡ true → touches (Fault k cr ins outs (Writing r)) x ≡ true
+  write_in r x e = both (covers r x) (is_constant x) (any_range ins x) (any_range outs x) e
 
   -- of a race at a written byte, which is no constant
-  raced : (r : Range) → IsFree past t (Fault k cr ins outs (Writing r)) → (x u : ℕ) → in_range r x ≡ true → Races past t true x u → ⊥
+  raced : (r : Range) → IsFree past t (Fault k cr ins outs (Writing r)) → (x u : ℕ) → covers r x ≡ true → Races past t true x u → ⊥
   raced r free x u e w = ⊎_elim
       (λ c. free.reading x u (write_in r x e) (w.0, w.1, w.2, w.3, only (writes w.0.act x) (touches w.0.act x) (is_constant x) c w.4, w.5))
-      (λ c. free.writing x u (unconstant (in_range r x) (is_constant x) (any_range outs x) e c) w)
+      (λ c. free.writing x u (unconstant (covers r x) (is_constant x) (any_range outs x) e c) w)
       (cases_Bool (is_constant x))
     where
       only : (w t c : Bool) → c ≡ true → (w || (true && (not c && t))) ≡ true → (w || (false && (not c && t))) ≡ true

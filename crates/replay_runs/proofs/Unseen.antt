@@ -6,7 +6,8 @@ use Rattle.run_events.specs.declared.key.KeyMark.{KeyMark}
 use Rattle.marks.specs.declared.side.Side.{Side}
 use Rattle.marks.specs.declared.side.Side.TheVariants.{Replay}
 use Rattle.marks.specs.Places.{is_constant, thread_count, stack, stack_size, replay_pool, pool_size}
-use Rattle.marks.specs.Ranges.{Range, range, within, any_range, any_prepared, byte_at}
+use Rattle.marks.specs.declared.range.Range.{Range}
+use Rattle.marks.specs.Ranges.{range, within, any_range, any_prepared, byte_at}
 use Rattle.marks.specs.Marks.{EventKind, Call, Ret, Up, UpRet, Alloc, Free, Stop, Act, Turn, Load, Store, Enter, Leave, Step, Fault, Made, Mark, is_event, released}
 use Rattle.marks.specs.Bytes.{Cell, Dead, Live, IsLive, IsHeld, granted, hold, give_any, event_reads, event_writes, event_leaves, reads, writes, touches, late, place}
 use Rattle.marks.proofs.Touched.{or_true_left, or_true_right, keeps}
@@ -86,7 +87,7 @@ module _ (program : Program) (s : Start) (past : List Mark) (inv : Inv s past) (
       go (f ∷ fs) l st le = ⊎_elim
           (λ lt. inr (cond_true (within at size x) Dead (cell x) (inside at size x (omega (arith, l.0, st.0, le)) (omega (arith, l.0, l.1, lt)))))
           (λ k. inl k)
-          (cases_lt x (f.at + f.size))
+          (cases_lt x (f.addr + f.len))
   was_above Turn h lf x le = inl le
   was_above (Load o at b) h lf x le = inl le
   was_above (Store o at b) h lf x le = inl le

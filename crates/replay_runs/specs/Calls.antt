@@ -1,7 +1,8 @@
 -- What the rules of a run ask of a Call beyond its own thread and keys.
 use Rattle.std.specs.Prelude.{◌≡◌, ◌↔◌, ℕ, true, false, ◌||◌, List, ◌++◌}
 use Rattle.marks.specs.Places.{is_constant, is_system}
-use Rattle.marks.specs.Ranges.{Range, Piece, Prepared, any_range, any_piece, any_prepared, piece_ranges, prepared_ranges}
+use Rattle.marks.specs.declared.range.Range.{Range}
+use Rattle.marks.specs.Ranges.{Piece, Prepared, any_range, any_piece, any_prepared, piece_ranges, prepared_ranges}
 use Rattle.marks.specs.Marks.{Call, Event, Made, Mark}
 use Rattle.marks.specs.Bytes.{IsLive, touches, writes}
 use Rattle.replay_runs.specs.Runs.{Start, byte}

@@ -2,7 +2,8 @@
 use Rattle.std.specs.Prelude.{◌≡◌, ◌≢◌, ◌↔◌, ℕ, ◌-◌, ◌<◌, ◌≤◌, Bool, true, false, cond, eqb, ltb, List, [], ◌∷◌, ◌++◌, length, drop, Option, None}
 use Rattle.run_events.specs.declared.event.Record.{Record}
 use Rattle.marks.specs.Places.{is_constant, is_system}
-use Rattle.marks.specs.Ranges.{Range, range, in_range}
+use Rattle.marks.specs.declared.range.Range.{Range}
+use Rattle.marks.specs.Ranges.{range, covers}
 use Rattle.marks.specs.Marks.{Load, Store, Leave, Mark, is_event}
 use Rattle.marks.specs.Bytes.{AllLive, Byte, Asks}
 use Rattle.marks.specs.Wants.{Want, Loads, Stores, Leaves, is_above}
@@ -190,8 +191,8 @@ ClocksAreLongestChains program s =
 pub record Undisturbed (s : Start) (past : List Mark) (m : Mark) (write : Bool) (r : Range) : Type 0 where
   pub no_race : NoRace past m
   pub live : AllLive r (λ x. byte s x past)
-  pub own_space : (x : ℕ) → in_range r x ≡ true → is_system x ≡ false
-  pub writable : write ≡ true → (x : ℕ) → in_range r x ≡ true → is_constant x ≡ false
+  pub own_space : (x : ℕ) → covers r x ≡ true → is_system x ≡ false
+  pub writable : write ≡ true → (x : ℕ) → covers r x ≡ true → is_constant x ≡ false
 
 -- the checks of a load, a store and the end of a frame pass exactly where nothing disturbs the access
 pub record ChecksAreExact (i : Interface) (s : Start) (past : List Mark) (m : Mark) : Type 0 where

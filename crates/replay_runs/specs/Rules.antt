@@ -7,7 +7,8 @@ use Rattle.marks.specs.declared.side.Side.TheVariants.{Replay, System}
 use Rattle.marks.specs.declared.fault.FaultKind.{FaultKind}
 use Rattle.marks.specs.declared.fault.FaultKind.TheVariants.{NotLive, ReadOnly}
 use Rattle.marks.specs.Places.{thread_count, replay_pool, is_constant, is_system}
-use Rattle.marks.specs.Ranges.{Range, Piece, Prepared, in_range, any_range, are_bytes, piece_ranges, piece_bytes, prepared_ranges}
+use Rattle.marks.specs.declared.range.Range.{Range}
+use Rattle.marks.specs.Ranges.{Piece, Prepared, covers, any_range, are_bytes, piece_ranges, piece_bytes, prepared_ranges}
 use Rattle.marks.specs.Marks.{EventKind, Call, Ret, Up, UpRet, Alloc, Free, Stop, Act, Turn, Load, Store, Enter, Leave, Step, Fault, Made, Mark, Access, Reading, Writing, Commit, NoRegion, Withheld, Released, logged}
 use Rattle.marks.specs.Bytes.{writes, touches}
 use Rattle.marks.specs.Wants.{Want, Outside, Turns, Loads, Stores, Enters, Leaves, Allocs, Frees, Calls, Below, Gives, Returns, CallsBack, UpReturns, Steps, Fails, answer_to, is_above, is_below}
@@ -49,7 +50,7 @@ KeepsModes i (Fails kind) = Unit {0}
 -- no two of the ranges meet
 abbrev pub Apart : List Range → Type 0
 Apart [] = Unit {0}
-Apart (r ∷ rs) = ((x : ℕ) → in_range r x ≡ true → any_range rs x ≡ false) × Apart rs
+Apart (r ∷ rs) = ((x : ℕ) → covers r x ≡ true → any_range rs x ≡ false) × Apart rs
 
 abbrev pub DistinctKeys : List Prepared → Type 0
 DistinctKeys [] = Unit {0}
@@ -58,11 +59,11 @@ DistinctKeys (p ∷ ps) = (prepares_key ps p.key ≡ false) × DistinctKeys ps
 -- each piece has all bytes of its range
 abbrev pub AreWhole : List Piece → Type 0
 AreWhole [] = Unit {0}
-AreWhole (p ∷ ps) = (length p.bytes ≡ p.range.size) × AreWhole ps
+AreWhole (p ∷ ps) = (length p.bytes ≡ p.range.len) × AreWhole ps
 
 -- a piece of the used size, which is at most the capacity
 abbrev pub IsUsed : ℕ → Piece → Type 0
-IsUsed n p = (length p.bytes ≡ n) × (n ≤ p.range.size) × (are_bytes p.bytes ≡ true)
+IsUsed n p = (length p.bytes ≡ n) × (n ≤ p.range.len) × (are_bytes p.bytes ≡ true)
 
 abbrev pub AreUsed : List ℕ → List Piece → Type 0
 AreUsed [] [] = Unit {0}
@@ -74,7 +75,7 @@ abbrev pub CommitsUsed : ℕ → Option ℕ → Commit → Type 0
 CommitsUsed k None commit = commit ≡ Withheld
 CommitsUsed k (Some n) NoRegion = ⊥
 CommitsUsed k (Some n) Withheld = ⊥
-CommitsUsed k (Some n) (Released j p) = (j ≡ k) × IsUsed (cond (eqb p.range.at 0) 0 n) p
+CommitsUsed k (Some n) (Released j p) = (j ≡ k) × IsUsed (cond (eqb p.range.addr 0) 0 n) p
 
 abbrev pub Commits : Option Committing → Commit → Type 0
 Commits None commit = commit ≡ NoRegion
@@ -109,7 +110,7 @@ EventCarries i s t mine (Free at size) = eqb at 0 ≡ eqb size 0
 EventCarries i s t mine (Stop fault) = fault ≡ fault_of mine
 
 abbrev pub SomeConstant : Range → Type 0
-SomeConstant r = (x : ℕ) × (in_range r x ≡ true) × (is_constant x ≡ true)
+SomeConstant r = (x : ℕ) × (covers r x ≡ true) × (is_constant x ≡ true)
 
 -- a Call is stopped at the first bad one of its ranges: it has touched those before
 pub data StopsCall (ins outs : List Range) : FaultKind → List Range → List Range → Access → Type 0 where

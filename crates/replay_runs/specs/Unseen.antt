@@ -3,7 +3,8 @@ use Rattle.std.specs.Prelude.{◌≡◌, ℕ, ◌+◌, ◌<◌, ◌≤◌, Bool,
 use Rattle.run_events.specs.declared.key.Class.TheVariants.{Pool, Async}
 use Rattle.marks.specs.declared.side.Side.TheVariants.{Replay}
 use Rattle.marks.specs.Places.{thread_count, stack, stack_size, replay_stacks, replay_pool, replay_end, pool_size}
-use Rattle.marks.specs.Ranges.{Range, range, in_range, any_range}
+use Rattle.marks.specs.declared.range.Range.{Range}
+use Rattle.marks.specs.Ranges.{range, covers, any_range}
 use Rattle.marks.specs.Marks.{EventKind, Ret, Alloc, Act, Enter, Leave, Made, Mark}
 use Rattle.marks.specs.Bytes.{Byte, Dead, IsHeld, touches, place}
 use Rattle.marks.specs.Wants.{Leaves}
@@ -33,7 +34,7 @@ any_held (c ∷ cs) x = any_range c.outs x || any_held cs x
 
 abbrev pub is_in : Option Range → ℕ → Bool
 is_in None x = false
-is_in (Some r) x = in_range r x
+is_in (Some r) x = covers r x
 
 abbrev pub holds : Start → List Mark → ℕ → Holder → Bool
 holds s past x (Calling t) = any_held (open_calls (marks_of s t past)) x
@@ -57,7 +58,7 @@ pub record BytesAreKnown (s : Start) (past : List Mark) (x : ℕ) : Type 0 where
 -- a thread leaves its innermost frame
 abbrev pub LeavesFirst : Act → List Range → Type 0
 LeavesFirst (Leave at size) [] = ⊥
-LeavesFirst (Leave at size) (f ∷ fs) = (at ≡ f.at) × (size ≡ f.size)
+LeavesFirst (Leave at size) (f ∷ fs) = (at ≡ f.addr) × (size ≡ f.len)
 LeavesFirst _ fs = Unit {0}
 
 abbrev pub FramesEndInOrder : Start → List Mark → Type 0
@@ -84,11 +85,11 @@ CodeEndsFramesInOrder program = EndsOwnFrames program → (s : Start) (run : Lis
 -- frames that stand one on the other
 abbrev pub Stacked : ℕ → List Range → Type 0
 Stacked base [] = Unit {0}
-Stacked base (f ∷ fs) = (f.at ≡ end_of base fs) × Stacked base fs
+Stacked base (f ∷ fs) = (f.addr ≡ end_of base fs) × Stacked base fs
 
 abbrev pub InPool : List Range → Type 0
 InPool [] = Unit {0}
-InPool (b ∷ bs) = (replay_pool ≤ b.at) × (b.at + b.size ≤ replay_pool + pool_size) × InPool bs
+InPool (b ∷ bs) = (replay_pool ≤ b.addr) × (b.addr + b.len ≤ replay_pool + pool_size) × InPool bs
 
 -- of these calls one at most holds the byte
 abbrev pub Once : List OpenCall → ℕ → Type 0

@@ -10,7 +10,8 @@ use Rattle.marks.specs.declared.side.Side.TheVariants.{Replay, System}
 use Rattle.marks.specs.declared.fault.FaultKind.{FaultKind}
 use Rattle.marks.specs.declared.fault.FaultKind.TheVariants.{ReadOnly}
 use Rattle.marks.specs.Places.{thread_count, frame_count, stack, stack_size, replay_pool, pool_size, alignment, is_constant, is_system}
-use Rattle.marks.specs.Ranges.{Range, piece_ranges, piece_bytes, prepared_ranges}
+use Rattle.marks.specs.declared.range.Range.{Range}
+use Rattle.marks.specs.Ranges.{piece_ranges, piece_bytes, prepared_ranges}
 use Rattle.marks.specs.Marks.{Writing, Commit, NoRegion, Withheld, Released, EventKind, Call, Ret, Up, UpRet, Alloc, Free, Stop, Act, Turn, Load, Store, Enter, Leave, Step, Fault, Made, Mark, is_event, logged}
 use Rattle.marks.specs.Bytes.{touches, writes, place, conflict}
 use Rattle.marks.specs.Wants.{Want, Outside, Turns, Loads, Stores, Enters, Leaves, Allocs, Frees, Calls, Below, Gives, Returns, CallsBack, UpReturns, Steps, Fails}

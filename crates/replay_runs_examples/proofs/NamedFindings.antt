@@ -1,6 +1,5 @@
 -- The findings, by computation.
 use Rattle.std.proofs.Common.{◌≡◌, ℕ, true, false, [], ◌∷◌, Some, None, refl}
-use Rattle.std.proofs.lemmas.Bool.{true≢false}
 use Rattle.marks.specs.declared.breach.BreachKind.TheVariants.{KeyInUse, Mode, NoKey, OtherSpace, Pending, Size}
 use Rattle.marks.specs.declared.fault.FaultKind.TheVariants.{NotLive, ReadOnly, StackFull}
 use Rattle.marks.specs.Ranges.{range}

@@ -6,7 +6,8 @@ use Rattle.marks.specs.declared.fault.FaultKind.{FaultKind}
 use Rattle.marks.specs.declared.fault.FaultKind.TheVariants.{NotLive, ReadOnly}
 use Rattle.marks.specs.Kinds.{fault_number}
 use Rattle.marks.specs.Places.{is_constant}
-use Rattle.marks.specs.Ranges.{Range, Piece, Prepared, any_range, are_bytes}
+use Rattle.marks.specs.declared.range.Range.{Range}
+use Rattle.marks.specs.Ranges.{Piece, Prepared, any_range, are_bytes}
 use Rattle.marks.specs.Marks.{Access, Reading, Writing, Commit, NoRegion, Withheld, Released}
 use Rattle.marks.specs.Wants.{same_numbers}
 use Rattle.replay_runs.specs.Runs.{same_key}
@@ -31,7 +32,7 @@ same_bool_true false false e = refl
 
 abbrev pub same_ranges : List Range → List Range → Bool
 same_ranges [] [] = true
-same_ranges (r ∷ rs) (q ∷ qs) = (eqb r.at q.at && eqb r.size q.size) && same_ranges rs qs
+same_ranges (r ∷ rs) (q ∷ qs) = (eqb r.addr q.addr && eqb r.len q.len) && same_ranges rs qs
 same_ranges _ _ = false
 
 pub same_ranges_true : (rs qs : List Range) → same_ranges rs qs ≡ true → rs ≡ qs
@@ -39,16 +40,16 @@ same_ranges_true [] [] e = refl
 same_ranges_true [] (q ∷ qs) e = absurd cc
 same_ranges_true (r ∷ rs) [] e = absurd cc
 same_ranges_true (r ∷ rs) (q ∷ qs) e =
-    let w = and_parts (eqb r.at q.at && eqb r.size q.size) (same_ranges rs qs) e in
-    let u = and_parts (eqb r.at q.at) (eqb r.size q.size) w.0 in
-    let a : r.at ≡ q.at = eqb-true _ _ u.0 in
-    let b : r.size ≡ q.size = eqb-true _ _ u.1 in
+    let w = and_parts (eqb r.addr q.addr && eqb r.len q.len) (same_ranges rs qs) e in
+    let u = and_parts (eqb r.addr q.addr) (eqb r.len q.len) w.0 in
+    let a : r.addr ≡ q.addr = eqb-true _ _ u.0 in
+    let b : r.len ≡ q.len = eqb-true _ _ u.1 in
     let t = same_ranges_true rs qs w.1 in
-    λ i. record { at = a i; size = b i } ∷ t i
+    λ i. record { addr = a i; len = b i } ∷ t i
 
 abbrev pub same_prepared : List Prepared → List Prepared → Bool
 same_prepared [] [] = true
-same_prepared (r ∷ rs) (q ∷ qs) = (eqb r.key q.key && (eqb r.range.at q.range.at && eqb r.range.size q.range.size)) && same_prepared rs qs
+same_prepared (r ∷ rs) (q ∷ qs) = (eqb r.key q.key && (eqb r.range.addr q.range.addr && eqb r.range.len q.range.len)) && same_prepared rs qs
 same_prepared _ _ = false
 
 pub same_prepared_true : (rs qs : List Prepared) → same_prepared rs qs ≡ true → rs ≡ qs
@@ -56,14 +57,14 @@ same_prepared_true [] [] e = refl
 same_prepared_true [] (q ∷ qs) e = absurd cc
 same_prepared_true (r ∷ rs) [] e = absurd cc
 same_prepared_true (r ∷ rs) (q ∷ qs) e =
-    let w = and_parts (eqb r.key q.key && (eqb r.range.at q.range.at && eqb r.range.size q.range.size)) (same_prepared rs qs) e in
-    let v = and_parts (eqb r.key q.key) (eqb r.range.at q.range.at && eqb r.range.size q.range.size) w.0 in
-    let u = and_parts (eqb r.range.at q.range.at) (eqb r.range.size q.range.size) v.1 in
+    let w = and_parts (eqb r.key q.key && (eqb r.range.addr q.range.addr && eqb r.range.len q.range.len)) (same_prepared rs qs) e in
+    let v = and_parts (eqb r.key q.key) (eqb r.range.addr q.range.addr && eqb r.range.len q.range.len) w.0 in
+    let u = and_parts (eqb r.range.addr q.range.addr) (eqb r.range.len q.range.len) v.1 in
     let k : r.key ≡ q.key = eqb-true _ _ v.0 in
-    let a : r.range.at ≡ q.range.at = eqb-true _ _ u.0 in
-    let b : r.range.size ≡ q.range.size = eqb-true _ _ u.1 in
+    let a : r.range.addr ≡ q.range.addr = eqb-true _ _ u.0 in
+    let b : r.range.len ≡ q.range.len = eqb-true _ _ u.1 in
     let t = same_prepared_true rs qs w.1 in
-    λ i. record { key = k i; range = record { at = a i; size = b i } } ∷ t i
+    λ i. record { key = k i; range = record { addr = a i; len = b i } } ∷ t i
 
 abbrev pub same_keys : List Key → List Key → Bool
 same_keys [] [] = true
@@ -93,7 +94,7 @@ same_fault_true (Some k) (Some l) e = ap Some (kind_numbered k l (eqb-true _ _ e
 
 abbrev pub same_range : Option Range → Option Range → Bool
 same_range None None = true
-same_range (Some r) (Some q) = eqb r.at q.at && eqb r.size q.size
+same_range (Some r) (Some q) = eqb r.addr q.addr && eqb r.len q.len
 same_range _ _ = false
 
 pub same_range_true : (o p : Option Range) → same_range o p ≡ true → o ≡ p
@@ -101,16 +102,16 @@ same_range_true None None e = refl
 same_range_true None (Some l) e = absurd cc
 same_range_true (Some k) None e = absurd cc
 same_range_true (Some r) (Some q) e =
-    let u = and_parts (eqb r.at q.at) (eqb r.size q.size) e in
-    let a : r.at ≡ q.at = eqb-true _ _ u.0 in
-    let b : r.size ≡ q.size = eqb-true _ _ u.1 in
-    λ i. Some (record { at = a i; size = b i })
+    let u = and_parts (eqb r.addr q.addr) (eqb r.len q.len) e in
+    let a : r.addr ≡ q.addr = eqb-true _ _ u.0 in
+    let b : r.len ≡ q.len = eqb-true _ _ u.1 in
+    λ i. Some (record { addr = a i; len = b i })
 
 -- the parts of the rules
 
 abbrev pub apart : List Range → Bool
 apart [] = true
-apart (r ∷ rs) = all_from (λ x. not (any_range rs x)) r.at r.size && apart rs
+apart (r ∷ rs) = all_from (λ x. not (any_range rs x)) r.addr r.len && apart rs
 
 pub not_true : (b : Bool) → not b ≡ true → b ≡ false
 not_true true e = absurd cc
@@ -119,8 +120,8 @@ not_true false e = refl
 pub apart_true : (rs : List Range) → apart rs ≡ true → Apart rs
 apart_true [] h = tt
 apart_true (r ∷ rs) h =
-    let w = and_parts (all_from (λ x. not (any_range rs x)) r.at r.size) (apart rs) h in
-    (λ x e. not_true (any_range rs x) (all_from_true (λ x. not (any_range rs x)) r.at r.size w.0 x e), apart_true rs w.1)
+    let w = and_parts (all_from (λ x. not (any_range rs x)) r.addr r.len) (apart rs) h in
+    (λ x e. not_true (any_range rs x) (all_from_true (λ x. not (any_range rs x)) r.addr r.len w.0 x e), apart_true rs w.1)
 
 abbrev pub distinct : List Prepared → Bool
 distinct [] = true
@@ -132,19 +133,19 @@ distinct_true (p ∷ ps) h = let w = and_parts (not (prepares_key ps p.key)) (di
 
 abbrev pub whole : List Piece → Bool
 whole [] = true
-whole (p ∷ ps) = eqb (length p.bytes) p.range.size && whole ps
+whole (p ∷ ps) = eqb (length p.bytes) p.range.len && whole ps
 
 pub whole_true : (ps : List Piece) → whole ps ≡ true → AreWhole ps
 whole_true [] h = tt
-whole_true (p ∷ ps) h = let w = and_parts (eqb (length p.bytes) p.range.size) (whole ps) h in (eqb-true _ _ w.0, whole_true ps w.1)
+whole_true (p ∷ ps) h = let w = and_parts (eqb (length p.bytes) p.range.len) (whole ps) h in (eqb-true _ _ w.0, whole_true ps w.1)
 
 abbrev pub is_used : ℕ → Piece → Bool
-is_used n p = eqb (length p.bytes) n && (leb n p.range.size && are_bytes p.bytes)
+is_used n p = eqb (length p.bytes) n && (leb n p.range.len && are_bytes p.bytes)
 
 pub is_used_true : (n : ℕ) (p : Piece) → is_used n p ≡ true → IsUsed n p
 is_used_true n p h =
-    let w = and_parts (eqb (length p.bytes) n) (leb n p.range.size && are_bytes p.bytes) h in
-    let u = and_parts (leb n p.range.size) (are_bytes p.bytes) w.1 in
+    let w = and_parts (eqb (length p.bytes) n) (leb n p.range.len && are_bytes p.bytes) h in
+    let u = and_parts (leb n p.range.len) (are_bytes p.bytes) w.1 in
     (eqb-true _ _ w.0, leb-true _ _ u.0, u.1)
 
 abbrev pub are_used : List ℕ → List Piece → Bool
@@ -164,15 +165,15 @@ used_commit k None Withheld = true
 used_commit k None (Released j p) = false
 used_commit k (Some n) NoRegion = false
 used_commit k (Some n) Withheld = false
-used_commit k (Some n) (Released j p) = eqb j k && is_used (cond (eqb p.range.at 0) 0 n) p
+used_commit k (Some n) (Released j p) = eqb j k && is_used (cond (eqb p.range.addr 0) 0 n) p
 
 pub used_commit_true : (k : ℕ) (o : Option ℕ) (c : Commit) → used_commit k o c ≡ true → CommitsUsed k o c
 used_commit_true k None Withheld h = refl
 used_commit_true k None NoRegion h = absurd (true≢false (sym h))
 used_commit_true k None (Released j p) h = absurd (true≢false (sym h))
 used_commit_true k (Some n) (Released j p) h =
-    let w = and_parts (eqb j k) (is_used (cond (eqb p.range.at 0) 0 n) p) h in
-    (eqb-true j k w.0, is_used_true (cond (eqb p.range.at 0) 0 n) p w.1)
+    let w = and_parts (eqb j k) (is_used (cond (eqb p.range.addr 0) 0 n) p) h in
+    (eqb-true j k w.0, is_used_true (cond (eqb p.range.addr 0) 0 n) p w.1)
 used_commit_true k (Some n) NoRegion h = absurd (true≢false (sym h))
 used_commit_true k (Some n) Withheld h = absurd (true≢false (sym h))
 
@@ -210,30 +211,30 @@ closes_up_true (g ∷ fs) f h = eqb-true _ _ h
 -- the ranges tested before, and the one that stops a Call, begin the list
 abbrev pub begins : List Range → Range → List Range → Bool
 begins before r [] = false
-begins [] r (q ∷ qs) = eqb r.at q.at && eqb r.size q.size
-begins (b ∷ before) r (q ∷ qs) = (eqb b.at q.at && eqb b.size q.size) && begins before r qs
+begins [] r (q ∷ qs) = eqb r.addr q.addr && eqb r.len q.len
+begins (b ∷ before) r (q ∷ qs) = (eqb b.addr q.addr && eqb b.len q.len) && begins before r qs
 
-range_is : (r q : Range) → (eqb r.at q.at && eqb r.size q.size) ≡ true → r ≡ q
+range_is : (r q : Range) → (eqb r.addr q.addr && eqb r.len q.len) ≡ true → r ≡ q
 range_is r q e =
-    let u = and_parts (eqb r.at q.at) (eqb r.size q.size) e in
-    let a : r.at ≡ q.at = eqb-true _ _ u.0 in
-    let b : r.size ≡ q.size = eqb-true _ _ u.1 in
-    λ i. record { at = a i; size = b i }
+    let u = and_parts (eqb r.addr q.addr) (eqb r.len q.len) e in
+    let a : r.addr ≡ q.addr = eqb-true _ _ u.0 in
+    let b : r.len ≡ q.len = eqb-true _ _ u.1 in
+    λ i. record { addr = a i; len = b i }
 
 pub begins_true : (before : List Range) (r : Range) (qs : List Range) → begins before r qs ≡ true → (after : List Range) × (qs ≡ before ++ (r ∷ after))
 begins_true before r [] h = absurd (true≢false (sym h))
 begins_true [] r (q ∷ qs) h = let e = range_is r q h in (qs, λ i. sym e i ∷ qs)
 begins_true (b ∷ before) r (q ∷ qs) h =
-    let w = and_parts (eqb b.at q.at && eqb b.size q.size) (begins before r qs) h in
+    let w = and_parts (eqb b.addr q.addr && eqb b.len q.len) (begins before r qs) h in
     let e = range_is b q w.0 in
     let u = begins_true before r qs w.1 in
     (u.0, λ i. sym e i ∷ u.1 i)
 
 abbrev pub some_constant : Range → Bool
-some_constant r = some_from is_constant r.at r.size
+some_constant r = some_from is_constant r.addr r.len
 
 pub some_constant_true : (r : Range) → some_constant r ≡ true → SomeConstant r
-some_constant_true r h = some_from_true is_constant r.at r.size h
+some_constant_true r h = some_from_true is_constant r.addr r.len h
 
 abbrev pub no_range : List Range → Bool
 no_range [] = true

@@ -4,7 +4,8 @@ use Rattle.std.proofs.lemmas.Bool.{leb-true, ltb-true, and_parts, true≢false}
 use Rattle.marks.specs.declared.breach.BreachKind.TheVariants.{Mode}
 use Rattle.marks.specs.declared.fault.FaultKind.TheVariants.{ReadOnly}
 use Rattle.marks.specs.Places.{is_constant, is_system}
-use Rattle.marks.specs.Ranges.{Piece, Range, within}
+use Rattle.marks.specs.declared.range.Range.{Range}
+use Rattle.marks.specs.Ranges.{Piece, within}
 use Rattle.marks.specs.Marks.{Mark}
 use Rattle.marks.specs.Bytes.{Cell, Dead, Live, Held, IsHeld, writes, touches}
 use Rattle.marks.specs.Wants.{Steps, Stores, answer_to}

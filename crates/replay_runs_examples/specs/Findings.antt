@@ -2,7 +2,8 @@
 use Rattle.std.specs.Prelude.{ℕ, zero, suc, ◌+◌, ◌*◌, cond, eqb, List, [], ◌∷◌, ◌++◌, false}
 use Rattle.run_events.specs.declared.key.Class.TheVariants.{Callback}
 use Rattle.marks.specs.declared.side.Side.TheVariants.{Replay}
-use Rattle.marks.specs.Ranges.{Range, range, within}
+use Rattle.marks.specs.declared.range.Range.{Range}
+use Rattle.marks.specs.Ranges.{range, within}
 use Rattle.marks.specs.Marks.{Call, Ret, Up, Enter, NoRegion, Made, Mark}
 use Rattle.marks.specs.Bytes.{Dead, Live, Byte}
 use Rattle.marks.specs.Wants.{Want, Outside, Enters, Calls, Below}

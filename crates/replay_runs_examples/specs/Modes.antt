@@ -2,7 +2,8 @@
 -- another thread has read.
 use Rattle.std.specs.Prelude.{ℕ, zero, suc, List, [], ◌∷◌, ◌++◌, Some, None, true, false}
 use Rattle.marks.specs.declared.fault.FaultKind.TheVariants.{ReadOnly}
-use Rattle.marks.specs.Ranges.{Piece, Range, range}
+use Rattle.marks.specs.declared.range.Range.{Range}
+use Rattle.marks.specs.Ranges.{Piece, range}
 use Rattle.marks.specs.Marks.{Writing, Up, Stop, Load, Enter, Step, Fault}
 use Rattle.marks.specs.Wants.{Outside, Loads, Stores, Enters, Calls, Below}
 use Rattle.marks.specs.Wants as wants

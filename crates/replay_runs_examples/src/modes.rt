@@ -3,7 +3,8 @@
 ghost use Rattle.std.specs.Prelude.{◌∷◌, [], List, None, true, ℕ};
 ghost use Rattle.marks.specs.declared.breach.BreachKind.TheVariants.{Mode};
 ghost use Rattle.marks.specs.declared.fault.FaultKind.TheVariants.{ReadOnly};
-ghost use Rattle.marks.specs.Ranges.{Piece, Range};
+ghost use Rattle.marks.specs.declared.range.Range.{Range};
+ghost use Rattle.marks.specs.Ranges.{Piece};
 ghost use Rattle.marks.specs.Wants.{Steps, Stores};
 ghost use Rattle.replay_runs.specs.Checks.{BreachFound, FaultFound, Finds, checks};
 ghost use Rattle.replay_runs.specs.Laws.{IsReplayRun, NoneLeft};

@@ -2,9 +2,9 @@
 use Rattle.std.proofs.Common.{◌≡◌, ℕ, suc, ◌+◌, ◌-◌, ◌<◌, cond, List, ◌∷◌, length, get_or, drop, Option, Some, ap, sym, ◌∙◌, inl, inr, arith}
 use Rattle.std.proofs.Math.Seq.{drop-cons}
 use Rattle.std.proofs.lemmas.Bool.{cond-true, cond-false}
-use Rattle.memory_map.specs.declared.range.Range.{Range}
+use Rattle.marks.specs.declared.range.Range.{Range}
+use Rattle.marks.specs.Ranges.{covers}
 use Rattle.memory_map.specs.declared.placed.Place.{Place}
-use Rattle.memory_map.specs.Ranges.{covers}
 use Rattle.space_memory_bytes.specs.Areas.{AreaState, byte_at}
 use Rattle.space_memory_bytes.specs.Numbers.{digit, SameOutside}
 use Rattle.space_memory.specs.Objects.{object_range, byte_of}

@@ -5,3 +5,4 @@ mod Placing
 mod Refused
 mod Returned
 mod Ends
+mod Rows

@@ -1,6 +1,6 @@
 -- Objects lie in the areas, and the fresh sides too.
 use Rattle.std.proofs.Common.{◌≡◌, ℕ, ◌+◌, ◌-◌, ◌*◌, ◌<◌, ◌≤◌, List, [], length, All, get_or, refl, inl, inr, subst, sym, arith}
-use Rattle.memory_map.specs.declared.range.Range.{Range}
+use Rattle.marks.specs.declared.range.Range.{Range}
 use Rattle.memory_map.specs.declared.placed.Place.{Place}
 use Rattle.memory_map.specs.declared.areas.TheConstants.{THREADS, CONSTANTS, GLOBALS_SIZE, STACK_SIZE, POOL_SIZE, REPLAY_GLOBALS, REPLAY_STACKS, REPLAY_POOL, SYSTEM_GLOBALS, SYSTEM_STACKS, SYSTEM_POOL}
 use Rattle.space_memory_bytes.specs.Areas.{LiesIn}

@@ -2,9 +2,9 @@
 use Rattle.std.specs.Prelude.{◌≡◌, ℕ, true, false, List, Some, None}
 use Rattle.marks.specs.declared.side.Side.{Side}
 use Rattle.marks.specs.declared.side.Side.TheVariants.{Replay, System}
-use Rattle.memory_map.specs.declared.range.Range.{Range}
+use Rattle.marks.specs.declared.range.Range.{Range}
+use Rattle.marks.specs.Ranges.{covers, IsLeastIn}
 use Rattle.memory_map.specs.declared.areas.TheConstants.{REPLAY_MEMORY, SYSTEM_MEMORY}
-use Rattle.memory_map.specs.Ranges.{covers, IsLeastIn}
 use Rattle.pool_list.specs.declared.block.Block.{Block}
 use Rattle.pool_list.specs.Blocks.{length_at}
 use Rattle.space_memory_access.specs.declared.holder.Region.{Region}

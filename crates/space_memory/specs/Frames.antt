@@ -1,8 +1,8 @@
 -- Entering and leaving frames, and setting the arguments of a frame.
 use Rattle.std.specs.Prelude.{◌≡◌, ℕ, ◌+◌, ◌-◌, List, ◌∷◌, Option, Some, if◌then◌else◌}
 use Rattle.marks.specs.declared.side.Side.{Side}
-use Rattle.memory_map.specs.declared.range.Range.{Range}
-use Rattle.memory_map.specs.Ranges.{covers, IsLeastIn}
+use Rattle.marks.specs.declared.range.Range.{Range}
+use Rattle.marks.specs.Ranges.{covers, IsLeastIn}
 use Rattle.space_memory_bytes.specs.Numbers.{digit}
 use Rattle.space_memory.specs.StackFrames.{StackState, end_of, IsFullFor}
 use Rattle.space_memory_access.specs.declared.holder.Region.{Region}

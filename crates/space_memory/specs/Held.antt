@@ -1,7 +1,7 @@
 -- What is held: the region of a range, and why a region isn't held.
 use Rattle.std.specs.Prelude.{◌≡◌, ◌≢◌, ◌⊎◌, ℕ, ◌==◌, Bool, true, false, if◌then◌else◌, List, [], ◌∷◌, ◌++◌, length, None}
 use Rattle.marks.specs.declared.side.Side.TheVariants.{Replay}
-use Rattle.memory_map.specs.declared.range.Range.{Range}
+use Rattle.marks.specs.declared.range.Range.{Range}
 use Rattle.space_memory_bytes.specs.Areas.{AreaState}
 use Rattle.space_memory_bytes.specs.Numbers.{HasBytes}
 use Rattle.space_memory_access.specs.declared.holder.OpenCall.{OpenCall}

@@ -1,9 +1,9 @@
 -- The objects that are placed before a run: globals and strings.
 use Rattle.std.specs.Prelude.{ℕ, ◌+◌, ◌-◌, ◌*◌, ◌≤◌, ◌<◌, ◌⊎◌, List, [], ◌∷◌, length, Option, Some, if◌then◌else◌, slice_index}
-use Rattle.memory_map.specs.declared.range.Range.{Range}
+use Rattle.marks.specs.declared.range.Range.{Range}
+use Rattle.marks.specs.Ranges.{covers}
 use Rattle.memory_map.specs.declared.placed.Place.{Place}
 use Rattle.memory_map.specs.declared.areas.TheConstants.{THREADS, CONSTANTS, GLOBALS_SIZE, STACK_SIZE, POOL_SIZE, REPLAY_GLOBALS, REPLAY_STACKS, REPLAY_POOL, SYSTEM_GLOBALS, SYSTEM_STACKS, SYSTEM_POOL}
-use Rattle.memory_map.specs.Ranges.{covers}
 
 -- the addresses of an object
 abbrev pub object_range : Place → Range

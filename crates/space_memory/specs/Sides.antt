@@ -1,7 +1,7 @@
 -- One side of memory: the stacks of its threads, and its pool.
 use Rattle.std.specs.Prelude.{ℕ, ◌+◌, ◌*◌, ◌-◌, ◌≤◌, List, [], map, length, slice_get, Option}
 use Rattle.std.specs.List.{range_with_len}
-use Rattle.memory_map.specs.declared.range.Range.{Range}
+use Rattle.marks.specs.declared.range.Range.{Range}
 use Rattle.memory_map.specs.declared.areas.TheConstants.{THREADS, STACK_SIZE, POOL_SIZE}
 use Rattle.space_memory.specs.StackFrames.{StackState, stack_of, with_frames}
 use Rattle.pool_list.specs.declared.block.Block.{Block}

@@ -1,6 +1,6 @@
 -- The frames of a stack, and the place of the next one.
 use Rattle.std.specs.Prelude.{ℕ, ◌+◌, ◌<◌, ◌≤◌, ◌⊎◌, List, [], ◌∷◌, length, All, slice_index_or, slice_set}
-use Rattle.memory_map.specs.declared.range.Range.{Range}
+use Rattle.marks.specs.declared.range.Range.{Range}
 use Rattle.memory_map.specs.declared.areas.TheConstants.{STACK_SIZE, FRAMES}
 
 -- a thread's stack: its first byte, and its frames, the innermost last

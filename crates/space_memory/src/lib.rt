@@ -5,10 +5,12 @@ mod cell;
 mod error;
 mod frames;
 mod objects;
+mod readers;
 mod regions;
 mod release;
 mod side_space;
 mod sides;
+mod slices;
 mod spaces;
 mod stack;
 

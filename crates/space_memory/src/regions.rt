@@ -1,6 +1,6 @@
 // The region of a range, as a call holds it.
 ghost use Rattle.std.specs.Prelude.{◌≡◌, ◌+◌, ◌^◌, ◌<◌, true, IfOk, IfSome};
-ghost use Rattle.memory_map.specs.Ranges.{IsFirstIn};
+ghost use Rattle.marks.specs.Ranges.{IsFirstIn};
 ghost use Rattle.space_memory_bytes.specs.Areas.{AllLive};
 ghost use Rattle.space_memory_access.specs.Accesses.{IsPendingTo};
 ghost use Rattle.space_memory.specs.Held.{region_range, holder_of, IsRegionOf};

@@ -1,5 +1,5 @@
 // The tests of what a return gives back.
-ghost use Rattle.std.specs.Prelude.{◌≡◌, ◌<◌, ◌≤◌, ◌+◌, ◌^◌, ◌↔◌, All, IsTrue, IsOk, IfErr, MatchOption, Err, length};
+ghost use Rattle.std.specs.Prelude.{◌≡◌, ◌<◌, ◌≤◌, ◌+◌, ◌^◌, ◌↔◌, All, IsTrue, IsOk, IfErr, IfSome, MatchOption, Err, length, option_map, slice_get};
 ghost use Rattle.space_memory_access.specs.declared.refusal.Refusal.{Refusal};
 ghost use Rattle.space_memory.specs.Spaces.{IsWhole};
 ghost use Rattle.space_memory.specs.Releases.{outs_of, committed_key, IsFilled, AllFilled, FirstUnfilled, AllReturned, HasKey, IsReleaseRefused};
@@ -72,8 +72,27 @@ fn first_unfilled(
     None
 }
 
-// Whether the used size is at most the region's, and the bytes past it are as they were when the region was held.
-fn is_filled(bytes: &LiveBytes, region: &Region, used: u64) -> bool
+/// The region at a place among those that the call holds to write, the oldest first.
+pub fn out_at(regions: &[Region], call: OpenCall, place: usize) -> Option<&Region>
+    requires whole { All IsWhole regions.now }
+    ensures region { option_map (λ r. r.now) result ≡ slice_get (outs_of call regions.now) place }
+    ensures len { IfSome result (λ r. length r.now.before ≡ r.now.range.len) }
+    ensures ends { IfSome result (λ r. r.now.range.addr + r.now.range.len < 2 ^ 64) }
+{
+    let mut left = place;
+    for region in regions {
+        if region.holder.is_out_of(call) {
+            if left == 0 {
+                return Some(region);
+            }
+            left -= 1;
+        }
+    }
+    None
+}
+
+/// Whether the used size is at most the region's, and the bytes past it are as they were when the region was held.
+pub fn is_filled(bytes: &LiveBytes, region: &Region, used: u64) -> bool
     requires len { length region.now.before ≡ region.now.range.len }
     requires ends { region.now.range.addr + region.now.range.len < 2 ^ 64 }
     ensures { IsTrue result ↔ IsFilled bytes.now used region.now }

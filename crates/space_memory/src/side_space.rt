@@ -1,5 +1,5 @@
 // One side of memory: the stacks of its threads, and its pool.
-ghost use Rattle.std.specs.Prelude.{◌≡◌, ◌+◌, ◌*◌, ◌%◌, ◌^◌, ◌<◌, ◌≤◌, ◌↔◌, ℕ, [], ◌∷◌, ◌++◌, length, IsNone, IsSome, IfSome, IfNone, IfOk};
+ghost use Rattle.std.specs.Prelude.{◌≡◌, ◌+◌, ◌*◌, ◌%◌, ◌^◌, ◌<◌, ◌≤◌, ◌↔◌, ℕ, [], ◌∷◌, ◌++◌, length, IsTrue, IsNone, IsSome, IfSome, IfNone, IfOk};
 ghost use Rattle.memory_map.specs.declared.areas.TheConstants.{THREADS, STACK_SIZE, POOL_SIZE};
 ghost use Rattle.space_memory.specs.StackFrames.{stack_of, next_frame, end_of, IsFullFor};
 ghost use Rattle.pool_list.specs.Blocks.{length_at, with_block, without_block};
@@ -46,6 +46,15 @@ impl SideSpace {
         }
         let pool = Pool::new(alloc, pool_from, POOL_SIZE)?;
         Ok(SideSpace { stacks, pool })
+    }
+
+    /// Whether a frame of the size doesn't fit on the thread's stack.
+    pub fn is_full(&self, thread: u8, size: u64) -> bool
+        requires { thread < THREADS }
+        ensures { IsTrue result ↔ IsFullFor (stack_of self.now.stacks thread) size }
+    {
+        let stack = &self.stacks[thread as usize];
+        stack.is_full(size)
     }
 
     /// A new frame of the thread; `None` where it doesn't fit.

@@ -1,16 +1,15 @@
 // The two memories of a run.
-ghost use Rattle.std.specs.Prelude.{◌≡◌, ◌⊎◌, ℕ, ◌+◌, ◌-◌, ◌*◌, ◌%◌, ◌^◌, ◌<◌, ◌≤◌, ◌↔◌, true, false, [], ◌∷◌, ◌++◌, All, EachIndex, IsTrue, length, map, replicate, option_map, slice_index, slice_set, Some, None, Ok, Err, IsOk, IsSomeAnd, IfOk, IfSome, IfNone, OnOk, OnErr};
-ghost use Rattle.std.specs.List.{range_with_len};
+ghost use Rattle.std.specs.Prelude.{◌≡◌, ◌⊎◌, ℕ, ◌+◌, ◌-◌, ◌^◌, ◌<◌, ◌≤◌, ◌↔◌, true, false, [], ◌∷◌, ◌++◌, All, IsTrue, length, replicate, slice_index, slice_set, Some, None, Ok, Err, IsOk, IsSomeAnd, IfOk, IfSome, IfNone, OnOk, OnErr};
 ghost use Rattle.marks.specs.declared.side.Side.TheVariants.{Replay};
 ghost use Rattle.memory_map.specs.declared.areas.TheConstants.{THREADS, REPLAY_STACKS, REPLAY_POOL, SYSTEM_STACKS, SYSTEM_POOL};
-ghost use Rattle.memory_map.specs.Ranges.{IsFirstIn};
+ghost use Rattle.marks.specs.Ranges.{IsFirstIn};
 ghost use Rattle.space_memory_bytes.specs.Areas.{byte_at, extents, LiesIn};
 ghost use Rattle.space_memory_bytes.specs.Numbers.{HasNumber, SameOutside, FillsWith};
 ghost use Rattle.space_memory.specs.StackFrames.{stack_of, end_of};
 ghost use Rattle.pool_list.specs.Blocks.{length_at, with_block, without_block};
 ghost use Rattle.pool_list.specs.Places.{IsPlace, IsLeastPlace};
 ghost use Rattle.space_memory_access.specs.declared.holder.Holder.TheVariants.{Key};
-ghost use Rattle.space_memory_access.specs.Held.{innermost, prepared_region, without_call, without_closed};
+ghost use Rattle.space_memory_access.specs.Held.{innermost, without_call, without_closed};
 ghost use Rattle.space_memory_access.specs.declared.refusal.Refusal.{Refusal};
 ghost use Rattle.space_memory_access.specs.Accesses.{IsAllowed, IsRefused, IsPendingTo};
 ghost use Rattle.space_memory.specs.declared.error.HoldError.TheVariants.{Refused};
@@ -20,14 +19,13 @@ ghost use Rattle.space_memory.specs.Objects.{IsInArea, byte_of};
 ghost use Rattle.space_memory.specs.Frames.{IsEnterRefused, IsLeaveRefused, with_args};
 ghost use Rattle.space_memory.specs.Held.{region_range, region_access, holder_of, AddsRegion, IsPrepareRefused};
 ghost use Rattle.space_memory.specs.Releases.{outs_of, committed_key, AllReturned, HasKey, IsReleaseRefused};
-ghost use Rattle.space_memory.specs.Blocks.{other_memory, IsFreeRefused};
-ghost use Rattle.space_memory.specs.Cells.{cell_at};
+ghost use Rattle.space_memory.specs.Blocks.{IsFreeRefused};
 
 use crate::frames::write_args;
 use crate::objects::{areas, end_of_constants, put_objects};
 use crate::regions::{first_pending, holder_of, region_of, region_range};
 use crate::release::{check_release, committed_key};
-use crate::{Cell, HoldError, Sides};
+use crate::{HoldError, Sides};
 use marks::Side;
 use memory_map::{Placed, REPLAY_MEMORY, Range, SYSTEM_MEMORY};
 use space_memory_access::{Access, Holder, Refusal, Regions, check_access, is_plain_word};
@@ -39,9 +37,9 @@ use std::marker::Model;
 /// the regions that open calls hold or that are prepared under a key.
 #[derive(Drop)]
 pub struct Spaces {
-    bytes: LiveBytes,
-    held: Regions,
-    sides: Sides,
+    pub(crate) bytes: LiveBytes,
+    pub(crate) held: Regions,
+    pub(crate) sides: Sides,
 }
 
 impl Model for Spaces {
@@ -300,21 +298,6 @@ impl Spaces {
         Ok(())
     }
 
-    /// The region that is prepared under the key; `None` where the key isn't in use.
-    pub fn prepared(&self, key: u64) -> Option<Range>
-        ensures { result ≡ option_map (λ r. r.range) (prepared_region self.now.held.regions key) }
-    {
-        let region = self.held.prepared(key)?;
-        Some(region.range)
-    }
-
-    /// The length of the side's live block that begins at the address.
-    pub fn block(&self, side: Side, addr: u64) -> Option<u64>
-        ensures { result ≡ length_at (side_of self.now.sides side).pool.blocks addr }
-    {
-        self.sides.of(side).block(addr)
-    }
-
     /// Makes `n` bytes of the side's pool live and zero, at the least place where they fit, and answers their address; `None`
     /// where they fit nowhere or `n` is 0.
     pub fn alloc_in(&mut self, side: Side, n: u64) -> Option<u64>
@@ -355,18 +338,6 @@ impl Spaces {
         Ok(len)
     }
 
-    /// The 16 bytes from the address on, which is a multiple of 16.
-    pub fn cells(&self, row: u64) -> [Cell; 16]
-        requires { row % 16 ≡ 0 }
-        ensures { result ≡ map (λ i. cell_at self.now (row + i)) (range_with_len 0 16) }
-    {
-        let mut cells = [Cell::Dead; 16];
-        for i in 0..16 {
-            cells[i] = self.cell(row + i as u64);
-        }
-        cells
-    }
-
     // Whether an access of code of the side is one that passes each test, as far as a glance shows it.
     #[inline(always)]
     fn is_plain(&self, side: Side, thread: u8, range: Range, write: bool) -> bool
@@ -386,7 +357,13 @@ impl Spaces {
 
     // Tests an access of code of the side: the first test that fails refuses it, at its least byte.
     #[inline(never)]
-    fn check(&self, side: Side, thread: u8, range: Range, write: bool) -> Result<(), Refusal>
+    pub(crate) fn check(
+        &self,
+        side: Side,
+        thread: u8,
+        range: Range,
+        write: bool,
+    ) -> Result<(), Refusal>
         ensures allowed { IsOk result ↔ IsAllowed self.now.bytes self.now.held.regions (record { side = side; thread = thread; range = range; write = write }) }
         ensures refused { (r : Refusal) → (result ≡ Err r) ↔ IsRefused self.now.bytes self.now.held.regions (record { side = side; thread = thread; range = range; write = write }) r }
         ensures ends { IfOk result (λ _. range.addr + range.len < 2 ^ 64) }
@@ -399,19 +376,6 @@ impl Spaces {
             write,
         };
         check_access(&self.bytes, &self.held, access)
-    }
-
-    // The byte at the address.
-    fn cell(&self, addr: u64) -> Cell
-        requires { addr < 2 ^ 64 }
-        ensures { result ≡ cell_at self.now addr }
-    {
-        let pending = self.held.first_pending(Range { addr, len: 1 }).is_some();
-        match self.bytes.get(addr) {
-            None => Cell::Dead,
-            Some(_) if pending => Cell::Pending,
-            Some(byte) => Cell::Byte(byte),
-        }
     }
 
     // The least byte of the thread's innermost frame on the side that its code may not touch.

@@ -1,5 +1,5 @@
 // One thread's stack.
-ghost use Rattle.std.specs.Prelude.{◌≡◌, ℕ, ◌+◌, ◌-◌, ◌^◌, ◌<◌, ◌≤◌, ◌↔◌, [], ◌∷◌, ◌++◌, length, slice_get, IsNone, IfSome, IfNone, IfOk, option_map};
+ghost use Rattle.std.specs.Prelude.{◌≡◌, ℕ, ◌+◌, ◌-◌, ◌^◌, ◌<◌, ◌≤◌, ◌↔◌, [], ◌∷◌, ◌++◌, length, slice_get, IsTrue, IsNone, IfSome, IfNone, IfOk, option_map};
 ghost use Rattle.space_memory.specs.StackFrames.{end_of, next_frame, IsFullFor, LieInStack};
 
 use memory_map::{FRAMES, Range, STACK_SIZE};
@@ -36,6 +36,13 @@ impl Stack {
         Ok(Stack { base, frames })
     }
 
+    /// Whether a frame of the size doesn't fit.
+    pub fn is_full(&self, size: u64) -> bool
+        ensures { IsTrue result ↔ IsFullFor self.now size }
+    {
+        self.frames.len() == FRAMES || self.base + STACK_SIZE - self.end() < size
+    }
+
     /// A new frame; `None` where it doesn't fit.
     pub fn enter(&mut self, size: u64) -> Option<Range>
         ensures full { IsNone result ↔ IsFullFor self.old size }
@@ -44,10 +51,10 @@ impl Stack {
         ensures in_stack { LieInStack self.new }
         ensures unchanged { IfNone result (self.new ≡ self.old) }
     {
-        let addr = self.end();
-        if self.frames.len() == FRAMES || self.base + STACK_SIZE - addr < size {
+        if self.is_full(size) {
             return None;
         }
+        let addr = self.end();
         let frame = Range { addr, len: size };
         match self.frames.push(frame) {
             Ok(()) => Some(frame),

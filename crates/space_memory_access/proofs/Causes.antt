@@ -1,7 +1,7 @@
 -- An access is refused for one cause, and only if it isn't allowed.
 use Rattle.std.proofs.Common.{◌≡◌, ℕ, ◌≤◌, ◌↔◌, true, false, List, Result, Ok, Err, ap, subst, arith}
-use Rattle.memory_map.specs.declared.range.Range.{Range}
-use Rattle.memory_map.specs.Ranges.{NoneIn, IsLeastIn}
+use Rattle.marks.specs.declared.range.Range.{Range}
+use Rattle.marks.specs.Ranges.{NoneIn, IsLeastIn}
 use Rattle.space_memory_bytes.specs.Areas.{AreaState}
 use Rattle.space_memory_access.specs.declared.holder.Region.{Region}
 use Rattle.space_memory_access.specs.declared.access.Access.{Access}

@@ -3,7 +3,7 @@ use Rattle.std.specs.Prelude.{◌≡◌, ℕ, ◌+◌, ◌<◌, ◌≤◌, Bool,
 use Rattle.marks.specs.declared.side.Side.{Side}
 use Rattle.marks.specs.declared.side.Side.TheVariants.{Replay, System}
 use Rattle.memory_map.specs.declared.areas.TheConstants.{CONSTANTS, REPLAY_MEMORY, SYSTEM_MEMORY}
-use Rattle.memory_map.specs.Ranges.{IsInRange, NoneIn, IsLeastIn}
+use Rattle.marks.specs.Ranges.{IsInRange, NoneIn, IsLeastIn}
 use Rattle.space_memory_bytes.specs.Areas.{AreaState, IsDead, AllLive}
 use Rattle.space_memory_access.specs.declared.holder.Region.{Region}
 use Rattle.space_memory_access.specs.Held.{IsPending, IsServed}
@@ -56,11 +56,11 @@ IsRefused bytes regions a (KeyInUse x) = ⊥
 IsRefused bytes regions a (NoKey x) = ⊥
 IsRefused bytes regions a (Size x) = ⊥
 
--- replay code touches eight live bytes of its own memory, other than the last eight, and no region is held
+-- replay code touches eight live bytes of its own memory, other than the last eight, and none is pending
 pub record IsPlainWord (bytes : List AreaState) (regions : List Region) (a : Access) : Type 0 where
   pub by : a.side ≡ Replay
   pub word : a.range.len ≡ 8
   pub from : REPLAY_MEMORY.addr ≤ a.range.addr
   pub to : a.range.addr + 8 < REPLAY_MEMORY.addr + REPLAY_MEMORY.len
-  pub idle : regions ≡ []
   pub live : AllLive bytes a.range.addr 8
+  pub free : NoneIn a.range (IsPending regions)

@@ -1,6 +1,6 @@
 // The tests of one access, in their order.
 ghost use Rattle.std.specs.Prelude.{◌≡◌, ◌+◌, ◌^◌, ◌<◌, ◌≤◌, ◌↔◌, IsTrue, IsOk, IfOk, Err};
-ghost use Rattle.memory_map.specs.Ranges.{IsFirstIn};
+ghost use Rattle.marks.specs.Ranges.{IsFirstIn};
 ghost use Rattle.space_memory_bytes.specs.Areas.{extents, LiesIn};
 ghost use Rattle.space_memory_access.specs.declared.refusal.Refusal.{Refusal};
 ghost use Rattle.space_memory_access.specs.Accesses.{IsForeign, IsWithoutRight, IsPendingTo, IsConstantTo, IsAllowed, IsRefused, IsPlainWord};
@@ -35,8 +35,8 @@ pub fn check_access(bytes: &LiveBytes, held: &Regions, access: Access) -> Result
     check_each(bytes, held, access)
 }
 
-/// Whether replay code accesses eight live bytes of its own memory, other than the last eight, while no region is held: then
-/// no test can fail.
+/// Whether replay code accesses eight live bytes of its own memory, other than the last eight, none of which waits for what is
+/// below the cut: then no test can fail.
 #[inline(always)]
 pub fn is_plain_word(bytes: &LiveBytes, held: &Regions, access: Access) -> bool
     ensures allowed { IsTrue result → IsAllowed bytes.now held.now.regions access }
@@ -50,8 +50,8 @@ pub fn is_plain_word(bytes: &LiveBytes, held: &Regions, access: Access) -> bool
         && range.len == 8
         && range.addr >= REPLAY_MEMORY.addr
         && range.addr < REPLAY_MEMORY.addr + REPLAY_MEMORY.len - 8
-        && held.as_slice().is_empty()
         && bytes.is_live_word(range.addr)
+        && held.is_free(range)
 }
 
 // The four tests one after another, each over the whole range.

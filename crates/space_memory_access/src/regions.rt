@@ -1,6 +1,6 @@
 // The regions, in the order in which they were held.
 ghost use Rattle.std.specs.Prelude.{◌≡◌, ℕ, ◌+◌, ◌-◌, ◌^◌, ◌<◌, ◌≤◌, ◌↔◌, [], ◌∷◌, ◌++◌, length, map, replicate, IsTrue, IfOk, OnOk, OnErr, slice_index, slice_set, option_map};
-ghost use Rattle.memory_map.specs.Ranges.{IsFirstIn};
+ghost use Rattle.marks.specs.Ranges.{IsFirstIn, NoneIn};
 ghost use Rattle.memory_map.specs.declared.areas.TheConstants.{THREADS};
 ghost use Rattle.space_memory_access.specs.declared.holder.Region.{Region};
 ghost use Rattle.space_memory_access.specs.Held.{innermost, IsPending, IsServed, prepared_region, without_call, without_closed, disown, earlier};
@@ -91,6 +91,14 @@ impl Regions {
             }
         }
         first
+    }
+
+    /// Whether no byte of the range lies in a region that replay code may not touch.
+    #[inline(always)]
+    pub fn is_free(&self, range: Range) -> bool
+        ensures { IsTrue result ↔ NoneIn range (IsPending self.now.regions) }
+    {
+        self.regions.is_empty() || self.first_pending(range).is_none()
     }
 
     /// Whether system code of the thread may read the byte at the address, or write it, while it lives.

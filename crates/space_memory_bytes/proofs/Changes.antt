@@ -2,8 +2,8 @@
 use Rattle.std.proofs.Common.{◌≡◌, ℕ, ◌+◌, ◌-◌, ◌^◌, ◌<◌, ◌≤◌, ◌⊎◌, true, false, List, [], length, get_or, set, Option, Some, None, IfNone, All, refl, ap, sym, ◌∙◌, subst, inl, inr, arith, length-set, get_or-set_same}
 use Rattle.std.proofs.lemmas.Bool.{cases_lt, cases_order, cases_Bool, cond-true, cond-false, both_ways}
 use Rattle.std.proofs.lemmas.List.{length-map, get_or-map}
-use Rattle.memory_map.specs.declared.range.Range.{Range}
-use Rattle.memory_map.specs.Ranges.{NoneIn, IsFirstIn, covers}
+use Rattle.marks.specs.declared.range.Range.{Range}
+use Rattle.marks.specs.Ranges.{NoneIn, IsFirstIn, covers}
 use Rattle.space_memory_bytes.specs.Areas.{AreaState, holds, cell, byte_at, extent, extents, RiseFrom, LiesIn, IsHolder, IsDead, AllLive}
 use Rattle.space_memory_bytes.specs.Numbers.{digit, HasNumber, SameOutside, FillsWith}
 use Rattle.space_memory_bytes.specs.AreaChanges.{IsDeadIn, SameExtent, FillsArea, WritesArea}

@@ -2,3 +2,4 @@ mod Cells
 mod Lookup
 mod Changes
 mod Marks
+mod Nexts

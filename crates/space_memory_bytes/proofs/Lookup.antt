@@ -2,7 +2,7 @@
 use Rattle.std.proofs.Common.{◌≡◌, ℕ, zero, suc, ◌+◌, ◌-◌, ◌^◌, ◌<◌, ◌≤◌, true, false, cond, ltb, leb, List, [], ◌∷◌, ◌++◌, length, take, replicate, get_or, set, Option, None, refl, ap, sym, ◌∙◌, inl, inr, arith}
 use Rattle.std.proofs.lemmas.Bool.{cases_lt, lt-ltb, le-ltb, le-leb, lt-leb, leb-true, ltb-true, cond-true, cond-false, cond_both, cases_Bool, and_from, and_left, and_right, and_parts}
 use Rattle.std.proofs.lemmas.List.{get_or-replicate, get_or_past, length-replicate, map-append, take_more}
-use Rattle.memory_map.specs.declared.range.Range.{Range}
+use Rattle.marks.specs.declared.range.Range.{Range}
 use Rattle.space_memory_bytes.specs.Areas.{AreaState, holds, cell, byte_at, extent, extents, RiseFrom}
 
 -- an area holds an address exactly where it lies in it
@@ -123,3 +123,15 @@ extents_push ranges areas a at d lt so_far same =
 -- a range's area of dead bytes has the range's addresses
 pub extent_dead : (r : Range) → extent (record { base = r.addr; cells = replicate r.len None }) ≡ r
 extent_dead r = ap (λ n. let q : Range = record { addr = r.addr; len = n } in q) (length-replicate {A = Option ℕ} r.len None)
+
+-- a live byte is some area's
+pub live_held : (areas : List AreaState) (x : ℕ) (d : AreaState) → (byte_at areas x ≡ None → ⊥) → (at : ℕ) × (at < length areas) × (holds (get_or areas at d) x ≡ true) × (byte_at areas x ≡ cell (get_or areas at d) x)
+unfolding byte_at
+live_held [] x d live = absurd (live refl)
+live_held (a ∷ rest) x d live = elim (cases_Bool (holds a x)) [
+  | inl here ↦ (0, omega arith, here, cond-true (holds a x) (cell a x) (byte_at rest x) here)
+  | inr out ↦
+      let skip : byte_at (a ∷ rest) x ≡ byte_at rest x = cond-false (holds a x) (cell a x) (byte_at rest x) out in
+      let found = live_held rest x d (λ none. live (skip ∙ none)) in
+      (suc found.0, omega (arith, found.1), found.2, skip ∙ found.3)
+]

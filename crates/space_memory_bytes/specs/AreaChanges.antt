@@ -1,13 +1,17 @@
 -- What a change of one area leaves.
-use Rattle.std.specs.Prelude.{◌≡◌, ◌≢◌, ℕ, ◌+◌, ◌-◌, ◌<◌, ◌≤◌, Option, Some, None, if◌then◌else◌, length}
-use Rattle.memory_map.specs.declared.range.Range.{Range}
+use Rattle.std.specs.Prelude.{◌≡◌, ◌≢◌, ℕ, ◌+◌, ◌-◌, ◌<◌, ◌≤◌, true, Option, Some, None, if◌then◌else◌, length}
+use Rattle.marks.specs.declared.range.Range.{Range}
+use Rattle.marks.specs.Ranges.{covers}
 use Rattle.space_memory_bytes.specs.Areas.{AreaState, holds, cell}
-use Rattle.memory_map.specs.Ranges.{covers}
 use Rattle.space_memory_bytes.specs.Numbers.{digit}
 
 -- the byte at the address is dead in the area, or none of it
 abbrev pub IsDeadIn : AreaState → ℕ → Type 0
 IsDeadIn a x = (if holds a x then cell a x else None) ≡ None
+
+-- the byte at the address is the area's, and live
+abbrev pub IsLiveIn : AreaState → ℕ → Type 0
+IsLiveIn a x = (holds a x ≡ true) × (cell a x ≢ None)
 
 -- the n bytes from the address on are the area's, and each is live
 pub record IsLiveRun (a : AreaState) (addr n : ℕ) : Type 0 where

@@ -1,7 +1,7 @@
 -- Areas of memory, and which of their bytes are live.
 use Rattle.std.specs.Prelude.{◌≡◌, ℕ, ◌+◌, ◌-◌, ◌^◌, ◌<◌, ◌≤◌, Bool, true, ◌&&◌, List, [], ◌∷◌, length, map, Option, None, if◌then◌else◌, nat_lt, nat_le, slice_index_or, Any}
 use Rattle.std.specs.List.{HoldsAt}
-use Rattle.memory_map.specs.declared.range.Range.{Range}
+use Rattle.marks.specs.declared.range.Range.{Range}
 
 -- an area: its first address, and its bytes from there on, None where a byte is dead
 pub record AreaState : Type 0 where

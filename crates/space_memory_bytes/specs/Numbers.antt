@@ -1,7 +1,7 @@
 -- Numbers in memory, low byte first, and what a change of memory leaves.
 use Rattle.std.specs.Prelude.{◌≡◌, ℕ, ◌+◌, ◌/◌, ◌%◌, ◌^◌, ◌<◌, true, false, List, Option, Some, length, slice_index}
-use Rattle.memory_map.specs.declared.range.Range.{Range}
-use Rattle.memory_map.specs.Ranges.{covers}
+use Rattle.marks.specs.declared.range.Range.{Range}
+use Rattle.marks.specs.Ranges.{covers}
 use Rattle.space_memory_bytes.specs.Areas.{AreaState, byte_at, extents}
 
 -- byte number i of a number, from the low one on

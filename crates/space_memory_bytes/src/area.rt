@@ -1,9 +1,10 @@
 // One area: the bytes from a first address on.
 ghost use Rattle.std.specs.Prelude.{◌≡◌, ℕ, ◌+◌, ◌-◌, ◌^◌, ◌<◌, ◌≤◌, ◌↔◌, IsTrue, IfOk, None, Some, replicate, length, ◌≢◌};
-ghost use Rattle.memory_map.specs.Ranges.{IsFirstIn};
+ghost use Rattle.marks.specs.Ranges.{IsFirstIn};
 ghost use Rattle.space_memory_bytes.specs.Areas.{holds, cell};
 ghost use Rattle.space_memory_bytes.specs.Numbers.{digit};
-ghost use Rattle.space_memory_bytes.specs.AreaChanges.{IsDeadIn, IsLiveRun, FillsArea, WritesArea};
+ghost use Rattle.space_memory_bytes.specs.Nexts.{IsNextOf};
+ghost use Rattle.space_memory_bytes.specs.AreaChanges.{IsDeadIn, IsLiveIn, IsLiveRun, FillsArea, WritesArea};
 
 use crate::marked_bytes::MarkedBytes;
 use memory_map::Range;
@@ -72,6 +73,18 @@ impl Area {
             addr += 1;
         }
         None
+    }
+
+    /// The least address from one on whose byte is the area's, and live.
+    pub fn first_live(&self, from: u64) -> Option<u64>
+        ensures { IsNextOf (IsLiveIn self.now) from result }
+    {
+        let first = from.saturating_sub(self.base) as usize;
+        if first > self.cells.len() {
+            return None;
+        }
+        let at = self.cells.first_live(first)?;
+        Some(self.base + at as u64)
     }
 
     /// Whether each of the eight bytes from the address on is one of the area's, and live.

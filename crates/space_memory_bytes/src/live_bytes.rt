@@ -1,7 +1,8 @@
 // The bytes of a few areas.
 ghost use Rattle.std.specs.Prelude.{◌≡◌, ℕ, ◌+◌, ◌^◌, ◌<◌, ◌≤◌, ◌↔◌, false, All, IsTrue, IfOk, IfSome, IfNone, None, Some, length};
-ghost use Rattle.memory_map.specs.Ranges.{IsFirstIn};
+ghost use Rattle.marks.specs.Ranges.{IsFirstIn};
 ghost use Rattle.space_memory_bytes.specs.Areas.{byte_at, extents, holds, RiseFrom, LiesIn, IsHolder, IsDead, AllLive};
+ghost use Rattle.space_memory_bytes.specs.Nexts.{IsNextOf};
 ghost use Rattle.space_memory_bytes.specs.Numbers.{HasNumber, HasBytes, FillsWith, SameOutside};
 
 use crate::area::Area;
@@ -64,6 +65,18 @@ impl LiveBytes {
         };
         let area = &self.areas[at];
         area.first_dead(range)
+    }
+
+    /// The least address from one on whose byte is live.
+    pub fn first_live(&self, from: u64) -> Option<u64>
+        ensures { IsNextOf (λ x. ¬ IsDead self.now x) from result }
+    {
+        for area in &self.areas {
+            if let Some(addr) = area.first_live(from) {
+                return Some(addr);
+            }
+        }
+        None
     }
 
     /// Whether each of the eight bytes from the address on is live.

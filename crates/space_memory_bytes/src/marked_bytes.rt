@@ -1,9 +1,11 @@
 // The bytes of an area.
 ghost use Rattle.std.specs.Prelude.{◌≡◌, ◌≢◌, ℕ, ◌+◌, ◌-◌, ◌<◌, ◌≤◌, ◌↔◌, IsTrue, IfOk, None, Some, replicate, length, slice_index, slice_index_or, slice_set, if◌then◌else◌};
-ghost use Rattle.memory_map.specs.Ranges.{covers};
+ghost use Rattle.memchr.specs.Find.{IsFirst};
+ghost use Rattle.marks.specs.Ranges.{covers};
 ghost use Rattle.space_memory_bytes.specs.Numbers.{digit};
 ghost use Rattle.space_memory_bytes.specs.Marks.{marked, WritesWord};
 
+use memchr::memchr;
 use std::alloc::{AllocError, Global};
 use std::marker::Model;
 
@@ -72,6 +74,15 @@ impl MarkedBytes {
         let (mark, value) = mark_of(byte);
         self.marks[at] = mark;
         self.values[at] = value;
+    }
+
+    /// The first place from the given one on whose byte is live.
+    pub fn first_live(&self, from: usize) -> Option<usize>
+        requires { from ≤ length self.now }
+        ensures { IsFirst (λ k. slice_index_or self.now k None ≢ None) from (length self.now) result }
+    {
+        let at = memchr(1, &self.marks[from..])?;
+        Some(from + at)
     }
 
     /// Whether each of the eight bytes from a place on is live.

@@ -3,12 +3,11 @@ use Rattle.std.proofs.Common.{◌≡◌, ℕ, ◌+◌, ◌-◌, ◌^◌, ◌<◌
 use Rattle.std.proofs.lemmas.Bool.{cond-true, cond-false}
 use Rattle.marks.specs.declared.side.Side.TheVariants.{Replay}
 use Rattle.marks.specs.Places.{is_system}
-use Rattle.marks.specs.Ranges.{bytes_of_number, within}
+use Rattle.marks.specs.declared.range.Range.{Range}
+use Rattle.marks.specs.Ranges.{bytes_of_number, within, covers}
 use Rattle.marks.specs.Ranges as marks
 use Rattle.marks.specs.Marks.{Load, Store, Mark}
 use Rattle.marks.specs.Bytes.{Live, IsLive, cell_after, block_after, Asks}
-use Rattle.memory_map.specs.declared.range.Range.{Range}
-use Rattle.memory_map.specs.Ranges.{covers}
 use Rattle.space_memory_bytes.specs.Areas.{AreaState, byte_at, IsDead}
 use Rattle.space_memory_bytes.specs.Numbers.{HasNumber, SameOutside}
 use Rattle.space_memory_access.specs.declared.access.Access.{Access}

@@ -7,13 +7,12 @@ use Rattle.std.proofs.lemmas.List.{length-set}
 use Rattle.std.proofs.lemmas.List.Elements.{All-append, All-head, All-tail, All-cons, All-nil}
 use Rattle.marks.specs.declared.side.Side.TheVariants.{Replay, System}
 use Rattle.marks.specs.Places.{thread_count, stack, stack_size, constants, replay_globals, replay_end, replay_pool, system_globals, system_end, pool_size, is_constant, is_replay, is_system}
-use Rattle.marks.specs.Ranges.{range}
+use Rattle.marks.specs.declared.range.Range.{Range}
+use Rattle.marks.specs.Ranges.{range, covers}
 use Rattle.marks.specs.Marks.{Mark}
-use Rattle.memory_map.specs.declared.range.Range.{Range}
 use Rattle.memory_map.specs.declared.areas.TheConstants.{STACK_SIZE}
-use Rattle.memory_map.specs.Ranges.{covers}
 use Rattle.space_memory_bytes.specs.Areas.{byte_at, IsDead}
-use Rattle.space_memory_bytes.specs.Numbers.{HasNumber, SameOutside, FillsWith}
+use Rattle.space_memory_bytes.specs.Numbers.{SameOutside, FillsWith}
 use Rattle.space_memory.specs.StackFrames.{StackState, stack_of, end_of, LieInStack}
 use Rattle.pool_list.specs.declared.block.Block.{Block}
 use Rattle.pool_list.specs.Blocks.{length_at, with_block, without_block, LieBetween}
@@ -32,10 +31,11 @@ use Rattle.space_memory.specs.declared.sides.Sides.{Sides}
 use Rattle.space_memory.specs.Sides.{SideState, frames_of, top_of, with_thread, with_blocks}
 use Rattle.space_memory.specs.Spaces.{SpaceState, with_side}
 use Rattle.space_memory.specs.Frames.{IsEnterRefused, with_args}
-use Rattle.space_memory_laws.specs.Shown.{memory_range, value_when_held, cell_of}
+use Rattle.space_memory_laws.specs.Shown.{value_when_held, cell_of}
 use Rattle.space_memory_laws.specs.Held.{AreHeld}
 use Rattle.space_memory_laws.specs.Sound.{IsBelow, IsSound}
 use Rattle.space_memory_laws.specs.StandsFor.{HoldsFor, StandsFor}
+use Rattle.space_memory_laws.specs.Below.{StoresBelowAreUnseen, WritesBelowAreUnseen}
 use Rattle.space_memory_laws.proofs.Cells.{cover_cases, cover_parts, held_by, live_ends, below_system, dead_as}
 use Rattle.space_memory_laws.proofs.Access.{some_live}
 use Rattle.space_memory_laws.proofs.Blocks.{lie_with_block, lie_without, begins_from}
@@ -74,9 +74,9 @@ module _ (s : Start) (past : List Mark) (old new : SpaceState) (h : StandsFor s 
     below = k.below;
     held = subst AreHeld (sym k.held) h.sound.held;
     stacked = h.sound.stacked;
-    frames_live = λ t lt x is. k.lives x (below_system x (let p = cover_parts (memory_range (range (stack Replay t) stack_size)) x is in omega (arith, p.1, lt))) ∙ h.sound.frames_live t lt x is;
+    frames_live = λ t lt x is. k.lives x (below_system x (let p = cover_parts (range (stack Replay t) stack_size) x is in omega (arith, p.1, lt))) ∙ h.sound.frames_live t lt x is;
     laid_out = h.sound.laid_out;
-    blocks_live = λ x is. k.lives x (below_system x (let p = cover_parts (memory_range (range replay_pool pool_size)) x is in omega (arith, p.1))) ∙ h.sound.blocks_live x is;
+    blocks_live = λ x is. k.lives x (below_system x (let p = cover_parts (range replay_pool pool_size) x is in omega (arith, p.1))) ∙ h.sound.blocks_live x is;
   }
 
   unseen : StandsFor s past new
@@ -112,7 +112,7 @@ held_alike None b v live live' = absurd (true≢false (sym live))
 held_alike (Some x) None v live live' = absurd (true≢false (sym live'))
 held_alike (Some x) (Some y) v live live' = refl
 
-module _ (s : Start) (past : List Mark) (old new : SpaceState) (thread addr width value : ℕ) (h : StandsFor s past old) (small : addr < 2 ^ 64) (has : HasNumber new.bytes addr width value) (same : SameOutside (record { addr = addr; len = width }) old.bytes new.bytes) (rest : new ≡ record old { bytes = new.bytes }) (ok : IsAllowed old.bytes old.held.regions (record { side = System; thread = thread; range = record { addr = addr; len = width }; write = true })) where
+module _ (s : Start) (past : List Mark) (old new : SpaceState) (thread addr width : ℕ) (h : StandsFor s past old) (small : addr < 2 ^ 64) (lives : (i : ℕ) → i < width → is_some (byte_at new.bytes (addr + i)) ≡ true) (same : SameOutside (record { addr = addr; len = width }) old.bytes new.bytes) (rest : new ≡ record old { bytes = new.bytes }) (ok : IsAllowed old.bytes old.held.regions (record { side = System; thread = thread; range = record { addr = addr; len = width }; write = true })) where
   abbrev r : Range
   r = record { addr = addr; len = width }
 
@@ -126,7 +126,7 @@ module _ (s : Start) (past : List Mark) (old new : SpaceState) (thread addr widt
   is_live x c =
       let p = cover_parts r x c in
       let at : addr + (x - addr) ≡ x = omega (arith, p.0) in
-      ap is_some (ap (byte_at new.bytes) (sym at) ∙ has (x - addr) (omega (arith, p.0, p.1)))
+      ap is_some (ap (byte_at new.bytes) (sym at)) ∙ lives (x - addr) (omega (arith, p.0, p.1))
 
   -- a byte above the cut that is written waits
   waits : (x : ℕ) → covers r x ≡ true → is_system x ≡ false → IsPending old.held.regions x
@@ -152,8 +152,8 @@ module _ (s : Start) (past : List Mark) (old new : SpaceState) (thread addr widt
             ]
       ]
 
-  pub stored : StandsFor s past new
-  stored = unseen s past old new h (record {
+  changed : StandsFor s past new
+  changed = unseen s past old new h (record {
     held = ap (λ (q : SpaceState). q.held) rest;
     side = ap (λ (q : SpaceState). q.sides.replay) rest;
     cells = λ x own. elim (cover_cases r x) [
@@ -168,6 +168,12 @@ module _ (s : Start) (past : List Mark) (old new : SpaceState) (thread addr widt
     ];
     below = subst IsBelow (ap (λ (q : SpaceState). q.sides.system) (sym rest)) h.sound.below;
   })
+
+pub stored : StoresBelowAreUnseen
+stored s past old new thread addr width value h small has same rest ok = changed s past old new thread addr width h small (λ i lt. ap is_some (has i lt)) same rest ok
+
+pub written : WritesBelowAreUnseen
+written s past old new thread addr bytes h small has same rest ok = changed s past old new thread addr (length bytes) h small (λ i lt. ap is_some (has i lt)) same rest ok
 
 -- a change of bytes of system memory alone
 only_system : (s : Start) (past : List Mark) (old new : SpaceState) (r : Range) → StandsFor s past old → new.held ≡ old.held → new.sides.replay ≡ old.sides.replay → IsBelow new.sides.system → ((x : ℕ) → covers r x ≡ false → byte_at new.bytes x ≡ byte_at old.bytes x) → system_globals ≤ r.addr → r.addr + r.len ≤ system_end → StandsFor s past new

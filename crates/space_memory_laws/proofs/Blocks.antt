@@ -2,10 +2,8 @@
 use Rattle.std.proofs.Common.{◌≡◌, ℕ, ◌+◌, ◌%◌, ◌<◌, ◌≤◌, Bool, true, false, not, cond, ◌||◌, eqb, ltb, List, [], ◌∷◌, Option, Some, None, All, inl, inr, refl, ap, sym, ◌∙◌, subst, arith, eqb-true}
 use Rattle.std.proofs.lemmas.Bool.{lt-ltb, le-ltb, eq-eqb, ne_eqb, cases_lt, cases_eq, cond-true, cond-false, true≢false}
 use Rattle.std.proofs.lemmas.List.Elements.{All-nil, All-cons, All-head, All-tail}
-use Rattle.marks.specs.Ranges.{range, in_range, any_range}
-use Rattle.marks.specs.Ranges as marks
-use Rattle.memory_map.specs.declared.range.Range.{Range}
-use Rattle.memory_map.specs.Ranges.{covers}
+use Rattle.marks.specs.declared.range.Range.{Range}
+use Rattle.marks.specs.Ranges.{covers, any_range}
 use Rattle.pool_list.specs.declared.block.Block.{Block}
 use Rattle.pool_list.specs.Blocks.{LieBetween, end_of, length_at, with_block, without_block}
 use Rattle.pool_list.specs.Places.{Misses}
@@ -17,8 +15,8 @@ use Rattle.space_memory_laws.proofs.Cells.{cover_cases}
 abbrev pub block_range : Block → Range
 block_range b = record { addr = b.addr; len = b.len }
 
-abbrev pub block_of : marks.Range → Block
-block_of r = record { addr = r.at; len = r.size }
+abbrev pub block_of : Range → Block
+block_of r = record { addr = r.addr; len = r.len }
 
 -- a bound below serves as well
 lie_wider : (from wider to : ℕ) (bs : List Block) → wider ≤ from → LieBetween from to bs → LieBetween wider to bs
@@ -122,21 +120,21 @@ without_old from to (b ∷ bs) new addr lie ne = elim (cases_lt new.addr b.addr)
 ]
 
 -- a list of a run and the list by address lose the same block
-pub by_address_without : (from to : ℕ) (bs : List marks.Range) (at : ℕ) → LieBetween from to (by_address bs) → by_address (without at bs) ≡ without_block (by_address bs) at
+pub by_address_without : (from to : ℕ) (bs : List Range) (at : ℕ) → LieBetween from to (by_address bs) → by_address (without at bs) ≡ without_block (by_address bs) at
 by_address_without from to [] at lie = refl
 by_address_without from to (b ∷ bs) at lie =
     let rest = by_address_without from to bs at (lie_less from to (by_address bs) (block_of b) lie) in
-    elim (cases_eq b.at at) [
-      | inl e ↦ ap by_address (cond-true (eqb b.at at) bs (b ∷ without at bs) (eq-eqb b.at at e)) ∙ sym (without_new from to (by_address bs) (block_of b) at lie e)
-      | inr ne ↦ ap by_address (cond-false (eqb b.at at) bs (b ∷ without at bs) (ne_eqb b.at at ne)) ∙ ap (λ l. with_block l (block_of b)) rest ∙ sym (without_old from to (by_address bs) (block_of b) at lie ne)
+    elim (cases_eq b.addr at) [
+      | inl e ↦ ap by_address (cond-true (eqb b.addr at) bs (b ∷ without at bs) (eq-eqb b.addr at e)) ∙ sym (without_new from to (by_address bs) (block_of b) at lie e)
+      | inr ne ↦ ap by_address (cond-false (eqb b.addr at) bs (b ∷ without at bs) (ne_eqb b.addr at ne)) ∙ ap (λ l. with_block l (block_of b)) rest ∙ sym (without_old from to (by_address bs) (block_of b) at lie ne)
     ]
 
 -- nothing is taken out where no block can begin
-pub nothing_without : (from to : ℕ) (bs : List marks.Range) (at : ℕ) → LieBetween from to (by_address bs) → at < from → without at bs ≡ bs
+pub nothing_without : (from to : ℕ) (bs : List Range) (at : ℕ) → LieBetween from to (by_address bs) → at < from → without at bs ≡ bs
 nothing_without from to [] at lie lt = refl
 nothing_without from to (b ∷ bs) at lie lt =
     let new = lie_new from to (by_address bs) (block_of b) lie in
-    cond-false (eqb b.at at) bs (b ∷ without at bs) (ne_eqb b.at at (λ e. absurd (omega (arith, e, lt, new.0)))) ∙ ap (λ l. b ∷ l) (nothing_without from to bs at (lie_less from to (by_address bs) (block_of b) lie) lt)
+    cond-false (eqb b.addr at) bs (b ∷ without at bs) (ne_eqb b.addr at (λ e. absurd (omega (arith, e, lt, new.0)))) ∙ ap (λ l. b ∷ l) (nothing_without from to bs at (lie_less from to (by_address bs) (block_of b) lie) lt)
 
 -- whether a block has an address
 pub any_block : List Block → ℕ → Bool
@@ -158,10 +156,10 @@ any_with (b ∷ bs) new x =
       | false ↦ ap (λ c. covers (block_range b) x || c) rest ∙ or_swap (covers (block_range b) x) (covers (block_range new) x) (any_block bs x)
     ]
 
-pub any_is : (bs : List marks.Range) (x : ℕ) → any_range bs x ≡ any_block (by_address bs) x
+pub any_is : (bs : List Range) (x : ℕ) → any_range bs x ≡ any_block (by_address bs) x
 unfolding any_block
 any_is [] x = refl
-any_is (b ∷ bs) x = ap (λ c. in_range b x || c) (any_is bs x) ∙ sym (any_with (by_address bs) (block_of b) x)
+any_is (b ∷ bs) x = ap (λ c. covers b x || c) (any_is bs x) ∙ sym (any_with (by_address bs) (block_of b) x)
 
 -- no block has an address below all
 none_below : (from to : ℕ) (bs : List Block) (x : ℕ) → LieBetween from to bs → x < from → any_block bs x ≡ false
@@ -327,18 +325,18 @@ all_less P (b ∷ bs) new all =
       | false ↦ λ h. (let k = again (All-tail P b (with_block bs new) h) in (k.0, All-cons P b bs (All-head P b (with_block bs new) h) k.1))
     ]) all
 
-pub meets_none : (bs : List marks.Range) (at n : ℕ) → All (Misses at n) (by_address bs) → MeetsNone bs at n
+pub meets_none : (bs : List Range) (at n : ℕ) → All (Misses at n) (by_address bs) → MeetsNone bs at n
 meets_none [] at n all = tt
 meets_none (b ∷ bs) at n all =
     let k = all_less (Misses at n) (by_address bs) (block_of b) all in
     ((elim k.0 [ inl left ↦ inr left | inr right ↦ inl right ]), meets_none bs at n k.1)
 
-pub misses_all : (bs : List marks.Range) (at n : ℕ) → MeetsNone bs at n → All (Misses at n) (by_address bs)
+pub misses_all : (bs : List Range) (at n : ℕ) → MeetsNone bs at n → All (Misses at n) (by_address bs)
 misses_all [] at n none = All-nil (Misses at n)
 misses_all (b ∷ bs) at n none = all_with (Misses at n) (by_address bs) (block_of b) (elim none.0 [ inl left ↦ inr left | inr right ↦ inl right ]) (misses_all bs at n none.1)
 
 -- a range that meets none has no byte of one
-pub none_meets : (bs : List marks.Range) (at n x : ℕ) → MeetsNone bs at n → at ≤ x → x < at + n → any_range bs x ≡ false
+pub none_meets : (bs : List Range) (at n x : ℕ) → MeetsNone bs at n → at ≤ x → x < at + n → any_range bs x ≡ false
 none_meets [] at n x none from below = refl
 none_meets (b ∷ bs) at n x none from below = elim (cover_cases (block_range (block_of b)) x) [
   | inl in' ↦ absurd (elim none.0 [ inl left ↦ omega (arith, left, in'.below, from) | inr right ↦ omega (arith, right, in'.from, below) ])

@@ -7,11 +7,10 @@ use Rattle.std.proofs.lemmas.List.Elements.{filter-append, All-head, All-tail}
 use Rattle.run_events.specs.declared.key.Class.TheVariants.{Async}
 use Rattle.marks.specs.declared.side.Side.TheVariants.{Replay}
 use Rattle.marks.specs.Places.{thread_count, stack, replay_pool, pool_size, is_system, is_constant}
+use Rattle.marks.specs.declared.range.Range.{Range}
 use Rattle.marks.specs.Ranges.{Piece, Prepared, any_range, any_prepared, piece_ranges}
-use Rattle.marks.specs.Ranges as marks
 use Rattle.marks.specs.Marks.{Call, Event, Made, Mark}
 use Rattle.marks.specs.Bytes.{hold, event_leaves, cell_after, event_block, block_after}
-use Rattle.memory_map.specs.declared.range.Range.{Range}
 use Rattle.space_memory_bytes.specs.Areas.{byte_at, IsDead}
 use Rattle.space_memory.specs.StackFrames.{stack_of}
 use Rattle.pool_list.specs.Blocks.{length_at, LieBetween}
@@ -28,7 +27,7 @@ use Rattle.space_memory.specs.Sides.{SideState}
 use Rattle.space_memory.specs.Spaces.{SpaceState}
 use Rattle.space_memory.specs.Cells.{is_held}
 use Rattle.space_memory.specs.Releases.{outs_of}
-use Rattle.space_memory_laws.specs.Shown.{memory_range, value_when_held, cell_of, stack_with, pool_with, by_address, ranges_at, is_in_of, ins_of}
+use Rattle.space_memory_laws.specs.Shown.{value_when_held, cell_of, stack_with, pool_with, by_address, ranges_at, is_in_of, ins_of}
 use Rattle.space_memory_laws.specs.Held.{HaveOwnKeys}
 use Rattle.space_memory_laws.specs.Sound.{AreStacked, IsBelow, IsSound}
 use Rattle.space_memory_laws.specs.StandsFor.{HoldsFor, StandsFor}
@@ -74,7 +73,7 @@ hold_cell None = refl
 hold_cell (Some v) = refl
 
 -- a call number past the open ones has no ranges
-pub ranges_past : (f : run.OpenCall → List marks.Range) (d : ℕ) (cs : List run.OpenCall) → length cs < d → ranges_at f d cs ≡ []
+pub ranges_past : (f : run.OpenCall → List Range) (d : ℕ) (cs : List run.OpenCall) → length cs < d → ranges_at f d cs ≡ []
 ranges_past f d [] lt = refl
 ranges_past f d (c ∷ cs) lt = cond-false (eqb d (suc (length cs))) (f c) (ranges_at f d cs) (ne_eqb d (suc (length cs)) (λ e. absurd (omega (arith, e, lt)))) ∙ ranges_past f d cs (omega (arith, lt))
 
@@ -82,7 +81,7 @@ pub empty_map : (rs : List Region) → map (λ (r : Region). r.range) rs ≡ [] 
 empty_map [] e = refl
 empty_map (r ∷ rs) e = absurd cc
 
-pub prepared_keeps : (ps : List Prepared) (k : ℕ) (o : Option marks.Range) → prepares_key ps k ≡ false → prepared_under ps k o ≡ o
+pub prepared_keeps : (ps : List Prepared) (k : ℕ) (o : Option Range) → prepares_key ps k ≡ false → prepared_under ps k o ≡ o
 prepared_keeps [] k o none = refl
 prepared_keeps (p ∷ ps) k o none = go (eqb p.key k) none (prepared_keeps ps k o)
   where
@@ -90,7 +89,7 @@ prepared_keeps (p ∷ ps) k o none = go (eqb p.key k) none (prepared_keeps ps k 
     go true e again = absurd (true≢false e)
     go false e again = again e
 
-pub prepared_some : (ps : List Prepared) (k : ℕ) (o : Option marks.Range) → prepares_key ps k ≡ true → prepared_under ps k o ≡ prepared_under ps k None
+pub prepared_some : (ps : List Prepared) (k : ℕ) (o : Option Range) → prepares_key ps k ≡ true → prepared_under ps k o ≡ prepared_under ps k None
 prepared_some [] k o is = absurd (true≢false (sym is))
 prepared_some (p ∷ ps) k o is = go (eqb p.key k) is (prepared_some ps k o)
   where
@@ -110,10 +109,6 @@ pub no_region : (o : Option Region) → option_map (λ (r : Region). r.range) o 
 no_region None e = refl
 no_region (Some r) e = absurd (some_none r.range e)
 
-pub no_range : (o : Option marks.Range) → option_map memory_range o ≡ None → o ≡ None
-no_range None e = refl
-no_range (Some r) e = absurd (some_none (memory_range r) e)
-
 -- a key of added regions is none of the earlier ones
 pub own_key : (xs ys : List Region) (k : ℕ) → HaveOwnKeys (xs ++ ys) → (prepared_region ys k ≡ None → ⊥) → prepared_region xs k ≡ None
 own_key [] ys k h used = refl
@@ -131,7 +126,7 @@ own_key (r ∷ rest) ys k h used = go (has_key k r.holder) refl (own_key rest ys
     go true is again = absurd (used (none_left rest (h.0 k is)))
     go false is again = again
 
-module _ (s : Start) (past : List Mark) (base new : SpaceState) (m : Mark) (e : Event) (func : ℕ) (args : List ℕ) (ins : List Piece) (outs : List marks.Range) (prepared : List Prepared) (h : InCall s past m.thread (parts_of (piece_ranges ins) outs prepared) base new) (is : m.act ≡ Made e) (kind : e.kind ≡ Call func args ins outs prepared) (keyed : (k : ℕ) → prepares_key prepared k ≡ true → has m (OfKey (key Async k)) ≡ true) where
+module _ (s : Start) (past : List Mark) (base new : SpaceState) (m : Mark) (e : Event) (func : ℕ) (args : List ℕ) (ins : List Piece) (outs : List Range) (prepared : List Prepared) (h : InCall s past m.thread (parts_of (piece_ranges ins) outs prepared) base new) (is : m.act ≡ Made e) (kind : e.kind ≡ Call func args ins outs prepared) (keyed : (k : ℕ) → prepares_key prepared k ≡ true → has m (OfKey (key Async k)) ≡ true) where
   abbrev parts : List Part
   parts = parts_of (piece_ranges ins) outs prepared
 
@@ -175,23 +170,23 @@ module _ (s : Start) (past : List Mark) (base new : SpaceState) (m : Mark) (e : 
   depth_is = let d = (h.stands.calls m.thread h.thread).depth in omega (arith, depth_up, d)
 
   -- in its own thread the call comes on top
-  on_top : (d : ℕ) (f : List Region → List Region) (g : run.OpenCall → List marks.Range) (rs : List marks.Range) (c : run.OpenCall) → g c ≡ rs → map (λ (r : Region). r.range) (f base.held.regions) ≡ map memory_range (ranges_at g d (open_calls (marks_of s m.thread past))) → f new.held.regions ≡ f base.held.regions ++ f h.regions.added → map (λ (r : Region). r.range) (f h.regions.added) ≡ cond (is_same_call made (record { thread = m.thread; depth = d })) (map memory_range rs) [] → map (λ (r : Region). r.range) (f new.held.regions) ≡ map memory_range (ranges_at g d (c ∷ open_calls (marks_of s m.thread past)))
+  on_top : (d : ℕ) (f : List Region → List Region) (g : run.OpenCall → List Range) (rs : List Range) (c : run.OpenCall) → g c ≡ rs → map (λ (r : Region). r.range) (f base.held.regions) ≡ ranges_at g d (open_calls (marks_of s m.thread past)) → f new.held.regions ≡ f base.held.regions ++ f h.regions.added → map (λ (r : Region). r.range) (f h.regions.added) ≡ cond (is_same_call made (record { thread = m.thread; depth = d })) rs [] → map (λ (r : Region). r.range) (f new.held.regions) ≡ ranges_at g d (c ∷ open_calls (marks_of s m.thread past))
   on_top d f g rs c here old_is parts_are added_is = elim (cases_eq d (suc (length (open_calls (marks_of s m.thread past))))) [
     | inl e ↦
         let cs = open_calls (marks_of s m.thread past) in
-        let none : f base.held.regions ≡ [] = empty_map (f base.held.regions) (old_is ∙ ap (map memory_range) (ranges_past g d cs (omega (arith, e)))) in
+        let none : f base.held.regions ≡ [] = empty_map (f base.held.regions) (old_is ∙ ranges_past g d cs (omega (arith, e))) in
         let same : is_same_call made (record { thread = m.thread; depth = d }) ≡ true = and_from (eqb m.thread m.thread) (eqb made.depth d) (eq-eqb m.thread m.thread refl) (eq-eqb made.depth d (depth_is ∙ sym e)) in
         ap (map (λ (r : Region). r.range)) (parts_are ∙ ap (λ qs. qs ++ f h.regions.added) none)
         ∙ added_is
-        ∙ cond-true (is_same_call made (record { thread = m.thread; depth = d })) (map memory_range rs) [] same
-        ∙ ap (map memory_range) (sym here ∙ sym (cond-true (eqb d (suc (length cs))) (g c) (ranges_at g d cs) (eq-eqb d (suc (length cs)) e)))
+        ∙ cond-true (is_same_call made (record { thread = m.thread; depth = d })) rs [] same
+        ∙ (sym here ∙ sym (cond-true (eqb d (suc (length cs))) (g c) (ranges_at g d cs) (eq-eqb d (suc (length cs)) e)))
     | inr ne ↦
         let cs = open_calls (marks_of s m.thread past) in
         let other : is_same_call made (record { thread = m.thread; depth = d }) ≡ false = and_right (eqb m.thread m.thread) (eqb made.depth d) (ne_eqb made.depth d (λ q. ne (sym q ∙ depth_is))) in
-        let none : f h.regions.added ≡ [] = empty_map (f h.regions.added) (added_is ∙ cond-false (is_same_call made (record { thread = m.thread; depth = d })) (map memory_range rs) [] other) in
+        let none : f h.regions.added ≡ [] = empty_map (f h.regions.added) (added_is ∙ cond-false (is_same_call made (record { thread = m.thread; depth = d })) rs [] other) in
         ap (map (λ (r : Region). r.range)) (parts_are ∙ ap (λ qs. f base.held.regions ++ qs) none ∙ nil_right (f base.held.regions))
         ∙ old_is
-        ∙ ap (map memory_range) (sym (cond-false (eqb d (suc (length cs))) (g c) (ranges_at g d cs) (ne_eqb d (suc (length cs)) ne)))
+        ∙ sym (cond-false (eqb d (suc (length cs))) (g c) (ranges_at g d cs) (ne_eqb d (suc (length cs)) ne))
   ]
     where
       nil_right : (qs : List Region) → qs ++ [] ≡ qs
@@ -227,8 +222,8 @@ module _ (s : Start) (past : List Mark) (base new : SpaceState) (m : Mark) (e : 
   other_calls : (t : ℕ) → (m.thread ≡ t → ⊥) → t < thread_count → HoldsFor new.held t (open_calls (marks_of s t past))
   other_calls t ne lt = record {
     depth = ap (λ ds. slice_index ds t) h.depths ∙ get_or-set_other base.held.depths m.thread t (slice_index base.held.depths m.thread + 1) 0 (λ q. ne (sym q)) ∙ (h.stands.calls t lt).depth;
-    ins = λ d. let o : OpenCall = record { thread = t; depth = d } in ap (map (λ (r : Region). r.range)) (elsewhere o (ins_of o) (map memory_range (piece_ranges ins)) ne (ins_split o) (added_ins base.bytes made (piece_ranges ins) outs prepared h.regions.added h.regions.regions o)) ∙ (h.stands.calls t lt).ins d;
-    outs = λ d. let o : OpenCall = record { thread = t; depth = d } in ap (map (λ (r : Region). r.range)) (elsewhere o (outs_of o) (map memory_range outs) ne (outs_split o) (added_outs base.bytes made (piece_ranges ins) outs prepared h.regions.added h.regions.regions o)) ∙ (h.stands.calls t lt).outs d;
+    ins = λ d. let o : OpenCall = record { thread = t; depth = d } in ap (map (λ (r : Region). r.range)) (elsewhere o (ins_of o) (piece_ranges ins) ne (ins_split o) (added_ins base.bytes made (piece_ranges ins) outs prepared h.regions.added h.regions.regions o)) ∙ (h.stands.calls t lt).ins d;
+    outs = λ d. let o : OpenCall = record { thread = t; depth = d } in ap (map (λ (r : Region). r.range)) (elsewhere o (outs_of o) outs ne (outs_split o) (added_outs base.bytes made (piece_ranges ins) outs prepared h.regions.added h.regions.regions o)) ∙ (h.stands.calls t lt).outs d;
   }
 
   calls_now : open_calls (marks_of s m.thread (m ∷ past)) ≡ call ∷ open_calls (marks_of s m.thread past)
@@ -245,25 +240,25 @@ module _ (s : Start) (past : List Mark) (base new : SpaceState) (m : Mark) (e : 
   keys_all = subst HaveOwnKeys h.regions.all h.held.keys
 
   pub no_key : (k : ℕ) → prepares_key prepared k ≡ true → prepared_region base.held.regions k ≡ None
-  no_key k used = own_key base.held.regions h.regions.added k keys_all (λ none. prepared_there prepared k used (no_range (prepared_under prepared k None) (sym (added_key base.bytes made (piece_ranges ins) outs prepared h.regions.added h.regions.regions k) ∙ ap (option_map (λ (r : Region). r.range)) none)))
+  no_key k used = own_key base.held.regions h.regions.added k keys_all (λ none. prepared_there prepared k used (sym (added_key base.bytes made (piece_ranges ins) outs prepared h.regions.added h.regions.regions k) ∙ ap (option_map (λ (r : Region). r.range)) none))
 
-  abbrev before_key : ℕ → Option marks.Range
+  abbrev before_key : ℕ → Option Range
   before_key k = in_use s k past
 
-  use_is : (k : ℕ) (o : Option marks.Range) → act_use k m.act o ≡ prepared_under prepared k o
+  use_is : (k : ℕ) (o : Option Range) → act_use k m.act o ≡ prepared_under prepared k o
   use_is k o = ap (λ a. act_use k a o) is ∙ ap (λ q. use_after k q o) kind
 
-  keys_are : (k : ℕ) → option_map (λ (r : Region). r.range) (prepared_region new.held.regions k) ≡ option_map memory_range (in_use s k (m ∷ past))
+  keys_are : (k : ℕ) → option_map (λ (r : Region). r.range) (prepared_region new.held.regions k) ≡ in_use s k (m ∷ past)
   keys_are k = ap (λ rs. option_map (λ (r : Region). r.range) (prepared_region rs k)) h.regions.all ∙ elim (cases_Bool (prepares_key prepared k)) [
     | inl used ↦
         ap (option_map (λ (r : Region). r.range)) (prepared_left base.held.regions h.regions.added k (no_key k used))
         ∙ added_key base.bytes made (piece_ranges ins) outs prepared h.regions.added h.regions.regions k
-        ∙ ap (option_map memory_range) (sym (keys_more s m past k ∙ cond-true (has m (OfKey (key Async k))) (act_use k m.act (before_key k)) (before_key k) (keyed k used) ∙ use_is k (before_key k) ∙ prepared_some prepared k (before_key k) used))
+        ∙ sym (keys_more s m past k ∙ cond-true (has m (OfKey (key Async k))) (act_use k m.act (before_key k)) (before_key k) (keyed k used) ∙ use_is k (before_key k) ∙ prepared_some prepared k (before_key k) used)
     | inr unused ↦
-        let none : prepared_region h.regions.added k ≡ None = no_region (prepared_region h.regions.added k) (added_key base.bytes made (piece_ranges ins) outs prepared h.regions.added h.regions.regions k ∙ ap (option_map memory_range) (prepared_keeps prepared k None unused)) in
+        let none : prepared_region h.regions.added k ≡ None = no_region (prepared_region h.regions.added k) (added_key base.bytes made (piece_ranges ins) outs prepared h.regions.added h.regions.regions k ∙ prepared_keeps prepared k None unused) in
         ap (option_map (λ (r : Region). r.range)) (prepared_right base.held.regions h.regions.added k none)
         ∙ h.stands.keys k
-        ∙ ap (option_map memory_range) (sym (keys_more s m past k ∙ stay s m past (has m (OfKey (key Async k))) (act_use k m.act (before_key k)) (before_key k) (use_is k (before_key k) ∙ prepared_keeps prepared k (before_key k) unused)))
+        ∙ sym (keys_more s m past k ∙ stay s m past (has m (OfKey (key Async k))) (act_use k m.act (before_key k)) (before_key k) (use_is k (before_key k) ∙ prepared_keeps prepared k (before_key k) unused))
   ]
 
   same_frames : (t : ℕ) → run.frames (marks_of s t (m ∷ past)) ≡ run.frames (marks_of s t past)

@@ -3,9 +3,9 @@ use Rattle.std.proofs.Common.{◌≡◌, ℕ, suc, ◌+◌, ◌-◌, ◌^◌, �
 use Rattle.std.specs.List.{list_any}
 use Rattle.std.proofs.lemmas.Bool.{cases_lt, cases_Bool, lt-ltb, le-ltb, le-leb, lt-leb, leb-true, ltb-true, and_from, and_left, and_right, and_parts, true≢false}
 use Rattle.marks.specs.Places.{replay_globals, replay_end, system_globals, system_end, is_replay, is_system}
-use Rattle.memory_map.specs.declared.range.Range.{Range}
+use Rattle.marks.specs.declared.range.Range.{Range}
+use Rattle.marks.specs.Ranges.{covers, NoneIn, IsInRange}
 use Rattle.memory_map.specs.declared.areas.TheConstants.{SYSTEM_MEMORY}
-use Rattle.memory_map.specs.Ranges.{covers, NoneIn, IsInRange}
 use Rattle.space_memory_bytes.specs.Areas.{AreaState, IsDead}
 use Rattle.space_memory_access.specs.declared.holder.Region.{Region}
 use Rattle.space_memory_access.specs.Holders.{is_pending}

@@ -4,8 +4,8 @@ use Rattle.std.specs.Prelude.{filter, option_map}
 use Rattle.std.specs.List.{list_any}
 use Rattle.std.proofs.lemmas.Bool.{cases_eq, true≢false, eq-eqb, ne_eqb, eqb-true, and_parts, and_from}
 use Rattle.std.proofs.lemmas.List.Elements.{All-head, All-tail, All-cons, All-nil}
-use Rattle.memory_map.specs.declared.range.Range.{Range}
-use Rattle.memory_map.specs.Ranges.{covers}
+use Rattle.marks.specs.declared.range.Range.{Range}
+use Rattle.marks.specs.Ranges.{covers}
 use Rattle.space_memory_access.specs.declared.holder.OpenCall.{OpenCall}
 use Rattle.space_memory_access.specs.declared.holder.Region.{Region}
 use Rattle.space_memory_access.specs.declared.holder.Holder.{Holder}

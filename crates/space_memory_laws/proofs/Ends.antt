@@ -3,7 +3,7 @@ use Rattle.std.proofs.Common.{◌≡◌, ℕ, ◌+◌, ◌-◌, ◌<◌, true, f
 use Rattle.std.specs.Prelude.{unwrap_or, slice_get}
 use Rattle.std.proofs.lemmas.Bool.{and_parts, ltb-true, false_from_ne_true, true≢false}
 use Rattle.marks.specs.Places.{thread_count, constants, replay_globals, replay_pool, pool_size, is_constant, is_system}
-use Rattle.marks.specs.Ranges.{range, in_range}
+use Rattle.marks.specs.Ranges.{range, covers}
 use Rattle.marks.specs.Marks.{Mark}
 use Rattle.marks.specs.Wants.{Outside, Turns, Loads, Stores, Enters, Leaves, Allocs, Frees, Calls, Below, Gives, Returns, CallsBack, UpReturns, Steps, Fails}
 use Rattle.space_memory_bytes.specs.Areas.{byte_at}
@@ -15,7 +15,7 @@ use Rattle.replay_runs.specs.Threads.{frames}
 use Rattle.replay_runs.specs.Found.{EndsWhatIsThere}
 use Rattle.space_memory.specs.Sides.{top_of}
 use Rattle.space_memory.specs.Spaces.{SpaceState}
-use Rattle.space_memory_laws.specs.Shown.{memory_range, by_address}
+use Rattle.space_memory_laws.specs.Shown.{by_address}
 use Rattle.space_memory_laws.specs.StandsFor.{StandsFor}
 use Rattle.space_memory_laws.specs.Ends.{WhatIsEndedIsThere}
 use Rattle.space_memory_laws.proofs.Cells.{cover_parts, covered, below_system}
@@ -45,7 +45,7 @@ module _ (s : Start) (past : List Mark) (memory : SpaceState) (h : StandsFor s p
           let lies = begins_from replay_pool (replay_pool + pool_size) (by_address bs) at len h.sound.laid_out there in
           let block : (byte s at past).block ≡ len = h.begins at own ∙ ap (λ k. unwrap_or k 0) is in
           let p = cover_parts (record { addr = at; len = (byte s at past).block }) x in' in
-          let in_pool : in_range (range replay_pool pool_size) x ≡ true = covered (memory_range (range replay_pool pool_size)) x (omega (arith, p.0, lies.0)) (omega (arith, p.1, lies.2, block)) in
+          let in_pool : covers (range replay_pool pool_size) x ≡ true = covered (range replay_pool pool_size) x (omega (arith, p.0, lies.0)) (omega (arith, p.1, lies.2, block)) in
           let below : is_system x ≡ false = below_system x (omega (arith, p.1, lies.2, block)) in
           true≢false (sym (h.sound.blocks_live x in_pool ∙ any_is bs x ∙ any_there replay_pool (replay_pool + pool_size) (by_address bs) at len x h.sound.laid_out there (covered (record { addr = at; len = len }) x p.0 (omega (arith, p.1, block)))) ∙ ap is_some (dead_byte s past memory h x below dead))
 

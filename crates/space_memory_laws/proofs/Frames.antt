@@ -4,12 +4,11 @@ use Rattle.std.specs.Prelude.{unwrap_or, option_map, slice_get}
 use Rattle.std.proofs.lemmas.Bool.{cases_lt, cases_eq, cond-true, cond-false, true≢false}
 use Rattle.marks.specs.declared.side.Side.TheVariants.{Replay}
 use Rattle.marks.specs.Places.{thread_count, frame_count, stack, stack_size, replay_pool, pool_size, is_system}
-use Rattle.marks.specs.Ranges.{within, range, in_range, any_range}
+use Rattle.marks.specs.declared.range.Range.{Range}
+use Rattle.marks.specs.Ranges.{within, range, covers, any_range, NoneIn}
 use Rattle.marks.specs.Ranges as marks
 use Rattle.marks.specs.Marks.{Enter, Leave, Mark}
 use Rattle.marks.specs.Bytes.{Dead, Live, IsLive, cell_after, block_after, Asks}
-use Rattle.memory_map.specs.declared.range.Range.{Range}
-use Rattle.memory_map.specs.Ranges.{covers, NoneIn}
 use Rattle.space_memory_bytes.specs.Areas.{byte_at, IsDead}
 use Rattle.space_memory_bytes.specs.Numbers.{HasBytes, SameOutside, FillsWith}
 use Rattle.space_memory.specs.StackFrames.{StackState, stack_of, IsFullFor}
@@ -27,7 +26,7 @@ use Rattle.space_memory.specs.Sides.{SideState, frames_of, top_of, with_thread}
 use Rattle.space_memory.specs.Spaces.{SpaceState, with_side}
 use Rattle.space_memory.specs.Frames.{IsEnterRefused, IsLeaveRefused}
 use Rattle.space_memory.specs.Cells.{is_held}
-use Rattle.space_memory_laws.specs.Shown.{memory_range, value_when_held, cell_of, innermost_last, stack_with, pool_with, by_address}
+use Rattle.space_memory_laws.specs.Shown.{value_when_held, cell_of, innermost_last, stack_with, pool_with, by_address}
 use Rattle.space_memory_laws.specs.Held.{AreHeld}
 use Rattle.space_memory_laws.specs.Sound.{AreStacked, JustTheseLive, IsBelow, IsSound}
 use Rattle.space_memory_laws.specs.StandsFor.{HoldsFor, StandsFor}
@@ -40,25 +39,25 @@ use Rattle.space_memory_laws.proofs.Least.{none_in}
 use Rattle.space_memory_laws.proofs.Stacks.{end_is, count_is, stacks_count, same_stack, other_stack, base_first, none_after, stacks_apart, IsInnermost, innermost, last_of}
 
 -- a mark that changes the frames of its thread, and bytes of one range of its stack
-record Restacks (s : Start) (past : List Mark) (old new : SpaceState) (m : Mark) (fs : List marks.Range) (r : marks.Range) : Type 0 where
+record Restacks (s : Start) (past : List Mark) (old new : SpaceState) (m : Mark) (fs : List Range) (r : Range) : Type 0 where
   lt : m.thread < thread_count
   own : frames (marks_of s m.thread (m ∷ past)) ≡ fs
   calls : (cs : List OpenCall) → act_calls m.act cs ≡ cs
-  blocks : (bs : List marks.Range) → act_blocks m.act bs ≡ bs
-  keys : (k : ℕ) (q : Option marks.Range) → act_use k m.act q ≡ q
+  blocks : (bs : List Range) → act_blocks m.act bs ≡ bs
+  keys : (k : ℕ) (q : Option Range) → act_use k m.act q ≡ q
   begins : (x n : ℕ) → block_after m.act x n ≡ n
   side : new.sides.replay ≡ with_thread old.sides.replay m.thread (innermost_last fs)
   system : new.sides.system ≡ old.sides.system
   held : new.held ≡ old.held
   stacked : AreStacked (stack Replay m.thread) fs
-  from : stack Replay m.thread ≤ r.at
-  to : r.at + r.size ≤ stack Replay m.thread + stack_size
-  outside : (x : ℕ) → covers (memory_range r) x ≡ false → byte_at new.bytes x ≡ byte_at old.bytes x
+  from : stack Replay m.thread ≤ r.addr
+  to : r.addr + r.len ≤ stack Replay m.thread + stack_size
+  outside : (x : ℕ) → covers r x ≡ false → byte_at new.bytes x ≡ byte_at old.bytes x
   bytes : (x : ℕ) → is_system x ≡ false → (byte s x (m ∷ past)).cell ≡ cell_of (byte_at new.bytes x) (value_when_held old.held.regions x)
   live : JustTheseLive (range (stack Replay m.thread) stack_size) fs new.bytes
-  unheld : (x : ℕ) → covers (memory_range r) x ≡ true → value_when_held old.held.regions x ≡ None
+  unheld : (x : ℕ) → covers r x ≡ true → value_when_held old.held.regions x ≡ None
 
-module _ (s : Start) (past : List Mark) (old new : SpaceState) (m : Mark) (fs : List marks.Range) (r : marks.Range) (h : StandsFor s past old) (k : Restacks s past old new m fs r) where
+module _ (s : Start) (past : List Mark) (old new : SpaceState) (m : Mark) (fs : List Range) (r : Range) (h : StandsFor s past old) (k : Restacks s past old new m fs r) where
   same_blocks : blocks s (m ∷ past) ≡ blocks s past
   same_blocks = blocks_stay s m past k.blocks
 
@@ -80,25 +79,25 @@ module _ (s : Start) (past : List Mark) (old new : SpaceState) (m : Mark) (fs : 
       ∙ ap (stack_with t) (sym (frames_other s m past t ne))
 
   other_live : (t : ℕ) → (m.thread ≡ t → ⊥) → t < thread_count → JustTheseLive (range (stack Replay t) stack_size) (frames (marks_of s t (m ∷ past))) new.bytes
-  other_live t ne lt x is = elim (cover_cases (memory_range r) x) [
+  other_live t ne lt x is = elim (cover_cases r x) [
     | inl in' ↦
-        let p = cover_parts (memory_range (range (stack Replay t) stack_size)) x is in
+        let p = cover_parts (range (stack Replay t) stack_size) x is in
         absurd (stacks_apart m.thread t x ne (omega (arith, k.from, in'.from)) (omega (arith, k.to, in'.below)) p.0 p.1)
     | inr out ↦ ap is_some (k.outside x out.is) ∙ h.sound.frames_live t lt x is ∙ ap (λ gs. any_range gs x) (sym (frames_other s m past t ne))
   ]
 
   restacked_sound : IsSound s (m ∷ past) new
   restacked_sound = record {
-    ends = λ x last. elim (cover_cases (memory_range r) x) [
+    ends = λ x last. elim (cover_cases r x) [
       | inl in' ↦ absurd (omega (arith, in'.below, last, k.to, bound))
       | inr out ↦ k.outside x out.is ∙ h.sound.ends x last
     ];
-    unheld = λ x dead. ap (λ (q : HeldState). value_when_held q.regions x) k.held ∙ elim (cover_cases (memory_range r) x) [
+    unheld = λ x dead. ap (λ (q : HeldState). value_when_held q.regions x) k.held ∙ elim (cover_cases r x) [
       | inl in' ↦ k.unheld x in'.is
       | inr out ↦ h.sound.unheld x (sym (k.outside x out.is) ∙ dead)
     ];
     own = λ x is. ap (λ (q : HeldState). value_when_held q.regions x) k.held ∙ h.sound.own x is;
-    inside = λ x a b c. elim (cover_cases (memory_range r) x) [
+    inside = λ x a b c. elim (cover_cases r x) [
       | inl in' ↦ absurd (true≢false (sym (in_replay x (omega (arith, in'.from, k.from)) (omega (arith, in'.below, k.to, bound))) ∙ b))
       | inr out ↦ k.outside x out.is ∙ h.sound.inside x a b c
     ];
@@ -113,9 +112,9 @@ module _ (s : Start) (past : List Mark) (old new : SpaceState) (m : Mark) (fs : 
       | inr ne ↦ other_live t ne lt
     ];
     laid_out = subst (λ bs. LieBetween replay_pool (replay_pool + pool_size) (by_address bs)) (sym same_blocks) h.sound.laid_out;
-    blocks_live = λ x is. elim (cover_cases (memory_range r) x) [
+    blocks_live = λ x is. elim (cover_cases r x) [
       | inl in' ↦
-          let p = cover_parts (memory_range (range replay_pool pool_size)) x is in
+          let p = cover_parts (range replay_pool pool_size) x is in
           absurd (omega (arith, in'.below, k.to, bound, p.0))
       | inr out ↦ ap is_some (k.outside x out.is) ∙ h.sound.blocks_live x is ∙ ap (λ bs. any_range bs x) (sym same_blocks)
     ];
@@ -131,7 +130,7 @@ module _ (s : Start) (past : List Mark) (old new : SpaceState) (m : Mark) (fs : 
     ];
     pool = ap (λ (q : SideState). q.pool) k.side ∙ h.pool ∙ ap pool_with (sym same_blocks);
     calls = λ t lt. subst (λ cs. HoldsFor new.held t cs) (sym (calls_stay s m past k.calls t)) (subst (λ q. HoldsFor q t (open_calls (marks_of s t past))) (sym k.held) (h.calls t lt));
-    keys = λ j. ap (λ (q : HeldState). option_map (λ (r : Region). r.range) (prepared_region q.regions j)) k.held ∙ h.keys j ∙ ap (option_map memory_range) (sym (keys_stay s m past k.keys j));
+    keys = λ j. ap (λ (q : HeldState). option_map (λ (r : Region). r.range) (prepared_region q.regions j)) k.held ∙ h.keys j ∙ sym (keys_stay s m past k.keys j);
     sound = restacked_sound;
   }
 
@@ -164,10 +163,10 @@ record Enters (s : Start) (past : List Mark) (old new : SpaceState) (m : Mark) (
   is : m.act ≡ Enter func args addr bytes
 
 module _ (s : Start) (past : List Mark) (old new : SpaceState) (m : Mark) (func : ℕ) (args bytes : List ℕ) (addr : ℕ) (h : StandsFor s past old) (e : Enters s past old new m func args bytes addr) where
-  abbrev r : marks.Range
+  abbrev r : Range
   r = range addr (length bytes)
 
-  abbrev fs : List marks.Range
+  abbrev fs : List Range
   fs = frames (marks_of s m.thread past)
 
   stacked_before : AreStacked (stack Replay m.thread) fs
@@ -176,28 +175,28 @@ module _ (s : Start) (past : List Mark) (old new : SpaceState) (m : Mark) (func 
   low : stack Replay m.thread ≤ addr
   low = omega (arith, e.place, base_first (stack Replay m.thread) fs stacked_before)
 
-  there : (x : ℕ) → covers (memory_range r) x ≡ true → byte_at new.bytes x ≡ Some (marks.byte_at addr bytes x)
+  there : (x : ℕ) → covers r x ≡ true → byte_at new.bytes x ≡ Some (marks.byte_at addr bytes x)
   there x c =
-      let p = cover_parts (memory_range r) x c in
+      let p = cover_parts r x c in
       let at : addr + (x - addr) ≡ x = omega (arith, p.0) in
       ap (byte_at new.bytes) (sym at) ∙ e.has (x - addr) (omega (arith, p.0, p.1))
 
-  was_dead : (x : ℕ) → covers (memory_range r) x ≡ true → IsDead old.bytes x
+  was_dead : (x : ℕ) → covers r x ≡ true → IsDead old.bytes x
   was_dead x c =
-      let p = cover_parts (memory_range r) x c in
-      let in' : in_range (range (stack Replay m.thread) stack_size) x ≡ true = covered (memory_range (range (stack Replay m.thread) stack_size)) x (omega (arith, p.0, low)) (omega (arith, p.1, e.place, e.room.0)) in
+      let p = cover_parts r x c in
+      let in' : covers (range (stack Replay m.thread) stack_size) x ≡ true = covered (range (stack Replay m.thread) stack_size) x (omega (arith, p.0, low)) (omega (arith, p.1, e.place, e.room.0)) in
       dead_from (byte_at old.bytes x) (h.sound.frames_live m.thread e.lt x in' ∙ none_after (stack Replay m.thread) fs x stacked_before (omega (arith, p.0, e.place)))
 
-  entered_bytes : (x : ℕ) → is_system x ≡ false → cond (covers (memory_range r) x) (Live (marks.byte_at addr bytes x)) (byte s x past).cell ≡ cell_of (byte_at new.bytes x) (value_when_held old.held.regions x)
-  entered_bytes x own = elim (cover_cases (memory_range r) x) [
+  entered_bytes : (x : ℕ) → is_system x ≡ false → cond (covers r x) (Live (marks.byte_at addr bytes x)) (byte s x past).cell ≡ cell_of (byte_at new.bytes x) (value_when_held old.held.regions x)
+  entered_bytes x own = elim (cover_cases r x) [
     | inl in' ↦
-        cond-true (covers (memory_range r) x) _ _ in'.is
+        cond-true (covers r x) _ _ in'.is
         ∙ sym (ap (cell_of (byte_at new.bytes x)) (h.sound.unheld x (was_dead x in'.is)) ∙ ap (λ b. cell_of b None) (there x in'.is))
-    | inr out ↦ cond-false (covers (memory_range r) x) _ _ out.is ∙ h.bytes x own ∙ ap (λ b. cell_of b (value_when_held old.held.regions x)) (sym (e.outside.bytes x out.is))
+    | inr out ↦ cond-false (covers r x) _ _ out.is ∙ h.bytes x own ∙ ap (λ b. cell_of b (value_when_held old.held.regions x)) (sym (e.outside.bytes x out.is))
   ]
 
   entered_live : JustTheseLive (range (stack Replay m.thread) stack_size) (r ∷ fs) new.bytes
-  entered_live x is = elim (cover_cases (memory_range r) x) [
+  entered_live x is = elim (cover_cases r x) [
     | inl in' ↦ ap is_some (there x in'.is) ∙ sym (ap (λ b. b || any_range fs x) in'.is)
     | inr out ↦ ap is_some (e.outside.bytes x out.is) ∙ h.sound.frames_live m.thread e.lt x is ∙ sym (ap (λ b. b || any_range fs x) out.is)
   ]
@@ -211,7 +210,7 @@ module _ (s : Start) (past : List Mark) (old new : SpaceState) (m : Mark) (func 
     keys = λ k q. ap (λ a. act_use k a q) e.is;
     begins = λ x n. ap (λ a. block_after a x n) e.is;
     system = ap (λ (q : Sides). q.system) e.side;
-    side = ap (λ (q : Sides). q.replay) e.side ∙ ap (λ (q : StackState). with_thread old.sides.replay m.thread (q.frames ++ memory_range r ∷ [])) (h.stacks m.thread e.lt);
+    side = ap (λ (q : Sides). q.replay) e.side ∙ ap (λ (q : StackState). with_thread old.sides.replay m.thread (q.frames ++ r ∷ [])) (h.stacks m.thread e.lt);
     held = e.held;
     stacked = (e.place, omega (arith, e.place, e.room.0), stacked_before);
     from = low;
@@ -244,36 +243,36 @@ enters s past old new m func args bytes addr size h lt side place free held has 
     }))
 
 -- a Leave that is to be made, of the innermost frame
-record LeavesFrame (s : Start) (past : List Mark) (old new : SpaceState) (m : Mark) (top : marks.Range) (below : List marks.Range) : Type 0 where
+record LeavesFrame (s : Start) (past : List Mark) (old new : SpaceState) (m : Mark) (top : Range) (below : List Range) : Type 0 where
   lt : m.thread < thread_count
   were : frames (marks_of s m.thread past) ≡ top ∷ below
   side : new.sides.replay ≡ with_thread old.sides.replay m.thread (innermost_last below)
   system : new.sides.system ≡ old.sides.system
-  free : (x : ℕ) → covers (memory_range top) x ≡ true → value_when_held old.held.regions x ≡ None
+  free : (x : ℕ) → covers top x ≡ true → value_when_held old.held.regions x ≡ None
   held : new.held ≡ old.held
-  fills : FillsWith (memory_range top) None old.bytes new.bytes
-  is : m.act ≡ Leave top.at top.size
+  fills : FillsWith top None old.bytes new.bytes
+  is : m.act ≡ Leave top.addr top.len
 
-module _ (s : Start) (past : List Mark) (old new : SpaceState) (m : Mark) (top : marks.Range) (below : List marks.Range) (h : StandsFor s past old) (e : LeavesFrame s past old new m top below) where
+module _ (s : Start) (past : List Mark) (old new : SpaceState) (m : Mark) (top : Range) (below : List Range) (h : StandsFor s past old) (e : LeavesFrame s past old new m top below) where
   stacked_all : AreStacked (stack Replay m.thread) (top ∷ below)
   stacked_all = subst (AreStacked (stack Replay m.thread)) e.were (h.sound.stacked m.thread e.lt)
 
-  from : stack Replay m.thread ≤ top.at
+  from : stack Replay m.thread ≤ top.addr
   from = omega (arith, stacked_all.0, base_first (stack Replay m.thread) below stacked_all.2)
 
-  in_stack : (x : ℕ) → covers (memory_range top) x ≡ true → in_range (range (stack Replay m.thread) stack_size) x ≡ true
+  in_stack : (x : ℕ) → covers top x ≡ true → covers (range (stack Replay m.thread) stack_size) x ≡ true
   in_stack x c =
-      let p = cover_parts (memory_range top) x c in
-      covered (memory_range (range (stack Replay m.thread) stack_size)) x (omega (arith, p.0, from)) (omega (arith, p.1, stacked_all.1))
+      let p = cover_parts top x c in
+      covered (range (stack Replay m.thread) stack_size) x (omega (arith, p.0, from)) (omega (arith, p.1, stacked_all.1))
 
-  left_bytes : (x : ℕ) → is_system x ≡ false → cond (covers (memory_range top) x) Dead (byte s x past).cell ≡ cell_of (byte_at new.bytes x) (value_when_held old.held.regions x)
-  left_bytes x own = elim (cover_cases (memory_range top) x) [
-    | inl in' ↦ cond-true (covers (memory_range top) x) _ _ in'.is ∙ ap (λ b. cell_of b (value_when_held old.held.regions x)) (sym (e.fills.filled x in'.is))
-    | inr out ↦ cond-false (covers (memory_range top) x) _ _ out.is ∙ h.bytes x own ∙ ap (λ b. cell_of b (value_when_held old.held.regions x)) (sym (e.fills.others.bytes x out.is))
+  left_bytes : (x : ℕ) → is_system x ≡ false → cond (covers top x) Dead (byte s x past).cell ≡ cell_of (byte_at new.bytes x) (value_when_held old.held.regions x)
+  left_bytes x own = elim (cover_cases top x) [
+    | inl in' ↦ cond-true (covers top x) _ _ in'.is ∙ ap (λ b. cell_of b (value_when_held old.held.regions x)) (sym (e.fills.filled x in'.is))
+    | inr out ↦ cond-false (covers top x) _ _ out.is ∙ h.bytes x own ∙ ap (λ b. cell_of b (value_when_held old.held.regions x)) (sym (e.fills.others.bytes x out.is))
   ]
 
   left_live : JustTheseLive (range (stack Replay m.thread) stack_size) below new.bytes
-  left_live x is = elim (cover_cases (memory_range top) x) [
+  left_live x is = elim (cover_cases top x) [
     | inl in' ↦ ap is_some (e.fills.filled x in'.is) ∙ sym (none_after (stack Replay m.thread) below x stacked_all.2 (omega (arith, stacked_all.0, in'.from)))
     | inr out ↦ ap is_some (e.fills.others.bytes x out.is) ∙ h.sound.frames_live m.thread e.lt x is ∙ ap (λ gs. any_range gs x) e.were ∙ ap (λ b. b || any_range below x) out.is
   ]
@@ -298,9 +297,9 @@ module _ (s : Start) (past : List Mark) (old new : SpaceState) (m : Mark) (top :
     unheld = e.free;
   }
 
-  asked : (x : ℕ) → within top.at top.size x ≡ true → IsLive (byte s x past).cell
+  asked : (x : ℕ) → within top.addr top.len x ≡ true → IsLive (byte s x past).cell
   asked x c =
-      let p = cover_parts (memory_range top) x c in
+      let p = cover_parts top x c in
       let live : is_some (byte_at old.bytes x) ≡ true = h.sound.frames_live m.thread e.lt x (in_stack x c) ∙ ap (λ gs. any_range gs x) e.were ∙ ap (λ b. b || any_range below x) c in
       subst IsLive (sym (h.bytes x (below_system x (omega (arith, p.1, stacked_all.1, e.lt))) ∙ ap (cell_of (byte_at old.bytes x)) (e.free x c))) (live_cell (byte_at old.bytes x) (λ dead. absurd (true≢false (sym live ∙ ap is_some dead))))
 
@@ -318,7 +317,7 @@ leaves s past old new m frame h lt left side free held fills is =
       system = ap (λ (q : Sides). q.system) side;
       side = ap (λ (q : Sides). q.replay) side ∙ ap (with_thread old.sides.replay m.thread) k.rest_is;
       free = λ x c.
-          let p = cover_parts (memory_range k.top) x c in
+          let p = cover_parts k.top x c in
           let stacked = subst (AreStacked (stack Replay m.thread)) k.is (h.sound.stacked m.thread lt) in
           unheld old.held.regions x (subst (λ (q : Range). NoneIn q (IsPending old.held.regions)) k.frame_is none x (p.0, p.1, omega (arith, p.1, stacked.1, lt)));
       held = held;

@@ -4,12 +4,11 @@ use Rattle.std.specs.Prelude.{unwrap_or}
 use Rattle.std.proofs.lemmas.Bool.{cases_Bool, true≢false, cond-true, cond-false, eq-eqb, ne_eqb}
 use Rattle.marks.specs.declared.side.Side.TheVariants.{Replay}
 use Rattle.marks.specs.Places.{replay_pool, pool_size, is_system}
-use Rattle.marks.specs.Ranges.{range, in_range}
+use Rattle.marks.specs.declared.range.Range.{Range}
+use Rattle.marks.specs.Ranges.{range, covers, IsInRange, IsLeastIn}
 use Rattle.marks.specs.Marks.{Mark}
 use Rattle.marks.specs.Bytes.{Dead, IsHeld}
 use Rattle.marks.specs.Wants.{Frees}
-use Rattle.memory_map.specs.declared.range.Range.{Range}
-use Rattle.memory_map.specs.Ranges.{covers, IsInRange, IsLeastIn}
 use Rattle.space_memory_bytes.specs.Areas.{IsDead}
 use Rattle.pool_list.specs.Blocks.{PoolState, length_at}
 use Rattle.space_memory_access.specs.Held.{IsPending}
@@ -23,7 +22,7 @@ use Rattle.space_memory.specs.Spaces.{SpaceState}
 use Rattle.space_memory.specs.Cells.{is_held}
 use Rattle.space_memory.specs.Blocks.{IsFreeRefused}
 use Rattle.replay_runs.specs.Passing.{Unraced}
-use Rattle.space_memory_laws.specs.Shown.{memory_range, by_address}
+use Rattle.space_memory_laws.specs.Shown.{by_address}
 use Rattle.space_memory_laws.specs.StandsFor.{StandsFor}
 use Rattle.space_memory_laws.specs.Refusals.{finding_of, FreesFind}
 use Rattle.space_memory_laws.proofs.Cells.{cover_parts, covered, below_system}
@@ -53,7 +52,7 @@ record IsNoBlock (s : Start) (past : List Mark) (memory : SpaceState) (addr : �
 
 module _ (i : Interface) (s : Start) (past : List Mark) (memory : SpaceState) (t a : ℕ) (h : StandsFor s past memory) (unraced : Unraced past t true (freed_range (suc a) (byte s (suc a) past).block)) where
   abbrev freed : Range
-  freed = memory_range (freed_range (suc a) (byte s (suc a) past).block)
+  freed = freed_range (suc a) (byte s (suc a) past).block
 
   abbrev IsRefusedHere : Refusal → Type 0
   IsRefusedHere r = IsFreeRefused Replay memory.sides.replay.pool.blocks memory.held.regions (suc a) r
@@ -76,7 +75,7 @@ module _ (i : Interface) (s : Start) (past : List Mark) (memory : SpaceState) (t
           from = lies.0;
           to = lies.2;
           live = λ x from below dead.
-              let in_pool : in_range (range replay_pool pool_size) x ≡ true = covered (memory_range (range replay_pool pool_size)) x (omega (arith, from, lies.0)) (omega (arith, below, lies.2)) in
+              let in_pool : covers (range replay_pool pool_size) x ≡ true = covered (range replay_pool pool_size) x (omega (arith, from, lies.0)) (omega (arith, below, lies.2)) in
               true≢false (sym (h.sound.blocks_live x in_pool ∙ any_is bs x ∙ any_there replay_pool (replay_pool + pool_size) (by_address bs) (suc a) len x h.sound.laid_out there (covered (record { addr = suc a; len = len }) x from below)) ∙ ap is_some dead);
         },
       )

@@ -8,13 +8,12 @@ use Rattle.std.proofs.lemmas.List.FromFn.{get_or-range_with_len, length-range_wi
 use Rattle.std.proofs.lemmas.List.Elements.{All-head, All-tail, All-nil}
 use Rattle.marks.specs.declared.side.Side.TheVariants.{Replay}
 use Rattle.marks.specs.Places.{stack, stack_size, constants, replay_globals, replay_pool, system_globals, system_end, pool_size, is_constant, is_replay, is_system}
-use Rattle.marks.specs.Ranges.{range}
+use Rattle.marks.specs.declared.range.Range.{Range}
+use Rattle.marks.specs.Ranges.{range, covers}
 use Rattle.marks.specs.Bytes.{Byte}
 use Rattle.memory_map.specs.declared.placed.Place.{Place}
 use Rattle.memory_map.specs.declared.placed.Placed.{Placed}
 use Rattle.memory_map.specs.declared.areas.TheConstants.{THREADS, STACK_SIZE, REPLAY_STACKS, REPLAY_POOL, SYSTEM_STACKS, SYSTEM_POOL}
-use Rattle.memory_map.specs.declared.range.Range.{Range}
-use Rattle.memory_map.specs.Ranges.{covers}
 use Rattle.space_memory_bytes.specs.Areas.{byte_at}
 use Rattle.space_memory.specs.StackFrames.{StackState, stack_of, LieInStack}
 use Rattle.pool_list.specs.Blocks.{length_at}
@@ -25,7 +24,7 @@ use Rattle.space_memory.specs.Sides.{SideState, fresh_stack, fresh_side}
 use Rattle.space_memory.specs.Spaces.{SpaceState, IsWhole}
 use Rattle.space_memory.specs.Objects.{IsInArea, object_range, byte_of}
 use Rattle.replay_runs.specs.Laws.{fresh}
-use Rattle.space_memory_laws.specs.Shown.{memory_range, cell_of, value_when_held}
+use Rattle.space_memory_laws.specs.Shown.{cell_of, value_when_held}
 use Rattle.space_memory_laws.specs.Held.{AreHeld}
 use Rattle.space_memory_laws.specs.Sound.{IsBelow}
 use Rattle.space_memory_laws.specs.StandsFor.{HoldsFor, StandsFor}
@@ -103,9 +102,9 @@ stands placed start memory globals strings here bytes held sides = record {
     });
     held = subst AreHeld (sym held) (record { threads = length-replicate {A = ℕ} THREADS 0; whole = All-nil IsWhole; apart = tt; keys = tt; owned = λ call lt. refl });
     stacked = λ t lt. tt;
-    frames_live = λ t lt x is. ap is_some (bare x (inl (let p = cover_parts (memory_range (range (stack Replay t) stack_size)) x is in (omega (arith, p.0, p.1, lt), omega (arith, p.0, p.1, lt)))));
+    frames_live = λ t lt x is. ap is_some (bare x (inl (let p = cover_parts (range (stack Replay t) stack_size) x is in (omega (arith, p.0, p.1, lt), omega (arith, p.0, p.1, lt)))));
     laid_out = omega arith;
-    blocks_live = λ x is. ap is_some (bare x (inl (let p = cover_parts (memory_range (range replay_pool pool_size)) x is in (omega (arith, p.0, p.1), omega (arith, p.0, p.1)))));
+    blocks_live = λ x is. ap is_some (bare x (inl (let p = cover_parts (range replay_pool pool_size) x is in (omega (arith, p.0, p.1), omega (arith, p.0, p.1)))));
   };
 }
   where

@@ -7,11 +7,10 @@ use Rattle.std.proofs.lemmas.Bool.{cases_Bool, cases_lt, true≢false, cond-true
 use Rattle.std.proofs.lemmas.List.{get_or-drop, length-drop}
 use Rattle.std.proofs.lemmas.List.Folds.{list_any-append}
 use Rattle.std.proofs.lemmas.List.Elements.{All-append, All-head, All-tail, All-cons, All-nil}
-use Rattle.marks.specs.Ranges.{Piece, in_range, any_piece, piece_ranges}
+use Rattle.marks.specs.declared.range.Range.{Range}
+use Rattle.marks.specs.Ranges.{Piece, covers, any_piece, piece_ranges}
 use Rattle.marks.specs.Ranges as marks
 use Rattle.marks.specs.Bytes.{Cell, Live, release, give, give_any}
-use Rattle.memory_map.specs.declared.range.Range.{Range}
-use Rattle.memory_map.specs.Ranges.{covers}
 use Rattle.space_memory_bytes.specs.Areas.{AreaState, byte_at}
 use Rattle.space_memory_access.specs.declared.holder.OpenCall.{OpenCall}
 use Rattle.space_memory_access.specs.declared.holder.Region.{Region}
@@ -21,7 +20,7 @@ use Rattle.space_memory_access.specs.Holders.{is_pending, is_out_of, is_same_cal
 use Rattle.space_memory_access.specs.Held.{prepared_region}
 use Rattle.space_memory.specs.Spaces.{IsWhole}
 use Rattle.space_memory.specs.Releases.{outs_of, committed, committed_key, used_of, IsFilled, AllFilled}
-use Rattle.space_memory_laws.specs.Shown.{memory_range, value_when_held, cell_of}
+use Rattle.space_memory_laws.specs.Shown.{value_when_held, cell_of}
 use Rattle.space_memory_laws.specs.Held.{AreApart, HaveOwnKeys}
 use Rattle.space_memory_laws.specs.Returns.{used_at, ShowUsed, FitsIn}
 use Rattle.space_memory_laws.proofs.Cells.{cover_parts, unheld}
@@ -160,20 +159,20 @@ gone_waiting call c rs apart whole own =
 
 -- the pieces of regions that wait give what memory has there, and nothing elsewhere
 module _ (bytes : List AreaState) (rs : List Region) where
-  pub used_same : (r : Region) (p : Piece) (n : ℕ) → r.range ≡ memory_range p.range → used_of r n ≡ used_at p.range n
+  pub used_same : (r : Region) (p : Piece) (n : ℕ) → r.range ≡ p.range → used_of r n ≡ used_at p.range n
   used_same r p n e = ap (λ (q : Range). cond (eqb q.addr 0) 0 n) e
 
-  give_piece : (r : Region) (p : Piece) (n x : ℕ) → r.range ≡ memory_range p.range → length p.bytes ≡ used_at p.range n → ((i : ℕ) → i < length p.bytes → byte_at bytes (p.range.at + i) ≡ Some (slice_index p.bytes i)) → IsFilled bytes n r → IsWaiting rs r → in_range p.range x ≡ true → give p x (cell_of (byte_at bytes x) (value_when_held rs x)) ≡ cell_of (byte_at bytes x) None
+  give_piece : (r : Region) (p : Piece) (n x : ℕ) → r.range ≡ p.range → length p.bytes ≡ used_at p.range n → ((i : ℕ) → i < length p.bytes → byte_at bytes (p.range.addr + i) ≡ Some (slice_index p.bytes i)) → IsFilled bytes n r → IsWaiting rs r → covers p.range x ≡ true → give p x (cell_of (byte_at bytes x) (value_when_held rs x)) ≡ cell_of (byte_at bytes x) None
   give_piece r p n x same long has filled waits in' =
-      let c = cover_parts (memory_range p.range) x in' in
-      let from : r.range.addr ≡ p.range.at = ap (λ (q : Range). q.addr) same in
-      let len : r.range.len ≡ p.range.size = ap (λ (q : Range). q.len) same in
+      let c = cover_parts p.range x in' in
+      let from : r.range.addr ≡ p.range.addr = ap (λ (q : Range). q.addr) same in
+      let len : r.range.len ≡ p.range.len = ap (λ (q : Range). q.len) same in
       let used : used_of r n ≡ length p.bytes = used_same r p n same ∙ sym long in
-      elim (cases_lt x (p.range.at + length p.bytes)) [
+      elim (cases_lt x (p.range.addr + length p.bytes)) [
         | inl lt ↦
-            let at : p.range.at + (x - p.range.at) ≡ x = omega (arith, c.0) in
-            let is : byte_at bytes x ≡ Some (get_or p.bytes (x - p.range.at) 0) = ap (byte_at bytes) (sym at) ∙ has (x - p.range.at) (omega (arith, c.0, lt)) in
-            cond-true (ltb x (p.range.at + length p.bytes)) (Live (marks.byte_at p.range.at p.bytes x)) (release (cell_of (byte_at bytes x) (value_when_held rs x))) (lt-ltb x (p.range.at + length p.bytes) lt)
+            let at : p.range.addr + (x - p.range.addr) ≡ x = omega (arith, c.0) in
+            let is : byte_at bytes x ≡ Some (get_or p.bytes (x - p.range.addr) 0) = ap (byte_at bytes) (sym at) ∙ has (x - p.range.addr) (omega (arith, c.0, lt)) in
+            cond-true (ltb x (p.range.addr + length p.bytes)) (Live (marks.byte_at p.range.addr p.bytes x)) (release (cell_of (byte_at bytes x) (value_when_held rs x))) (lt-ltb x (p.range.addr + length p.bytes) lt)
             ∙ sym (ap (λ b. cell_of b None) is)
         | inr le ↦
             let before : value_when_held rs x ≡ Some (get_or r.before (x - r.range.addr) 0) = waits.value x (ap (λ (q : Range). covers q x) same ∙ in') in
@@ -181,7 +180,7 @@ module _ (bytes : List AreaState) (rs : List Region) where
             let few : x - (r.range.addr + used_of r n) < length (drop (used_of r n) r.before) = omega (arith, length-drop (used_of r n) r.before, waits.whole, le, from, used, len, c.1, filled.fits) in
             let off : used_of r n + (x - (r.range.addr + used_of r n)) ≡ x - r.range.addr = omega (arith, le, from, used) in
             let is : byte_at bytes x ≡ Some (get_or r.before (x - r.range.addr) 0) = ap (byte_at bytes) (sym at) ∙ filled.rest (x - (r.range.addr + used_of r n)) few ∙ ap (λ v. Some v) (get_or-drop (used_of r n) r.before (x - (r.range.addr + used_of r n)) 0 ∙ ap (λ i. get_or r.before i 0) off) in
-            cond-false (ltb x (p.range.at + length p.bytes)) (Live (marks.byte_at p.range.at p.bytes x)) (release (cell_of (byte_at bytes x) (value_when_held rs x))) (le-ltb x (p.range.at + length p.bytes) le)
+            cond-false (ltb x (p.range.addr + length p.bytes)) (Live (marks.byte_at p.range.addr p.bytes x)) (release (cell_of (byte_at bytes x) (value_when_held rs x))) (le-ltb x (p.range.addr + length p.bytes) le)
             ∙ ap (λ v. release (cell_of (byte_at bytes x) v)) before
             ∙ ap (λ b. release (cell_of b (Some (get_or r.before (x - r.range.addr) 0)))) is
             ∙ sym (ap (λ b. cell_of b None) is)
@@ -193,26 +192,26 @@ module _ (bytes : List AreaState) (rs : List Region) where
   tails : (a b : Range) (as' bs : List Range) → ◌≡◌ {A = List Range} (a ∷ as') (b ∷ bs) → as' ≡ bs
   tails a b as' bs e = cc
 
-  pub given : (gone : List Region) (ps : List Piece) (used : List ℕ) (x : ℕ) → map (λ (r : Region). r.range) gone ≡ map memory_range (piece_ranges ps) → ShowUsed bytes ps used → AllFilled bytes gone used → All (IsWaiting rs) gone → list_any (λ (r : Region). covers r.range x) gone ≡ true → give_any ps x (cell_of (byte_at bytes x) (value_when_held rs x)) ≡ cell_of (byte_at bytes x) None
+  pub given : (gone : List Region) (ps : List Piece) (used : List ℕ) (x : ℕ) → map (λ (r : Region). r.range) gone ≡ piece_ranges ps → ShowUsed bytes ps used → AllFilled bytes gone used → All (IsWaiting rs) gone → list_any (λ (r : Region). covers r.range x) gone ≡ true → give_any ps x (cell_of (byte_at bytes x) (value_when_held rs x)) ≡ cell_of (byte_at bytes x) None
   given [] ps used x same shows filled waits is = absurd (true≢false (sym is))
   given (r ∷ gone) (p ∷ ps) (n ∷ used) x same shows filled waits is =
-      let head : r.range ≡ memory_range p.range = heads r.range (memory_range p.range) (map (λ (r : Region). r.range) gone) (map memory_range (piece_ranges ps)) same in
-      let rest = tails r.range (memory_range p.range) (map (λ (r : Region). r.range) gone) (map memory_range (piece_ranges ps)) same in
-      elim (cases_Bool (in_range p.range x)) [
-        | inl in' ↦ cond-true (in_range p.range x) (give p x (cell_of (byte_at bytes x) (value_when_held rs x))) (give_any ps x (cell_of (byte_at bytes x) (value_when_held rs x))) in' ∙ give_piece r p n x head shows.0 shows.1 filled.0 (All-head (IsWaiting rs) r gone waits) in'
+      let head : r.range ≡ p.range = heads r.range p.range (map (λ (r : Region). r.range) gone) (piece_ranges ps) same in
+      let rest = tails r.range p.range (map (λ (r : Region). r.range) gone) (piece_ranges ps) same in
+      elim (cases_Bool (covers p.range x)) [
+        | inl in' ↦ cond-true (covers p.range x) (give p x (cell_of (byte_at bytes x) (value_when_held rs x))) (give_any ps x (cell_of (byte_at bytes x) (value_when_held rs x))) in' ∙ give_piece r p n x head shows.0 shows.1 filled.0 (All-head (IsWaiting rs) r gone waits) in'
         | inr out ↦
             let more : list_any (λ (r : Region). covers r.range x) gone ≡ true = ap (λ b. b || list_any (λ (r : Region). covers r.range x) gone) (sym (ap (λ (q : Range). covers q x) head ∙ out)) ∙ is in
-            cond-false (in_range p.range x) (give p x (cell_of (byte_at bytes x) (value_when_held rs x))) (give_any ps x (cell_of (byte_at bytes x) (value_when_held rs x))) out ∙ given gone ps used x rest shows.2 filled.1 (All-tail (IsWaiting rs) r gone waits) more
+            cond-false (covers p.range x) (give p x (cell_of (byte_at bytes x) (value_when_held rs x))) (give_any ps x (cell_of (byte_at bytes x) (value_when_held rs x))) out ∙ given gone ps used x rest shows.2 filled.1 (All-tail (IsWaiting rs) r gone waits) more
       ]
   given (r ∷ gone) [] used x same shows filled waits is = absurd cc
   given (r ∷ gone) (p ∷ ps) [] x same shows filled waits is = absurd shows
 
-  pub untouched : (gone : List Region) (ps : List Piece) (x : ℕ) (c : Cell) → map (λ (r : Region). r.range) gone ≡ map memory_range (piece_ranges ps) → list_any (λ (r : Region). covers r.range x) gone ≡ false → give_any ps x c ≡ c
+  pub untouched : (gone : List Region) (ps : List Piece) (x : ℕ) (c : Cell) → map (λ (r : Region). r.range) gone ≡ piece_ranges ps → list_any (λ (r : Region). covers r.range x) gone ≡ false → give_any ps x c ≡ c
   untouched [] [] x c same is = refl
   untouched (r ∷ gone) (p ∷ ps) x c same is =
-      let head : r.range ≡ memory_range p.range = heads r.range (memory_range p.range) (map (λ (r : Region). r.range) gone) (map memory_range (piece_ranges ps)) same in
-      let rest = tails r.range (memory_range p.range) (map (λ (r : Region). r.range) gone) (map memory_range (piece_ranges ps)) same in
-      cond-false (in_range p.range x) (give p x c) (give_any ps x c) (ap (λ (q : Range). covers q x) (sym head) ∙ or_first (covers r.range x) (list_any (λ (r : Region). covers r.range x) gone) is)
+      let head : r.range ≡ p.range = heads r.range p.range (map (λ (r : Region). r.range) gone) (piece_ranges ps) same in
+      let rest = tails r.range p.range (map (λ (r : Region). r.range) gone) (piece_ranges ps) same in
+      cond-false (covers p.range x) (give p x c) (give_any ps x c) (ap (λ (q : Range). covers q x) (sym head) ∙ or_first (covers r.range x) (list_any (λ (r : Region). covers r.range x) gone) is)
       ∙ untouched gone ps x c rest (or_rest (covers r.range x) (list_any (λ (r : Region). covers r.range x) gone) is)
     where
       or_first : (a b : Bool) → (a || b) ≡ false → a ≡ false
@@ -225,12 +224,12 @@ module _ (bytes : List AreaState) (rs : List Region) where
   untouched [] (p ∷ ps) x c same is = absurd cc
   untouched (r ∷ gone) [] x c same is = absurd cc
 
-  pub all_fit : (gone : List Region) (ps : List Piece) (used : List ℕ) → map (λ (r : Region). r.range) gone ≡ map memory_range (piece_ranges ps) → ShowUsed bytes ps used → AllFilled bytes gone used → All FitsIn ps
+  pub all_fit : (gone : List Region) (ps : List Piece) (used : List ℕ) → map (λ (r : Region). r.range) gone ≡ piece_ranges ps → ShowUsed bytes ps used → AllFilled bytes gone used → All FitsIn ps
   all_fit [] [] used same shows filled = All-nil FitsIn
   all_fit (r ∷ gone) (p ∷ ps) (n ∷ used) same shows filled =
-      let head : r.range ≡ memory_range p.range = heads r.range (memory_range p.range) (map (λ (r : Region). r.range) gone) (map memory_range (piece_ranges ps)) same in
-      let rest = tails r.range (memory_range p.range) (map (λ (r : Region). r.range) gone) (map memory_range (piece_ranges ps)) same in
-      let len : r.range.len ≡ p.range.size = ap (λ (q : Range). q.len) head in
+      let head : r.range ≡ p.range = heads r.range p.range (map (λ (r : Region). r.range) gone) (piece_ranges ps) same in
+      let rest = tails r.range p.range (map (λ (r : Region). r.range) gone) (piece_ranges ps) same in
+      let len : r.range.len ≡ p.range.len = ap (λ (q : Range). q.len) head in
       let used_is = used_same r p n head in
       All-cons FitsIn p ps (omega (arith, shows.0, used_is, filled.0.fits, len)) (all_fit gone ps used rest shows.2 filled.1)
   all_fit [] (p ∷ ps) used same shows filled = absurd cc

@@ -1,8 +1,8 @@
 -- A range without a least byte of a kind has none.
 use Rattle.std.proofs.Common.{◌≡◌, ℕ, zero, suc, ◌<◌, Bool, true, false, inl, inr, sym, ◌∙◌, arith}
 use Rattle.std.proofs.lemmas.Bool.{cases_lt, cases_Bool, true≢false}
-use Rattle.memory_map.specs.declared.range.Range.{Range}
-use Rattle.memory_map.specs.Ranges.{IsInRange, IsLeastIn, NoneIn}
+use Rattle.marks.specs.declared.range.Range.{Range}
+use Rattle.marks.specs.Ranges.{IsInRange, IsLeastIn, NoneIn}
 
 module _ (r : Range) (test : ℕ → Bool) (none : (x : ℕ) → IsLeastIn r (λ y. test y ≡ true) x → ⊥) where
   -- an address of the range is the least one where none before it is of the kind

@@ -14,7 +14,7 @@ use Rattle.space_memory.specs.declared.sides.Sides.{Sides}
 use Rattle.space_memory.specs.Spaces.{SpaceState}
 use Rattle.replay_runs.specs.Runs.{Start, marks_of, byte}
 use Rattle.replay_runs.specs.Threads.{open_calls}
-use Rattle.space_memory_laws.specs.Shown.{memory_range, value_when_held, cell_of, stack_with, pool_with, by_address}
+use Rattle.space_memory_laws.specs.Shown.{value_when_held, cell_of, stack_with, pool_with, by_address}
 use Rattle.space_memory_laws.specs.Held.{AreHeld}
 use Rattle.space_memory_laws.specs.Sound.{AreStacked, IsBelow, IsSound}
 use Rattle.space_memory_laws.specs.StandsFor.{HoldsFor, StandsFor}
@@ -42,6 +42,6 @@ moved s m past old new h leaves held sides bytes block lives = record {
   stacks = λ t lt. ap (λ (k : Sides). stack_of k.replay.stacks t) sides ∙ h.stacks t lt ∙ ap (stack_with t) (sym (leaves.frames t));
   pool = ap (λ (k : Sides). k.replay.pool) sides ∙ h.pool ∙ ap pool_with (sym leaves.blocks);
   calls = λ t lt. subst (λ cs. HoldsFor new.held t cs) (sym (leaves.calls t)) (subst (λ k. HoldsFor k t (open_calls (marks_of s t past))) (sym held) (h.calls t lt));
-  keys = λ k. ap (λ (q : HeldState). option_map (λ (r : Region). r.range) (prepared_region q.regions k)) held ∙ h.keys k ∙ ap (option_map memory_range) (sym (leaves.keys k));
+  keys = λ k. ap (λ (q : HeldState). option_map (λ (r : Region). r.range) (prepared_region q.regions k)) held ∙ h.keys k ∙ sym (leaves.keys k);
   sound = sound_moved s m past old new leaves held (ap (λ (k : Sides). k.system) sides) lives h.sound;
 }

@@ -4,12 +4,10 @@ use Rattle.std.specs.Prelude.{◌↔◌, option_map}
 use Rattle.std.specs.List.{list_any}
 use Rattle.std.proofs.lemmas.Bool.{cases_Bool, cases_eq, cases_lt, true≢false, cond-true, cond-false, eq-eqb, ne_eqb, or_cases, and_parts, and_from}
 use Rattle.marks.specs.Places.{thread_count, is_system}
-use Rattle.marks.specs.Ranges.{in_range, any_range}
-use Rattle.marks.specs.Ranges as marks
+use Rattle.marks.specs.declared.range.Range.{Range}
+use Rattle.marks.specs.Ranges.{covers, any_range}
 use Rattle.marks.specs.Marks.{Mark}
 use Rattle.marks.specs.Bytes.{IsHeld}
-use Rattle.memory_map.specs.declared.range.Range.{Range}
-use Rattle.memory_map.specs.Ranges.{covers}
 use Rattle.space_memory_bytes.specs.Areas.{IsDead}
 use Rattle.space_memory_access.specs.declared.holder.OpenCall.{OpenCall}
 use Rattle.space_memory_access.specs.declared.holder.Region.{Region}
@@ -24,7 +22,7 @@ use Rattle.replay_runs.specs.Pool.{in_use}
 use Rattle.space_memory.specs.Spaces.{SpaceState}
 use Rattle.space_memory.specs.Cells.{is_held}
 use Rattle.space_memory.specs.Releases.{outs_of}
-use Rattle.space_memory_laws.specs.Shown.{memory_range, ranges_at}
+use Rattle.space_memory_laws.specs.Shown.{ranges_at}
 use Rattle.space_memory_laws.specs.Held.{HaveOwnKeys, has_region}
 use Rattle.space_memory_laws.specs.StandsFor.{StandsFor}
 use Rattle.space_memory_laws.specs.Owed.{any_out, IsPreparedUnder, IsOwed}
@@ -41,11 +39,11 @@ or_left true b e = refl
 or_left false b e = absurd (true≢false (sym e))
 
 -- the regions of a list of ranges have the bytes of the ranges
-pub any_same : (gs : List Region) (rs : List marks.Range) (x : ℕ) → map (λ (g : Region). g.range) gs ≡ map memory_range rs → list_any (λ (g : Region). covers g.range x) gs ≡ any_range rs x
+pub any_same : (gs : List Region) (rs : List Range) (x : ℕ) → map (λ (g : Region). g.range) gs ≡ rs → list_any (λ (g : Region). covers g.range x) gs ≡ any_range rs x
 any_same [] [] x e = refl
 any_same (g ∷ gs) (r ∷ rs) x e =
-    let head : g.range ≡ memory_range r = heads g.range (memory_range r) (map (λ (g : Region). g.range) gs) (map memory_range rs) e in
-    ap (λ (q : Range). covers q x || list_any (λ (g : Region). covers g.range x) gs) head ∙ ap (λ b. in_range r x || b) (any_same gs rs x (tails g.range (memory_range r) (map (λ (g : Region). g.range) gs) (map memory_range rs) e))
+    let head : g.range ≡ r = heads g.range r (map (λ (g : Region). g.range) gs) rs e in
+    ap (λ (q : Range). covers q x || list_any (λ (g : Region). covers g.range x) gs) head ∙ ap (λ b. covers r x || b) (any_same gs rs x (tails g.range r (map (λ (g : Region). g.range) gs) rs e))
   where
     heads : (a b : Range) (as' bs : List Range) → ◌≡◌ {A = List Range} (a ∷ as') (b ∷ bs) → a ≡ b
     heads a b as' bs e = cc
@@ -144,19 +142,19 @@ module _ (s : Start) (past : List Mark) (memory : SpaceState) (h : StandsFor s p
   ranges_inside : (a b : Range) → ◌≡◌ {A = Option Range} (Some a) (Some b) → a ≡ b
   ranges_inside a b e = cc
 
-  by_range : (o : Option marks.Range) (g : Region) → in_use s k past ≡ o → prepared_region memory.held.regions k ≡ Some g → covers g.range x ≡ true → IsPreparedUnder s past k x
-  by_range None g e there c = absurd (some_none g.range (sym (ap (option_map (λ (r : Region). r.range)) there) ∙ h.keys k ∙ ap (option_map memory_range) e))
+  by_range : (o : Option Range) (g : Region) → in_use s k past ≡ o → prepared_region memory.held.regions k ≡ Some g → covers g.range x ≡ true → IsPreparedUnder s past k x
+  by_range None g e there c = absurd (some_none g.range (sym (ap (option_map (λ (r : Region). r.range)) there) ∙ h.keys k ∙ e))
   by_range (Some r) g e there c =
-      let same : g.range ≡ memory_range r = ranges_inside g.range (memory_range r) (sym (ap (option_map (λ (r : Region). r.range)) there) ∙ h.keys k ∙ ap (option_map memory_range) e) in
+      let same : g.range ≡ r = ranges_inside g.range r (sym (ap (option_map (λ (r : Region). r.range)) there) ∙ h.keys k ∙ e) in
       (r, e, ap (λ (q : Range). covers q x) (sym same) ∙ c)
 
   pub region_of_key : (g : Region) → prepared_region memory.held.regions k ≡ Some g → covers g.range x ≡ true → IsPreparedUnder s past k x
   region_of_key g there c = by_range (in_use s k past) g refl there c
 
   by_region : (o : Option Region) → prepared_region memory.held.regions k ≡ o → IsPreparedUnder s past k x → (g : Region) × (prepared_region memory.held.regions k ≡ Some g) × (covers g.range x ≡ true)
-  by_region None e under = absurd (some_none (memory_range under.0) (sym (ap (option_map memory_range) under.1) ∙ sym (h.keys k) ∙ ap (option_map (λ (g : Region). g.range)) e))
+  by_region None e under = absurd (some_none under.0 (sym under.1 ∙ sym (h.keys k) ∙ ap (option_map (λ (g : Region). g.range)) e))
   by_region (Some g) e under =
-      let same : g.range ≡ memory_range under.0 = ranges_inside g.range (memory_range under.0) (sym (ap (option_map (λ (g : Region). g.range)) e) ∙ h.keys k ∙ ap (option_map memory_range) under.1) in
+      let same : g.range ≡ under.0 = ranges_inside g.range under.0 (sym (ap (option_map (λ (g : Region). g.range)) e) ∙ h.keys k ∙ under.1) in
       (g, e, ap (λ (q : Range). covers q x) same ∙ under.2)
 
   pub key_of_region : IsPreparedUnder s past k x → (g : Region) × (prepared_region memory.held.regions k ≡ Some g) × (covers g.range x ≡ true)

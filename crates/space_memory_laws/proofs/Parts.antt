@@ -7,11 +7,9 @@ use Rattle.std.proofs.lemmas.List.Elements.{All-append, All-cons, All-nil, filte
 use Rattle.std.proofs.lemmas.List.Folds.{list_any-append}
 use Rattle.marks.specs.declared.side.Side.TheVariants.{Replay}
 use Rattle.marks.specs.Places.{thread_count, is_constant}
-use Rattle.marks.specs.Ranges.{in_range}
-use Rattle.marks.specs.Ranges as marks
+use Rattle.marks.specs.declared.range.Range.{Range}
+use Rattle.marks.specs.Ranges.{covers, IsInRange}
 use Rattle.marks.specs.Marks.{Mark}
-use Rattle.memory_map.specs.declared.range.Range.{Range}
-use Rattle.memory_map.specs.Ranges.{covers, IsInRange}
 use Rattle.space_memory_bytes.specs.Areas.{AreaState, byte_at}
 use Rattle.space_memory_access.specs.declared.holder.OpenCall.{OpenCall}
 use Rattle.space_memory_access.specs.declared.holder.Region.{Region}
@@ -26,7 +24,6 @@ use Rattle.replay_runs.specs.Runs.{Start}
 use Rattle.space_memory.specs.Spaces.{SpaceState, IsWhole}
 use Rattle.space_memory.specs.Cells.{is_held}
 use Rattle.space_memory.specs.Held.{region_range, region_access, holder_of, IsRegionOf, AddsRegion, IsPrepareRefused}
-use Rattle.space_memory_laws.specs.Shown.{memory_range}
 use Rattle.space_memory_laws.specs.Held.{has_region, AreHeld}
 use Rattle.space_memory_laws.specs.StandsFor.{StandsFor}
 use Rattle.space_memory_laws.specs.Calls.{Part, Reads, Holds, Prepares, range_of, is_written, holder_for, held_part, HaveRegions, IsFree, InCall}
@@ -74,7 +71,7 @@ or_first : (a b : Bool) → (a || b) ≡ false → a ≡ false
 or_first true b e = e
 or_first false b e = refl
 
-regions_more : (bytes : List AreaState) (call : OpenCall) (ps : List Part) (rs : List Region) (p : Part) (r : Region) → HaveRegions bytes call ps rs → IsRegionOf bytes (memory_range (range_of p)) (holder_for call p) r → HaveRegions bytes call (ps ++ p ∷ []) (rs ++ r ∷ [])
+regions_more : (bytes : List AreaState) (call : OpenCall) (ps : List Part) (rs : List Region) (p : Part) (r : Region) → HaveRegions bytes call ps rs → IsRegionOf bytes (range_of p) (holder_for call p) r → HaveRegions bytes call (ps ++ p ∷ []) (rs ++ r ∷ [])
 regions_more bytes call [] [] p r h is = (is, tt)
 regions_more bytes call (q ∷ ps) (x ∷ rs) p r h is = (h.0, regions_more bytes call ps rs p r h.1 is)
 regions_more bytes call [] (x ∷ rs) p r h is = absurd h
@@ -92,9 +89,9 @@ written_waits call (Holds r) = refl
 written_waits call (Prepares k r) = refl
 
 abbrev part_access : ℕ → Part → Access
-part_access t p = record { side = Replay; thread = t; range = memory_range (range_of p); write = is_written p }
+part_access t p = record { side = Replay; thread = t; range = range_of p; write = is_written p }
 
-module _ (s : Start) (past : List Mark) (base old new : SpaceState) (t : ℕ) (parts : List Part) (p : Part) (region : Region) (h : InCall s past t parts base old) (small : (range_of p).at < 2 ^ 64) (is : IsRegionOf old.bytes (memory_range (range_of p)) (holder_for (innermost old.held t) p) region) (held : new.held ≡ record { regions = old.held.regions ++ region ∷ []; depths = old.held.depths }) (rest : new ≡ record old { held = new.held }) (ok : IsAllowed old.bytes old.held.regions (part_access t p)) (keys : (k : ℕ) → has_key k (holder_for (innermost old.held t) p) ≡ true → prepared_region old.held.regions k ≡ None) where
+module _ (s : Start) (past : List Mark) (base old new : SpaceState) (t : ℕ) (parts : List Part) (p : Part) (region : Region) (h : InCall s past t parts base old) (small : (range_of p).addr < 2 ^ 64) (is : IsRegionOf old.bytes (range_of p) (holder_for (innermost old.held t) p) region) (held : new.held ≡ record { regions = old.held.regions ++ region ∷ []; depths = old.held.depths }) (rest : new ≡ record old { held = new.held }) (ok : IsAllowed old.bytes old.held.regions (part_access t p)) (keys : (k : ℕ) → has_key k (holder_for (innermost old.held t) p) ≡ true → prepared_region old.held.regions k ≡ None) where
   same_bytes : old.bytes ≡ base.bytes
   same_bytes = ap (λ (q : SpaceState). q.bytes) h.rest
 
@@ -105,7 +102,7 @@ module _ (s : Start) (past : List Mark) (base old new : SpaceState) (t : ℕ) (p
   same_call = ap (λ ds. let c : OpenCall = record { thread = t; depth = slice_index ds t } in c) same_depths
 
   abbrev part_reach : Range
-  part_reach = memory_range (range_of p)
+  part_reach = range_of p
 
   part_ends : part_reach.addr + part_reach.len < 2 ^ 64
   part_ends = live_ends old.bytes part_reach (λ x last. ap (λ b. byte_at b x) same_bytes ∙ h.stands.sound.ends x last) small ok.live
@@ -173,8 +170,8 @@ module _ (s : Start) (past : List Mark) (base old new : SpaceState) (t : ℕ) (p
     });
   }
 
-module _ (s : Start) (past : List Mark) (base old new : SpaceState) (t : ℕ) (parts : List Part) (given : Range) (r : marks.Range) (h : InCall s past t parts base old) (below : given.addr < 2 ^ 64) (same : region_range given ≡ memory_range r) (rest : new ≡ record old { held = new.held }) where
-  small_range : r.at < 2 ^ 64
+module _ (s : Start) (past : List Mark) (base old new : SpaceState) (t : ℕ) (parts : List Part) (given : Range) (r : Range) (h : InCall s past t parts base old) (below : given.addr < 2 ^ 64) (same : region_range given ≡ r) (rest : new ≡ record old { held = new.held }) where
+  small_range : r.addr < 2 ^ 64
   small_range = let e = ap (λ (q : Range). q.addr) same in omega (arith, e, region_addr given, below)
 
   pub held_range : (write : Bool) → AddsRegion old.bytes (region_range given) (holder_of write (innermost old.held t)) old.held new.held → IsAllowed old.bytes old.held.regions (region_access t given write) → InCall s past t (parts ++ held_part write r ∷ []) base new

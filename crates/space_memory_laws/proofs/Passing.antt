@@ -3,11 +3,10 @@ use Rattle.std.proofs.Common.{◌≡◌, ℕ, Bool, true, false, eqb, ◌||◌, 
 use Rattle.std.proofs.lemmas.Bool.{cases_Bool, true≢false, eq-eqb, eqb-true}
 use Rattle.std.proofs.lemmas.List.Elements.{All-head, All-tail}
 use Rattle.marks.specs.declared.side.Side.TheVariants.{Replay, System}
-use Rattle.marks.specs.Ranges.{Prepared, in_range, any_range, prepared_ranges}
-use Rattle.marks.specs.Ranges as marks
+use Rattle.marks.specs.declared.range.Range.{Range}
+use Rattle.marks.specs.Ranges.{Prepared, covers, any_range, prepared_ranges}
 use Rattle.marks.specs.Marks.{Mark}
 use Rattle.replay_runs.specs.Runs.{Start}
-use Rattle.replay_runs.specs.Keys.{key}
 use Rattle.replay_runs.specs.Interface.{Interface}
 use Rattle.replay_runs.specs.Pool.{prepares_key, in_use}
 use Rattle.replay_runs.specs.Rules.{AllMayRun, Apart, DistinctKeys}
@@ -20,11 +19,11 @@ use Rattle.space_memory_laws.specs.CallChecks.{AllUnraced}
 use Rattle.space_memory_laws.proofs.Refusals.{dead_byte, pending_byte}
 
 -- the ranges are free to be read, or to be held
-abbrev pub AllFree : SpaceState → Bool → List marks.Range → Type 0
+abbrev pub AllFree : SpaceState → Bool → List Range → Type 0
 AllFree base write [] = Unit {0}
 AllFree base write (r ∷ rs) = IsFree base (held_part write r) × AllFree base write rs
 
-pub free_reads : (base : SpaceState) (ins outs : List marks.Range) (prepared : List Prepared) → All (IsFree base) (parts_of ins outs prepared) → AllFree base false ins
+pub free_reads : (base : SpaceState) (ins outs : List Range) (prepared : List Prepared) → All (IsFree base) (parts_of ins outs prepared) → AllFree base false ins
 free_reads base [] outs prepared h = tt
 free_reads base (r ∷ ins) outs prepared h = (All-head (IsFree base) (Reads r) (parts_of ins outs prepared) h, free_reads base ins outs prepared (All-tail (IsFree base) (Reads r) (parts_of ins outs prepared) h))
 
@@ -34,11 +33,11 @@ free_prepares base (p ∷ ps) h =
     let f = All-head (IsFree base) (prepared_part p) (map prepared_part ps) h in
     (record { own = f.own; live = f.live; free = f.free; writable = f.writable }, free_prepares base ps (All-tail (IsFree base) (prepared_part p) (map prepared_part ps) h))
 
-free_outs : (base : SpaceState) (outs : List marks.Range) (prepared : List Prepared) → All (IsFree base) (map Holds outs ++ map prepared_part prepared) → AllFree base true (outs ++ prepared_ranges prepared)
+free_outs : (base : SpaceState) (outs : List Range) (prepared : List Prepared) → All (IsFree base) (map Holds outs ++ map prepared_part prepared) → AllFree base true (outs ++ prepared_ranges prepared)
 free_outs base [] prepared h = free_prepares base prepared h
 free_outs base (r ∷ outs) prepared h = (All-head (IsFree base) (Holds r) (map Holds outs ++ map prepared_part prepared) h, free_outs base outs prepared (All-tail (IsFree base) (Holds r) (map Holds outs ++ map prepared_part prepared) h))
 
-pub free_holds : (base : SpaceState) (ins outs : List marks.Range) (prepared : List Prepared) → All (IsFree base) (parts_of ins outs prepared) → AllFree base true (outs ++ prepared_ranges prepared)
+pub free_holds : (base : SpaceState) (ins outs : List Range) (prepared : List Prepared) → All (IsFree base) (parts_of ins outs prepared) → AllFree base true (outs ++ prepared_ranges prepared)
 free_holds base [] outs prepared h = free_outs base outs prepared h
 free_holds base (r ∷ ins) outs prepared h = free_holds base ins outs prepared (All-tail (IsFree base) (Reads r) (parts_of ins outs prepared) h)
 
@@ -47,10 +46,10 @@ pub piled : {A : Type 0} → List A → List A → List A
 piled [] more = more
 piled (x ∷ xs) more = piled xs (x ∷ more)
 
-pub piled_any : (rs more : List marks.Range) (x : ℕ) → any_range (piled rs more) x ≡ (any_range rs x || any_range more x)
+pub piled_any : (rs more : List Range) (x : ℕ) → any_range (piled rs more) x ≡ (any_range rs x || any_range more x)
 unfolding piled
 piled_any [] more x = refl
-piled_any (r ∷ rs) more x = piled_any rs (r ∷ more) x ∙ swap (in_range r x) (any_range rs x) (any_range more x)
+piled_any (r ∷ rs) more x = piled_any rs (r ∷ more) x ∙ swap (covers r x) (any_range rs x) (any_range more x)
   where
     swap : (a b c : Bool) → (b || (a || c)) ≡ ((a || b) || c)
     swap true true c = refl
@@ -70,11 +69,11 @@ piled_key (p ∷ ps) more k = piled_key ps (p.key ∷ more) k ∙ swap (eqb p.ke
     swap true false c = refl
     swap false b c = refl
 
-held_write : (write : Bool) (r : marks.Range) → write ≡ true → is_written (held_part write r) ≡ true
+held_write : (write : Bool) (r : Range) → write ≡ true → is_written (held_part write r) ≡ true
 held_write true r e = refl
 held_write false r e = e
 
-held_range_is : (write : Bool) (r : marks.Range) → range_of (held_part write r) ≡ r
+held_range_is : (write : Bool) (r : Range) → range_of (held_part write r) ≡ r
 held_range_is true r = refl
 held_range_is false r = refl
 
@@ -89,7 +88,7 @@ module _ (P : Checks → Type 0) (step : (Bad : ℕ → Type 0) (Found : ℕ →
   past_indirect i true f cs h p = step _ _ cs (λ x bad. true≢false (sym (h refl) ∙ bad.1)) p
 
   module _ (s : Start) (past : List Mark) (t : ℕ) (base : SpaceState) (h : StandsFor s past base) where
-    past_range : (write : Bool) (more : List marks.Range) (r : marks.Range) (cs : Checks) → IsFree base (held_part write r) → Unraced past t write r → ((x : ℕ) → in_range r x ≡ true → any_range more x ≡ false) → P cs → P (range_checks s past t write more r cs)
+    past_range : (write : Bool) (more : List Range) (r : Range) (cs : Checks) → IsFree base (held_part write r) → Unraced past t write r → ((x : ℕ) → covers r x ≡ true → any_range more x ≡ false) → P cs → P (range_checks s past t write more r cs)
     past_range write more r cs free unraced apart p =
         step _ _ _ (λ x bad. true≢false (sym bad.1 ∙ free.own x (there x bad.0)))
         (step _ _ _ (λ x bad. unraced x bad.1.0 bad.0 bad.1.1)
@@ -100,28 +99,28 @@ module _ (P : Checks → Type 0) (step : (Bad : ℕ → Type 0) (Found : ℕ →
         ])
         (step _ _ cs (λ x bad. true≢false (sym bad.2 ∙ free.writable x (there x bad.0) (held_write write r bad.1))) p))))
       where
-        there : (x : ℕ) → in_range r x ≡ true → in_range (range_of (held_part write r)) x ≡ true
-        there x in' = ap (λ q. in_range q x) (held_range_is write r) ∙ in'
+        there : (x : ℕ) → covers r x ≡ true → covers (range_of (held_part write r)) x ≡ true
+        there x in' = ap (λ q. covers q x) (held_range_is write r) ∙ in'
 
-    pub past_reads : (before rest : List marks.Range) (cs : Checks) → AllFree base false before → AllUnraced past t false before → P (read_checks s past t rest cs) → P (read_checks s past t (before ++ rest) cs)
+    pub past_reads : (before rest : List Range) (cs : Checks) → AllFree base false before → AllUnraced past t false before → P (read_checks s past t rest cs) → P (read_checks s past t (before ++ rest) cs)
     past_reads [] rest cs free unraced p = p
     past_reads (r ∷ before) rest cs free unraced p = past_range false [] r (read_checks s past t (before ++ rest) cs) free.0 unraced.0 (λ x in'. refl) (past_reads before rest cs free.1 unraced.1 p)
 
-    pub past_holds : (before rest more : List marks.Range) (cs : Checks) → AllFree base true before → AllUnraced past t true before → Apart before → ((x : ℕ) → any_range before x ≡ true → any_range more x ≡ false) → P (hold_checks s past t (piled before more) rest cs) → P (hold_checks s past t more (before ++ rest) cs)
+    pub past_holds : (before rest more : List Range) (cs : Checks) → AllFree base true before → AllUnraced past t true before → Apart before → ((x : ℕ) → any_range before x ≡ true → any_range more x ≡ false) → P (hold_checks s past t (piled before more) rest cs) → P (hold_checks s past t more (before ++ rest) cs)
     unfolding piled
     past_holds [] rest more cs free unraced apart away p = p
     past_holds (r ∷ before) rest more cs free unraced apart away p =
         past_range true more r (hold_checks s past t (r ∷ more) (before ++ rest) cs) free.0 unraced.0 (λ x in'. away x (ap (λ b. b || any_range before x) in'))
         (past_holds before rest (r ∷ more) cs free.1 unraced.1 apart.1
-        (λ x in'. away_head (in_range r x) (any_range more x) (outside x in') (away x (or_true (in_range r x) (any_range before x) in')))
+        (λ x in'. away_head (covers r x) (any_range more x) (outside x in') (away x (or_true (covers r x) (any_range before x) in')))
         p)
       where
         or_true : (a b : Bool) → b ≡ true → (a || b) ≡ true
         or_true true b e = refl
         or_true false b e = e
 
-        outside : (x : ℕ) → any_range before x ≡ true → in_range r x ≡ false
-        outside x in' = elim (cases_Bool (in_range r x)) [ inl both ↦ absurd (true≢false (sym in' ∙ apart.0 x both)) | inr out ↦ out ]
+        outside : (x : ℕ) → any_range before x ≡ true → covers r x ≡ false
+        outside x in' = elim (cases_Bool (covers r x)) [ inl both ↦ absurd (true≢false (sym in' ∙ apart.0 x both)) | inr out ↦ out ]
 
         away_head : (a b : Bool) → a ≡ false → b ≡ false → (a || b) ≡ false
         away_head true b e f = e

@@ -5,12 +5,11 @@ use Rattle.std.proofs.lemmas.Bool.{cases_eq, cond-true, cond-false, eq-eqb, ne_e
 use Rattle.run_events.specs.declared.key.Class.TheVariants.{Pool}
 use Rattle.marks.specs.declared.side.Side.TheVariants.{Replay}
 use Rattle.marks.specs.Places.{stack, stack_size, replay_pool, pool_size, is_system}
-use Rattle.marks.specs.Ranges.{within, range, in_range, any_range}
-use Rattle.marks.specs.Ranges as marks
+use Rattle.marks.specs.declared.range.Range.{Range}
+use Rattle.marks.specs.Ranges.{within, range, covers, any_range, NoneIn}
 use Rattle.marks.specs.Marks.{Alloc, Free, Event, Made, Mark}
 use Rattle.marks.specs.Bytes.{Dead, Live, IsLive, granted, event_leaves, cell_after, event_block, block_after, Asks, EventAsks}
 use Rattle.memory_map.specs.declared.areas.TheConstants.{SYSTEM_MEMORY}
-use Rattle.memory_map.specs.Ranges.{covers, NoneIn}
 use Rattle.space_memory_bytes.specs.Areas.{byte_at, IsDead}
 use Rattle.space_memory_bytes.specs.Numbers.{FillsWith}
 use Rattle.space_memory.specs.StackFrames.{stack_of}
@@ -30,7 +29,7 @@ use Rattle.space_memory.specs.Sides.{SideState, with_blocks}
 use Rattle.space_memory.specs.Spaces.{SpaceState, with_side}
 use Rattle.space_memory.specs.Blocks.{IsFreeRefused}
 use Rattle.space_memory.specs.Cells.{is_held}
-use Rattle.space_memory_laws.specs.Shown.{memory_range, value_when_held, cell_of, stack_with, pool_with, by_address}
+use Rattle.space_memory_laws.specs.Shown.{value_when_held, cell_of, stack_with, pool_with, by_address}
 use Rattle.space_memory_laws.specs.Held.{AreHeld}
 use Rattle.space_memory_laws.specs.Sound.{IsBelow, AreStacked, JustTheseLive, IsSound}
 use Rattle.space_memory_laws.specs.StandsFor.{HoldsFor, StandsFor}
@@ -44,45 +43,45 @@ use Rattle.space_memory_laws.proofs.Moved.{moved}
 use Rattle.space_memory_laws.proofs.Blocks.{block_of, lie_with_block, lie_without, by_address_without, nothing_without, any_block, any_is, begins_from, any_without, length_with, none_begins, length_without, none_inside, meets_none, misses_all, none_meets, any_there}
 
 -- a mark that changes the live blocks, and bytes of one range of the pool
-record Repools (s : Start) (past : List Mark) (old new : SpaceState) (m : Mark) (bs : List marks.Range) (r : marks.Range) : Type 0 where
+record Repools (s : Start) (past : List Mark) (old new : SpaceState) (m : Mark) (bs : List Range) (r : Range) : Type 0 where
   own : blocks s (m ∷ past) ≡ bs
-  frames : (fs : List marks.Range) → frames_after m.act fs ≡ fs
+  frames : (fs : List Range) → frames_after m.act fs ≡ fs
   calls : (cs : List OpenCall) → act_calls m.act cs ≡ cs
-  keys : (k : ℕ) (q : Option marks.Range) → act_use k m.act q ≡ q
+  keys : (k : ℕ) (q : Option Range) → act_use k m.act q ≡ q
   begins : (x : ℕ) → is_system x ≡ false → (byte s x (m ∷ past)).block ≡ unwrap_or (length_at (by_address bs) x) 0
   side : new.sides.replay ≡ with_blocks old.sides.replay (by_address bs)
   system : new.sides.system ≡ old.sides.system
   held : new.held ≡ old.held
   laid_out : LieBetween replay_pool (replay_pool + pool_size) (by_address bs)
-  from : replay_pool ≤ r.at
-  to : r.at + r.size ≤ replay_pool + pool_size
-  outside : (x : ℕ) → covers (memory_range r) x ≡ false → byte_at new.bytes x ≡ byte_at old.bytes x
+  from : replay_pool ≤ r.addr
+  to : r.addr + r.len ≤ replay_pool + pool_size
+  outside : (x : ℕ) → covers r x ≡ false → byte_at new.bytes x ≡ byte_at old.bytes x
   bytes : (x : ℕ) → is_system x ≡ false → (byte s x (m ∷ past)).cell ≡ cell_of (byte_at new.bytes x) (value_when_held old.held.regions x)
   live : JustTheseLive (range replay_pool pool_size) bs new.bytes
-  unheld : (x : ℕ) → covers (memory_range r) x ≡ true → value_when_held old.held.regions x ≡ None
+  unheld : (x : ℕ) → covers r x ≡ true → value_when_held old.held.regions x ≡ None
 
-module _ (s : Start) (past : List Mark) (old new : SpaceState) (m : Mark) (bs : List marks.Range) (r : marks.Range) (h : StandsFor s past old) (k : Repools s past old new m bs r) where
+module _ (s : Start) (past : List Mark) (old new : SpaceState) (m : Mark) (bs : List Range) (r : Range) (h : StandsFor s past old) (k : Repools s past old new m bs r) where
   repooled_sound : IsSound s (m ∷ past) new
   repooled_sound = record {
-    ends = λ x last. elim (cover_cases (memory_range r) x) [
+    ends = λ x last. elim (cover_cases r x) [
       | inl in' ↦ absurd (omega (arith, in'.below, last, k.to))
       | inr out ↦ k.outside x out.is ∙ h.sound.ends x last
     ];
-    unheld = λ x dead. ap (λ (q : HeldState). value_when_held q.regions x) k.held ∙ elim (cover_cases (memory_range r) x) [
+    unheld = λ x dead. ap (λ (q : HeldState). value_when_held q.regions x) k.held ∙ elim (cover_cases r x) [
       | inl in' ↦ k.unheld x in'.is
       | inr out ↦ h.sound.unheld x (sym (k.outside x out.is) ∙ dead)
     ];
     own = λ x is. ap (λ (q : HeldState). value_when_held q.regions x) k.held ∙ h.sound.own x is;
-    inside = λ x a b c. elim (cover_cases (memory_range r) x) [
+    inside = λ x a b c. elim (cover_cases r x) [
       | inl in' ↦ absurd (true≢false (sym (in_replay x (omega (arith, in'.from, k.from)) (omega (arith, in'.below, k.to))) ∙ b))
       | inr out ↦ k.outside x out.is ∙ h.sound.inside x a b c
     ];
     below = subst IsBelow (sym k.system) h.sound.below;
     held = subst AreHeld (sym k.held) h.sound.held;
     stacked = λ t lt. subst (AreStacked (stack Replay t)) (sym (frames_stay s m past k.frames t)) (h.sound.stacked t lt);
-    frames_live = λ t lt x is. elim (cover_cases (memory_range r) x) [
+    frames_live = λ t lt x is. elim (cover_cases r x) [
       | inl in' ↦
-          let p = cover_parts (memory_range (range (stack Replay t) stack_size)) x is in
+          let p = cover_parts (range (stack Replay t) stack_size) x is in
           absurd (omega (arith, in'.from, k.from, p.1, lt))
       | inr out ↦ ap is_some (k.outside x out.is) ∙ h.sound.frames_live t lt x is ∙ ap (λ gs. any_range gs x) (sym (frames_stay s m past k.frames t))
     ];
@@ -97,19 +96,19 @@ module _ (s : Start) (past : List Mark) (old new : SpaceState) (m : Mark) (bs : 
     stacks = λ t lt. ap (λ (q : SideState). stack_of q.stacks t) k.side ∙ h.stacks t lt ∙ ap (stack_with t) (sym (frames_stay s m past k.frames t));
     pool = ap (λ (q : SideState). q.pool) k.side ∙ ap (λ (q : PoolState). let p : PoolState = record { base = q.base; size = q.size; blocks = by_address bs } in p) h.pool ∙ ap pool_with (sym k.own);
     calls = λ t lt. subst (λ cs. HoldsFor new.held t cs) (sym (calls_stay s m past k.calls t)) (subst (λ q. HoldsFor q t (open_calls (marks_of s t past))) (sym k.held) (h.calls t lt));
-    keys = λ j. ap (λ (q : HeldState). option_map (λ (r : Region). r.range) (prepared_region q.regions j)) k.held ∙ h.keys j ∙ ap (option_map memory_range) (sym (keys_stay s m past k.keys j));
+    keys = λ j. ap (λ (q : HeldState). option_map (λ (r : Region). r.range) (prepared_region q.regions j)) k.held ∙ h.keys j ∙ sym (keys_stay s m past k.keys j);
     sound = repooled_sound;
   }
 
 -- a place in the pool is one by the run's list of blocks
-fits : (bs : List marks.Range) (size addr : ℕ) → 1 ≤ size → pool.IsPlace (pool_with bs) size addr → Fits replay_pool bs size addr
+fits : (bs : List Range) (size addr : ℕ) → 1 ≤ size → pool.IsPlace (pool_with bs) size addr → Fits replay_pool bs size addr
 fits bs size addr some p = record { some = some; aligned = p.aligned; low = p.from_base; high = p.in_pool; free = meets_none bs addr size p.free }
 
-fits_back : (bs : List marks.Range) (size addr : ℕ) → Fits replay_pool bs size addr → pool.IsPlace (pool_with bs) size addr
+fits_back : (bs : List Range) (size addr : ℕ) → Fits replay_pool bs size addr → pool.IsPlace (pool_with bs) size addr
 fits_back bs size addr f = record { aligned = f.aligned; from_base = f.low; in_pool = f.high; free = misses_all bs addr size f.free }
 
 -- an Alloc that is to be made
-record Allocs (s : Start) (past : List Mark) (old new : SpaceState) (m : Mark) (e : Event) (size addr : ℕ) (bs : List marks.Range) : Type 0 where
+record Allocs (s : Start) (past : List Mark) (old new : SpaceState) (m : Mark) (e : Event) (size addr : ℕ) (bs : List Range) : Type 0 where
   were : blocks s past ≡ bs
   place : IsLeastPlace (pool_with bs) size addr
   some : 1 ≤ size
@@ -121,8 +120,8 @@ record Allocs (s : Start) (past : List Mark) (old new : SpaceState) (m : Mark) (
   kind : e.kind ≡ Alloc addr size
   keyed : has m (OfKey (key Pool 0)) ≡ true
 
-module _ (s : Start) (past : List Mark) (old new : SpaceState) (m : Mark) (e : Event) (size addr : ℕ) (bs : List marks.Range) (h : StandsFor s past old) (a : Allocs s past old new m e size addr bs) where
-  abbrev r : marks.Range
+module _ (s : Start) (past : List Mark) (old new : SpaceState) (m : Mark) (e : Event) (size addr : ℕ) (bs : List Range) (h : StandsFor s past old) (a : Allocs s past old new m e size addr bs) where
+  abbrev r : Range
   r = range addr size
 
   laid : LieBetween replay_pool (replay_pool + pool_size) (by_address bs)
@@ -142,18 +141,18 @@ module _ (s : Start) (past : List Mark) (old new : SpaceState) (m : Mark) (e : E
       ∙ cond-false (eqb size 0) l (r ∷ l) (ne_eqb size 0 (λ z. absurd (omega (arith, z, a.some))))
       ∙ ap (λ q. r ∷ q) a.were
 
-  was_dead : (x : ℕ) → covers (memory_range r) x ≡ true → IsDead old.bytes x
+  was_dead : (x : ℕ) → covers r x ≡ true → IsDead old.bytes x
   was_dead x c =
-      let p = cover_parts (memory_range r) x c in
-      let in' : in_range (range replay_pool pool_size) x ≡ true = covered (memory_range (range replay_pool pool_size)) x (omega (arith, p.0, a.place.is_place.from_base)) (omega (arith, p.1, a.place.is_place.in_pool)) in
+      let p = cover_parts r x c in
+      let in' : covers (range replay_pool pool_size) x ≡ true = covered (range replay_pool pool_size) x (omega (arith, p.0, a.place.is_place.from_base)) (omega (arith, p.1, a.place.is_place.in_pool)) in
       dead_from (byte_at old.bytes x) (h.sound.blocks_live x in' ∙ ap (λ l. any_range l x) a.were ∙ none_meets bs addr size x (meets_none bs addr size a.place.is_place.free) p.0 p.1)
 
-  alloc_bytes : (x : ℕ) → is_system x ≡ false → cond (covers (memory_range r) x) (Live 0) (byte s x past).cell ≡ cell_of (byte_at new.bytes x) (value_when_held old.held.regions x)
-  alloc_bytes x own = elim (cover_cases (memory_range r) x) [
+  alloc_bytes : (x : ℕ) → is_system x ≡ false → cond (covers r x) (Live 0) (byte s x past).cell ≡ cell_of (byte_at new.bytes x) (value_when_held old.held.regions x)
+  alloc_bytes x own = elim (cover_cases r x) [
     | inl in' ↦
-        cond-true (covers (memory_range r) x) _ _ in'.is
+        cond-true (covers r x) _ _ in'.is
         ∙ sym (ap (cell_of (byte_at new.bytes x)) (h.sound.unheld x (was_dead x in'.is)) ∙ ap (λ b. cell_of b None) (a.fills.filled x in'.is))
-    | inr out ↦ cond-false (covers (memory_range r) x) _ _ out.is ∙ h.bytes x own ∙ ap (λ b. cell_of b (value_when_held old.held.regions x)) (sym (a.fills.others.bytes x out.is))
+    | inr out ↦ cond-false (covers r x) _ _ out.is ∙ h.bytes x own ∙ ap (λ b. cell_of b (value_when_held old.held.regions x)) (sym (a.fills.others.bytes x out.is))
   ]
 
   old_begins : (x : ℕ) → is_system x ≡ false → (byte s x past).block ≡ unwrap_or (length_at (by_address bs) x) 0
@@ -164,26 +163,26 @@ module _ (s : Start) (past : List Mark) (old new : SpaceState) (m : Mark) (e : E
       ap (λ o. unwrap_or o 0) (length_with (by_address bs) (block_of r) x (none_begins replay_pool (replay_pool + pool_size) (by_address bs) addr size addr laid a.place.is_place.free (omega arith) (omega (arith, a.some))))
       ∙ elim (eqb addr x) as (λ c. unwrap_or (cond c (Some size) (length_at (by_address bs) x)) 0 ≡ cond c size (unwrap_or (length_at (by_address bs) x) 0)) [ true ↦ refl | false ↦ refl ]
 
-  alloc_begins : (x : ℕ) → is_system x ≡ false → cond (covers (memory_range r) x) (cond (eqb x addr) size 0) (byte s x past).block ≡ unwrap_or (length_at (by_address (r ∷ bs)) x) 0
+  alloc_begins : (x : ℕ) → is_system x ≡ false → cond (covers r x) (cond (eqb x addr) size 0) (byte s x past).block ≡ unwrap_or (length_at (by_address (r ∷ bs)) x) 0
   alloc_begins x own = elim (cases_eq x addr) [
     | inl e ↦
-        cond-true (covers (memory_range r) x) _ _ (covered (memory_range r) x (omega (arith, e)) (omega (arith, e, a.some)))
+        cond-true (covers r x) _ _ (covered r x (omega (arith, e)) (omega (arith, e, a.some)))
         ∙ cond-true (eqb x addr) size 0 (eq-eqb x addr e)
         ∙ sym (new_begins x ∙ cond-true (eqb addr x) size _ (eq-eqb addr x (sym e)))
-    | inr ne ↦ elim (cover_cases (memory_range r) x) [
+    | inr ne ↦ elim (cover_cases r x) [
       | inl in' ↦
-          cond-true (covers (memory_range r) x) _ _ in'.is
+          cond-true (covers r x) _ _ in'.is
           ∙ cond-false (eqb x addr) size 0 (ne_eqb x addr ne)
           ∙ sym (new_begins x ∙ cond-false (eqb addr x) size _ (ne_eqb addr x (λ z. ne (sym z))) ∙ ap (λ o. unwrap_or o 0) (none_begins replay_pool (replay_pool + pool_size) (by_address bs) addr size x laid a.place.is_place.free in'.from in'.below))
       | inr out ↦
-          cond-false (covers (memory_range r) x) _ _ out.is
+          cond-false (covers r x) _ _ out.is
           ∙ old_begins x own
           ∙ sym (new_begins x ∙ cond-false (eqb addr x) size _ (ne_eqb addr x (λ z. ne (sym z))))
     ]
   ]
 
   alloc_live : JustTheseLive (range replay_pool pool_size) (r ∷ bs) new.bytes
-  alloc_live x is = elim (cover_cases (memory_range r) x) [
+  alloc_live x is = elim (cover_cases r x) [
     | inl in' ↦ ap is_some (a.fills.filled x in'.is) ∙ sym (ap (λ b. b || any_range bs x) in'.is)
     | inr out ↦ ap is_some (a.fills.others.bytes x out.is) ∙ h.sound.blocks_live x is ∙ ap (λ l. any_range l x) a.were ∙ sym (ap (λ b. b || any_range bs x) out.is)
   ]
@@ -261,7 +260,7 @@ refused_allocs s past memory m e size h none is kind = record {
 }
 
 -- a Free that is to be made
-record Frees (s : Start) (past : List Mark) (old new : SpaceState) (m : Mark) (e : Event) (addr size : ℕ) (bs : List marks.Range) : Type 0 where
+record Frees (s : Start) (past : List Mark) (old new : SpaceState) (m : Mark) (e : Event) (addr size : ℕ) (bs : List Range) : Type 0 where
   were : blocks s past ≡ bs
   there : length_at (by_address bs) addr ≡ Some size
   side : new.sides.replay ≡ with_blocks old.sides.replay (without_block (by_address bs) addr)
@@ -273,11 +272,11 @@ record Frees (s : Start) (past : List Mark) (old new : SpaceState) (m : Mark) (e
   kind : e.kind ≡ Free addr size
   keyed : has m (OfKey (key Pool 0)) ≡ true
 
-module _ (s : Start) (past : List Mark) (old new : SpaceState) (m : Mark) (e : Event) (addr size : ℕ) (bs : List marks.Range) (h : StandsFor s past old) (a : Frees s past old new m e addr size bs) where
-  abbrev freed : marks.Range
+module _ (s : Start) (past : List Mark) (old new : SpaceState) (m : Mark) (e : Event) (addr size : ℕ) (bs : List Range) (h : StandsFor s past old) (a : Frees s past old new m e addr size bs) where
+  abbrev freed : Range
   freed = range addr size
 
-  abbrev left : List marks.Range
+  abbrev left : List Range
   left = without addr bs
 
   laid_before : LieBetween replay_pool (replay_pool + pool_size) (by_address bs)
@@ -298,27 +297,27 @@ module _ (s : Start) (past : List Mark) (old new : SpaceState) (m : Mark) (e : E
       ∙ ap (λ z. blocks_after z l) a.kind
       ∙ ap (without addr) a.were
 
-  in_pool : (x : ℕ) → covers (memory_range freed) x ≡ true → in_range (range replay_pool pool_size) x ≡ true
+  in_pool : (x : ℕ) → covers freed x ≡ true → covers (range replay_pool pool_size) x ≡ true
   in_pool x c =
-      let p = cover_parts (memory_range freed) x c in
-      covered (memory_range (range replay_pool pool_size)) x (omega (arith, p.0, lies.0)) (omega (arith, p.1, lies.2))
+      let p = cover_parts freed x c in
+      covered (range replay_pool pool_size) x (omega (arith, p.0, lies.0)) (omega (arith, p.1, lies.2))
 
   -- which bytes the blocks that are left have
-  any_left : (x : ℕ) → any_range left x ≡ cond (covers (memory_range freed) x) false (any_range bs x)
+  any_left : (x : ℕ) → any_range left x ≡ cond (covers freed x) false (any_range bs x)
   any_left x =
       any_is left x ∙ ap (λ l. any_block l x) left_is ∙ any_without replay_pool (replay_pool + pool_size) (by_address bs) addr size x laid_before a.there
-      ∙ ap (cond (covers (memory_range freed) x) false) (sym (any_is bs x))
+      ∙ ap (cond (covers freed x) false) (sym (any_is bs x))
 
-  free_bytes : (x : ℕ) → is_system x ≡ false → cond (covers (memory_range freed) x) Dead (byte s x past).cell ≡ cell_of (byte_at new.bytes x) (value_when_held old.held.regions x)
-  free_bytes x own = elim (cover_cases (memory_range freed) x) [
-    | inl in' ↦ cond-true (covers (memory_range freed) x) _ _ in'.is ∙ ap (λ b. cell_of b (value_when_held old.held.regions x)) (sym (a.fills.filled x in'.is))
-    | inr out ↦ cond-false (covers (memory_range freed) x) _ _ out.is ∙ h.bytes x own ∙ ap (λ b. cell_of b (value_when_held old.held.regions x)) (sym (a.fills.others.bytes x out.is))
+  free_bytes : (x : ℕ) → is_system x ≡ false → cond (covers freed x) Dead (byte s x past).cell ≡ cell_of (byte_at new.bytes x) (value_when_held old.held.regions x)
+  free_bytes x own = elim (cover_cases freed x) [
+    | inl in' ↦ cond-true (covers freed x) _ _ in'.is ∙ ap (λ b. cell_of b (value_when_held old.held.regions x)) (sym (a.fills.filled x in'.is))
+    | inr out ↦ cond-false (covers freed x) _ _ out.is ∙ h.bytes x own ∙ ap (λ b. cell_of b (value_when_held old.held.regions x)) (sym (a.fills.others.bytes x out.is))
   ]
 
   free_live : JustTheseLive (range replay_pool pool_size) left new.bytes
-  free_live x is = elim (cover_cases (memory_range freed) x) [
-    | inl in' ↦ ap is_some (a.fills.filled x in'.is) ∙ sym (any_left x ∙ cond-true (covers (memory_range freed) x) false (any_range bs x) in'.is)
-    | inr out ↦ ap is_some (a.fills.others.bytes x out.is) ∙ h.sound.blocks_live x is ∙ ap (λ l. any_range l x) a.were ∙ sym (any_left x ∙ cond-false (covers (memory_range freed) x) false (any_range bs x) out.is)
+  free_live x is = elim (cover_cases freed x) [
+    | inl in' ↦ ap is_some (a.fills.filled x in'.is) ∙ sym (any_left x ∙ cond-true (covers freed x) false (any_range bs x) in'.is)
+    | inr out ↦ ap is_some (a.fills.others.bytes x out.is) ∙ h.sound.blocks_live x is ∙ ap (λ l. any_range l x) a.were ∙ sym (any_left x ∙ cond-false (covers freed x) false (any_range bs x) out.is)
   ]
 
   begins_before : (x : ℕ) → is_system x ≡ false → (byte s x past).block ≡ unwrap_or (length_at (by_address bs) x) 0
@@ -329,16 +328,16 @@ module _ (s : Start) (past : List Mark) (old new : SpaceState) (m : Mark) (e : E
       ap (λ l. unwrap_or (length_at l x) 0) left_is ∙ ap (λ o. unwrap_or o 0) (length_without (by_address bs) addr x)
       ∙ elim (eqb addr x) as (λ c. unwrap_or (cond c None (length_at (by_address bs) x)) 0 ≡ cond c 0 (unwrap_or (length_at (by_address bs) x) 0)) [ true ↦ refl | false ↦ refl ]
 
-  free_begins : (x : ℕ) → is_system x ≡ false → cond (covers (memory_range freed) x) 0 (byte s x past).block ≡ unwrap_or (length_at (by_address left) x) 0
+  free_begins : (x : ℕ) → is_system x ≡ false → cond (covers freed x) 0 (byte s x past).block ≡ unwrap_or (length_at (by_address left) x) 0
   free_begins x own = elim (cases_eq addr x) [
     | inl e ↦
-        cond-true (covers (memory_range freed) x) 0 _ (covered (memory_range freed) x (omega (arith, e)) (omega (arith, e, lies.1)))
+        cond-true (covers freed x) 0 _ (covered freed x (omega (arith, e)) (omega (arith, e, lies.1)))
         ∙ sym (begins_left x ∙ cond-true (eqb addr x) 0 _ (eq-eqb addr x e))
-    | inr ne ↦ elim (cover_cases (memory_range freed) x) [
+    | inr ne ↦ elim (cover_cases freed x) [
       | inl in' ↦
-          cond-true (covers (memory_range freed) x) 0 _ in'.is
+          cond-true (covers freed x) 0 _ in'.is
           ∙ sym (begins_left x ∙ cond-false (eqb addr x) 0 _ (ne_eqb addr x ne) ∙ ap (λ o. unwrap_or o 0) (none_inside replay_pool (replay_pool + pool_size) (by_address bs) addr size x laid_before a.there (omega (arith, in'.from, ne)) in'.below))
-      | inr out ↦ cond-false (covers (memory_range freed) x) 0 _ out.is ∙ begins_before x own ∙ sym (begins_left x ∙ cond-false (eqb addr x) 0 _ (ne_eqb addr x ne))
+      | inr out ↦ cond-false (covers freed x) 0 _ out.is ∙ begins_before x own ∙ sym (begins_left x ∙ cond-false (eqb addr x) 0 _ (ne_eqb addr x ne))
     ]
   ]
 
@@ -361,17 +360,17 @@ module _ (s : Start) (past : List Mark) (old new : SpaceState) (m : Mark) (e : E
     unheld = a.free;
   }
 
-  was_live : (x : ℕ) → covers (memory_range freed) x ≡ true → IsLive (byte s x past).cell
+  was_live : (x : ℕ) → covers freed x ≡ true → IsLive (byte s x past).cell
   was_live x c =
-      let p = cover_parts (memory_range freed) x c in
+      let p = cover_parts freed x c in
       let live : is_some (byte_at old.bytes x) ≡ true = h.sound.blocks_live x (in_pool x c) ∙ ap (λ l. any_range l x) a.were ∙ in_block x c in
       subst IsLive (sym (h.bytes x (below_system x (omega (arith, p.1, lies.2))) ∙ ap (cell_of (byte_at old.bytes x)) (a.free x c))) (live_cell (byte_at old.bytes x) (λ dead. absurd (true≢false (sym live ∙ ap is_some dead))))
     where
-      in_block : (x : ℕ) → covers (memory_range freed) x ≡ true → any_range bs x ≡ true
+      in_block : (x : ℕ) → covers freed x ≡ true → any_range bs x ≡ true
       in_block x c = any_is bs x ∙ any_there replay_pool (replay_pool + pool_size) (by_address bs) addr size x laid_before a.there c
 
   free_asks : (x : ℕ) → EventAsks (Free addr size) x (byte s x past)
-  free_asks x w = (was_live x w, λ e. begins_before x (below_system x (let p = cover_parts (memory_range freed) x w in omega (arith, p.1, lies.2))) ∙ ap (λ y. unwrap_or (length_at (by_address bs) y) 0) e ∙ ap (λ o. unwrap_or o 0) a.there)
+  free_asks x w = (was_live x w, λ e. begins_before x (below_system x (let p = cover_parts freed x w in omega (arith, p.1, lies.2))) ∙ ap (λ y. unwrap_or (length_at (by_address bs) y) 0) e ∙ ap (λ o. unwrap_or o 0) a.there)
 
   free_made : IsMark s past m new
   free_made = record {

@@ -5,7 +5,7 @@ use Rattle.marks.specs.Bytes.{Cell, event_leaves, cell_after, event_block, block
 use Rattle.replay_runs.specs.Runs.{Start, byte}
 use Rattle.replay_runs.specs.Threads.{OpenCall, calls_after}
 use Rattle.replay_runs.specs.Pool.{blocks_after, use_after}
-use Rattle.marks.specs.Ranges.{Range}
+use Rattle.marks.specs.declared.range.Range.{Range}
 use Rattle.space_memory.specs.Spaces.{SpaceState}
 use Rattle.space_memory_laws.specs.StandsFor.{StandsFor}
 use Rattle.space_memory_laws.specs.Marks.{IsQuietEvent, IsQuiet}

@@ -1,6 +1,5 @@
 -- Memory looks only at what runs that are alike have alike.
 use Rattle.std.proofs.Common.{◌≡◌, ℕ, ◌+◌, List, sym, ap, ◌∙◌, subst}
-use Rattle.std.specs.Prelude.{option_map}
 use Rattle.run_events.specs.declared.key.Class.TheVariants.{Pool, Async}
 use Rattle.marks.specs.declared.side.Side.TheVariants.{Replay}
 use Rattle.marks.specs.Places.{stack, replay_pool, pool_size}
@@ -15,7 +14,7 @@ use Rattle.replay_runs.specs.Keys.{key}
 use Rattle.replay_runs.specs.Laws.{Rearranged}
 use Rattle.replay_runs.proofs.Swap.{same_new}
 use Rattle.space_memory.specs.Spaces.{SpaceState}
-use Rattle.space_memory_laws.specs.Shown.{memory_range, stack_with, pool_with, by_address}
+use Rattle.space_memory_laws.specs.Shown.{stack_with, pool_with, by_address}
 use Rattle.space_memory_laws.specs.Sound.{AreStacked, IsSound}
 use Rattle.space_memory_laws.specs.StandsFor.{HoldsFor, StandsFor}
 use Rattle.space_memory_laws.specs.Rearranged.{RearrangedRunsShareMemory}
@@ -51,7 +50,7 @@ module _ (program : Program) (s : Start) (a b : List Mark) (memory : SpaceState)
     stacks = λ t lt. h.stacks t lt ∙ ap (stack_with t) (same_frames t);
     pool = h.pool ∙ ap pool_with same_blocks;
     calls = λ t lt. subst (HoldsFor memory.held t) (ap open_calls (r.parts t)) (h.calls t lt);
-    keys = λ k. h.keys k ∙ ap (option_map memory_range) (same_use k);
+    keys = λ k. h.keys k ∙ same_use k;
     sound = sound;
   }
 

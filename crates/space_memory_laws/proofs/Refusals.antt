@@ -2,12 +2,11 @@
 use Rattle.std.proofs.Common.{◌≡◌, ℕ, ◌+◌, ◌-◌, ◌^◌, ◌<◌, ◌≤◌, ◌⊎◌, Bool, true, false, leb, ltb, List, [], Option, Some, None, inl, inr, refl, ap, sym, ◌∙◌, subst, arith}
 use Rattle.std.proofs.lemmas.Bool.{cases_lt, cases_Bool, lt-ltb, le-leb, leb-true, ltb-true, and_from, and_parts, true≢false}
 use Rattle.marks.specs.Places.{constants, replay_globals, system_globals, system_end, is_constant, is_system}
-use Rattle.marks.specs.Ranges.{range}
+use Rattle.marks.specs.declared.range.Range.{Range}
+use Rattle.marks.specs.Ranges.{range, covers, IsInRange, NoneIn, IsLeastIn}
 use Rattle.marks.specs.Marks.{Mark}
 use Rattle.marks.specs.Bytes.{Dead, Live, Held, IsHeld}
-use Rattle.memory_map.specs.declared.range.Range.{Range}
 use Rattle.memory_map.specs.declared.areas.TheConstants.{SYSTEM_MEMORY}
-use Rattle.memory_map.specs.Ranges.{covers, IsInRange, NoneIn, IsLeastIn}
 use Rattle.space_memory_bytes.specs.Areas.{IsDead}
 use Rattle.space_memory_access.specs.Held.{IsPending}
 use Rattle.space_memory_access.specs.declared.refusal.Refusal.{Refusal}

@@ -2,7 +2,7 @@
 use Rattle.std.proofs.Common.{◌≡◌, ℕ, ◌-◌, Bool, true, false, cond, ◌&&◌, ◌||◌, List, [], ◌∷◌, ◌++◌, get_or, Option, Some, None, inl, inr, refl, ap, sym, ◌∙◌}
 use Rattle.std.proofs.lemmas.Bool.{cases_Bool, true≢false, cond-true, cond-false}
 use Rattle.std.proofs.lemmas.List.Folds.{list_any-append}
-use Rattle.memory_map.specs.Ranges.{covers}
+use Rattle.marks.specs.Ranges.{covers}
 use Rattle.space_memory_access.specs.declared.holder.Region.{Region}
 use Rattle.space_memory_access.specs.Holders.{is_pending, has_key}
 use Rattle.space_memory_access.specs.Held.{prepared_region}

@@ -7,11 +7,10 @@ use Rattle.std.proofs.lemmas.List.{append-nil, map-append, get_or-drop, length-d
 use Rattle.std.proofs.lemmas.List.Elements.{All-head, All-tail}
 use Rattle.marks.specs.declared.breach.BreachKind.TheVariants as breach
 use Rattle.marks.specs.Places.{thread_count}
-use Rattle.marks.specs.Ranges.{in_range}
-use Rattle.marks.specs.Ranges as marks
+use Rattle.marks.specs.declared.range.Range.{Range}
+use Rattle.marks.specs.Ranges.{covers}
 use Rattle.marks.specs.Marks.{Mark}
 use Rattle.marks.specs.Wants.{same_origin}
-use Rattle.memory_map.specs.declared.range.Range.{Range}
 use Rattle.space_memory_bytes.specs.Areas.{byte_at}
 use Rattle.space_memory_access.specs.declared.holder.OpenCall.{OpenCall}
 use Rattle.space_memory_access.specs.declared.holder.Region.{Region}
@@ -19,7 +18,6 @@ use Rattle.space_memory_access.specs.Held.{innermost, prepared_region}
 use Rattle.space_memory_access.specs.declared.refusal.Refusal.{Refusal}
 use Rattle.space_memory_access.specs.declared.refusal.Refusal.TheVariants.{NotLive, Pending, OtherSpace, ReadOnly, StackFull, KeyInUse, NoKey, Size}
 use Rattle.replay_runs.specs.Runs.{Start, marks_of}
-use Rattle.replay_runs.specs.Keys.{key}
 use Rattle.replay_runs.specs.Interface.{Interface, Committing}
 use Rattle.replay_runs.specs.Threads.{open_calls}
 use Rattle.replay_runs.specs.Pool.{in_use}
@@ -28,7 +26,7 @@ use Rattle.replay_runs.proofs.Replies.{same_origin_true}
 use Rattle.replay_runs.specs.Checks.{Finding, BreachFound, Checks, Check, Done, Passes, Finds, is_breach_found, IsSpoiled, size_check, size_checks, commit_size_check}
 use Rattle.space_memory.specs.Spaces.{SpaceState}
 use Rattle.space_memory.specs.Releases.{outs_of, used_of, IsFilled, AllFilled, FirstUnfilled, committed, HasKey, IsReleaseRefused}
-use Rattle.space_memory_laws.specs.Shown.{memory_range, value_when_held, ranges_at}
+use Rattle.space_memory_laws.specs.Shown.{value_when_held, ranges_at}
 use Rattle.space_memory_laws.specs.StandsFor.{StandsFor}
 use Rattle.space_memory_laws.specs.Refusals.{finding_of}
 use Rattle.space_memory_laws.specs.Returns.{used_at, was_changed, AreUsedSizes, IsCommitted, ReturnsFind}
@@ -79,14 +77,14 @@ module _ (memory : SpaceState) where
   changed y = was_changed memory y
 
   -- what the check of a region's size says is bad
-  abbrev IsBad : marks.Range → ℕ → ℕ → Type 0
-  IsBad r n x = (x ≡ r.at) × IsSpoiled changed 0 r n
+  abbrev IsBad : Range → ℕ → ℕ → Type 0
+  IsBad r n x = (x ≡ r.addr) × IsSpoiled changed 0 r n
 
-  module _ (g : Region) (r : marks.Range) (used n : ℕ) (same : g.range ≡ memory_range r) (is : n ≡ used_at r used) (waits : IsWaiting rs g) where
-    from : g.range.addr ≡ r.at
+  module _ (g : Region) (r : Range) (used n : ℕ) (same : g.range ≡ r) (is : n ≡ used_at r used) (waits : IsWaiting rs g) where
+    from : g.range.addr ≡ r.addr
     from = ap (λ (q : Range). q.addr) same
 
-    len : g.range.len ≡ r.size
+    len : g.range.len ≡ r.len
     len = ap (λ (q : Range). q.len) same
 
     used_is : used_of g used ≡ n
@@ -100,8 +98,8 @@ module _ (memory : SpaceState) where
         waits.value (g.range.addr + used_of g used + i) (covered g.range (g.range.addr + used_of g used + i) (omega arith) (omega (arith, k)))
         ∙ ap (λ v. Some v) (ap (λ j. get_or g.before j 0) off ∙ sym (get_or-drop (used_of g used) g.before i 0))
 
-    filled_or_bad : IsFilled memory.bytes used g ⊎ IsBad r n r.at
-    filled_or_bad = elim (cases_lt r.size n) [
+    filled_or_bad : IsFilled memory.bytes used g ⊎ IsBad r n r.addr
+    filled_or_bad = elim (cases_lt r.len n) [
       | inl more ↦ inr (refl, inr (inl more))
       | inr fits ↦
           let fits' : used_of g used ≤ g.range.len = omega (arith, used_is, len, fits) in
@@ -109,16 +107,16 @@ module _ (memory : SpaceState) where
             | inl all ↦ inl (record { fits = fits'; rest = all })
             | inr found ↦
                 let k : used_of g used + found.0 < g.range.len = omega (arith, found.1, length-drop (used_of g used) g.before, waits.whole, fits') in
-                inr (refl, inr (inr (g.range.addr + used_of g used + found.0, covered (memory_range r) (g.range.addr + used_of g used + found.0) (omega (arith, from)) (omega (arith, from, k, len)), omega (arith, from, used_is), differs (byte_at memory.bytes (g.range.addr + used_of g used + found.0)) (value_when_held rs (g.range.addr + used_of g used + found.0)) (λ e. found.2 (e ∙ was found.0 found.1 fits')))))
+                inr (refl, inr (inr (g.range.addr + used_of g used + found.0, covered r (g.range.addr + used_of g used + found.0) (omega (arith, from)) (omega (arith, from, k, len)), omega (arith, from, used_is), differs (byte_at memory.bytes (g.range.addr + used_of g used + found.0)) (value_when_held rs (g.range.addr + used_of g used + found.0)) (λ e. found.2 (e ∙ was found.0 found.1 fits')))))
           ]
     ]
 
-    past_used : IsFilled memory.bytes used g → ((r.size < n) ⊎ ((y : ℕ) × (in_range r y ≡ true) × (r.at + n ≤ y) × (changed y ≡ true))) → ⊥
+    past_used : IsFilled memory.bytes used g → ((r.len < n) ⊎ ((y : ℕ) × (covers r y ≡ true) × (r.addr + n ≤ y) × (changed y ≡ true))) → ⊥
     past_used filled spoiled = elim spoiled [
       | inl more ↦ omega (arith, more, filled.fits, used_is, len)
       | inr spoilt ↦
           let y = spoilt.0 in
-          let c = cover_parts (memory_range r) y spoilt.1 in
+          let c = cover_parts r y spoilt.1 in
           let low : g.range.addr + used_of g used ≤ y = omega (arith, from, used_is, spoilt.2) in
           let i = y - (g.range.addr + used_of g used) in
           let at : g.range.addr + used_of g used + i ≡ y = omega (arith, low) in
@@ -139,25 +137,25 @@ module _ (memory : SpaceState) where
   tails a b as' bs e = cc
 
   -- the regions of a return, each with the range that the run has of it
-  pub record AreReturned (gs : List Region) (ro : List marks.Range) (used ns : List ℕ) : Type 0 where
-    pub ranges : map (λ (g : Region). g.range) gs ≡ map memory_range ro
+  pub record AreReturned (gs : List Region) (ro : List Range) (used ns : List ℕ) : Type 0 where
+    pub ranges : map (λ (g : Region). g.range) gs ≡ ro
     pub sizes : AreUsedSizes ro used ns
     pub waits : All (IsWaiting rs) gs
 
-  later : (g : Region) (gs : List Region) (r : marks.Range) (ro : List marks.Range) (u : ℕ) (used : List ℕ) (n : ℕ) (ns : List ℕ) → AreReturned (g ∷ gs) (r ∷ ro) (u ∷ used) (n ∷ ns) → AreReturned gs ro used ns
-  later g gs r ro u used n ns a = record { ranges = tails g.range (memory_range r) (map (λ (g : Region). g.range) gs) (map memory_range ro) a.ranges; sizes = a.sizes.1; waits = All-tail (IsWaiting rs) g gs a.waits }
+  later : (g : Region) (gs : List Region) (r : Range) (ro : List Range) (u : ℕ) (used : List ℕ) (n : ℕ) (ns : List ℕ) → AreReturned (g ∷ gs) (r ∷ ro) (u ∷ used) (n ∷ ns) → AreReturned gs ro used ns
+  later g gs r ro u used n ns a = record { ranges = tails g.range r (map (λ (g : Region). g.range) gs) ro a.ranges; sizes = a.sizes.1; waits = All-tail (IsWaiting rs) g gs a.waits }
 
-  head_is : (g : Region) (gs : List Region) (r : marks.Range) (ro : List marks.Range) (used ns : List ℕ) → AreReturned (g ∷ gs) (r ∷ ro) used ns → g.range ≡ memory_range r
-  head_is g gs r ro used ns a = heads g.range (memory_range r) (map (λ (g : Region). g.range) gs) (map memory_range ro) a.ranges
+  head_is : (g : Region) (gs : List Region) (r : Range) (ro : List Range) (used ns : List ℕ) → AreReturned (g ∷ gs) (r ∷ ro) used ns → g.range ≡ r
+  head_is g gs r ro used ns a = heads g.range r (map (λ (g : Region). g.range) gs) ro a.ranges
 
-  sizes_refused : (gs : List Region) (ro : List marks.Range) (used ns : List ℕ) (x : ℕ) → AreReturned gs ro used ns → FirstUnfilled memory.bytes gs used x → Finds (size_checks changed [] ro ns Done) (BreachFound breach.Size x None)
+  sizes_refused : (gs : List Region) (ro : List Range) (used ns : List ℕ) (x : ℕ) → AreReturned gs ro used ns → FirstUnfilled memory.bytes gs used x → Finds (size_checks changed [] ro ns Done) (BreachFound breach.Size x None)
   sizes_refused (g ∷ gs) (r ∷ ro) (u ∷ used) (n ∷ ns) x a first =
       let same = head_is g gs r ro (u ∷ used) (n ∷ ns) a in
       let waits = All-head (IsWaiting rs) g gs a.waits in
       elim first [
         | inl here ↦ elim (filled_or_bad g r u n same a.sizes.0 waits) [
           | inl filled ↦ absurd (here.0 filled)
-          | inr bad ↦ subst (λ y. Finds (size_checks changed [] (r ∷ ro) (n ∷ ns) Done) (BreachFound breach.Size y None)) (sym (here.1 ∙ ap (λ (q : Range). q.addr) same)) (inl (r.at, (bad, λ y b. omega (arith, b.0)), refl))
+          | inr bad ↦ subst (λ y. Finds (size_checks changed [] (r ∷ ro) (n ∷ ns) Done) (BreachFound breach.Size y None)) (sym (here.1 ∙ ap (λ (q : Range). q.addr) same)) (inl (r.addr, (bad, λ y b. omega (arith, b.0)), refl))
         ]
         | inr more ↦ inr (not_both g r u n same a.sizes.0 waits more.0, sizes_refused gs ro used ns x (later g gs r ro u used n ns a) more.1)
       ]
@@ -166,7 +164,7 @@ module _ (memory : SpaceState) where
   sizes_refused (g ∷ gs) (r ∷ ro) [] ns x a first = absurd first
   sizes_refused (g ∷ gs) (r ∷ ro) (u ∷ used) [] x a first = absurd a.sizes
 
-  sizes_found : (gs : List Region) (ro : List marks.Range) (used ns : List ℕ) (f : Finding) → AreReturned gs ro used ns → Finds (size_checks changed [] ro ns Done) f → (x : ℕ) × FirstUnfilled memory.bytes gs used x × (f ≡ BreachFound breach.Size x None)
+  sizes_found : (gs : List Region) (ro : List Range) (used ns : List ℕ) (f : Finding) → AreReturned gs ro used ns → Finds (size_checks changed [] ro ns Done) f → (x : ℕ) × FirstUnfilled memory.bytes gs used x × (f ≡ BreachFound breach.Size x None)
   sizes_found (g ∷ gs) (r ∷ ro) (u ∷ used) (n ∷ ns) f a found =
       let same = head_is g gs r ro (u ∷ used) (n ∷ ns) a in
       let waits = All-head (IsWaiting rs) g gs a.waits in
@@ -174,7 +172,7 @@ module _ (memory : SpaceState) where
         | inl here ↦ (here.0, inl ((λ filled. not_both g r u n same a.sizes.0 waits filled here.0 here.1.0), here.1.0.0 ∙ sym (ap (λ (q : Range). q.addr) same)), here.2)
         | inr more ↦ elim (filled_or_bad g r u n same a.sizes.0 waits) [
           | inl filled ↦ (let k = sizes_found gs ro used ns f (later g gs r ro u used n ns a) more.1 in (k.0, inr (filled, k.1), k.2))
-          | inr bad ↦ absurd (more.0 r.at bad)
+          | inr bad ↦ absurd (more.0 r.addr bad)
         ]
       ]
   sizes_found [] [] used ns f a found = absurd (done used ns a.sizes found)
@@ -188,7 +186,7 @@ module _ (memory : SpaceState) where
   sizes_found (g ∷ gs) (r ∷ ro) [] ns f a found = absurd a.sizes
   sizes_found (g ∷ gs) (r ∷ ro) (u ∷ used) [] f a found = absurd a.sizes
 
-  sizes_pass : (gs : List Region) (ro : List marks.Range) (used ns : List ℕ) → AreReturned gs ro used ns → AllFilled memory.bytes gs used → Passes (size_checks changed [] ro ns Done)
+  sizes_pass : (gs : List Region) (ro : List Range) (used ns : List ℕ) → AreReturned gs ro used ns → AllFilled memory.bytes gs used → Passes (size_checks changed [] ro ns Done)
   sizes_pass (g ∷ gs) (r ∷ ro) (u ∷ used) (n ∷ ns) a filled =
       (not_both g r u n (head_is g gs r ro (u ∷ used) (n ∷ ns) a) a.sizes.0 (All-head (IsWaiting rs) g gs a.waits) filled.0, sizes_pass gs ro used ns (later g gs r ro u used n ns a) filled.1)
   sizes_pass [] [] used [] a filled = tt
@@ -198,10 +196,10 @@ module _ (memory : SpaceState) where
   sizes_pass (g ∷ gs) (r ∷ ro) [] ns a filled = absurd a.sizes
   sizes_pass (g ∷ gs) (r ∷ ro) (u ∷ used) [] a filled = absurd a.sizes
 
-  sizes_passed : (gs : List Region) (ro : List marks.Range) (used ns : List ℕ) → AreReturned gs ro used ns → Passes (size_checks changed [] ro ns Done) → AllFilled memory.bytes gs used
+  sizes_passed : (gs : List Region) (ro : List Range) (used ns : List ℕ) → AreReturned gs ro used ns → Passes (size_checks changed [] ro ns Done) → AllFilled memory.bytes gs used
   sizes_passed (g ∷ gs) (r ∷ ro) (u ∷ used) (n ∷ ns) a p = elim (filled_or_bad g r u n (head_is g gs r ro (u ∷ used) (n ∷ ns) a) a.sizes.0 (All-head (IsWaiting rs) g gs a.waits)) [
     | inl filled ↦ (filled, sizes_passed gs ro used ns (later g gs r ro u used n ns a) p.1)
-    | inr bad ↦ absurd (p.0 r.at bad)
+    | inr bad ↦ absurd (p.0 r.addr bad)
   ]
   sizes_passed [] ro used ns a p = tt
   sizes_passed (g ∷ gs) [] used ns a p = absurd cc
@@ -209,7 +207,7 @@ module _ (memory : SpaceState) where
   sizes_passed (g ∷ gs) (r ∷ ro) (u ∷ used) [] a p = absurd a.sizes
 
   -- the committed region comes last
-  sizes_more : (ro : List marks.Range) (used ns : List ℕ) (r : marks.Range) (n : ℕ) → AreUsedSizes ro used ns → size_checks changed [] ro ns (size_check changed 0 r n Done) ≡ size_checks changed [] (ro ++ r ∷ []) (ns ++ n ∷ []) Done
+  sizes_more : (ro : List Range) (used ns : List ℕ) (r : Range) (n : ℕ) → AreUsedSizes ro used ns → size_checks changed [] ro ns (size_check changed 0 r n Done) ≡ size_checks changed [] (ro ++ r ∷ []) (ns ++ n ∷ []) Done
   sizes_more [] [] [] r n h = refl
   sizes_more (q ∷ ro) (u ∷ used) (k ∷ ns) r n h = ap (λ cs. size_check changed 0 q k cs) (sizes_more ro used ns r n h.1)
   sizes_more [] [] (k ∷ ns) r n h = absurd h
@@ -217,7 +215,7 @@ module _ (memory : SpaceState) where
   sizes_more (q ∷ ro) [] ns r n h = absurd h
   sizes_more (q ∷ ro) (u ∷ used) [] r n h = absurd h
 
-  used_more : (ro : List marks.Range) (used ns : List ℕ) (r : marks.Range) (u n : ℕ) → AreUsedSizes ro used ns → n ≡ used_at r u → AreUsedSizes (ro ++ r ∷ []) (used ++ u ∷ []) (ns ++ n ∷ [])
+  used_more : (ro : List Range) (used ns : List ℕ) (r : Range) (u n : ℕ) → AreUsedSizes ro used ns → n ≡ used_at r u → AreUsedSizes (ro ++ r ∷ []) (used ++ u ∷ []) (ns ++ n ∷ [])
   used_more [] [] [] r u n h is = (is, tt)
   used_more (q ∷ ro) (v ∷ used) (k ∷ ns) r u n h is = (h.0, used_more ro used ns r u n h.1 is)
   used_more [] [] (k ∷ ns) r u n h is = absurd h
@@ -226,14 +224,14 @@ module _ (memory : SpaceState) where
   used_more (q ∷ ro) (v ∷ used) [] r u n h is = absurd h
 
 -- a run's range of a key's region
-pub record IsUsedKey (u : Option marks.Range) (g : Region) : Type 0 where
-  pub range : marks.Range
+pub record IsUsedKey (u : Option Range) (g : Region) : Type 0 where
+  pub range : Range
   pub is : u ≡ Some range
-  pub same : g.range ≡ memory_range range
+  pub same : g.range ≡ range
 
-used_key : (u : Option marks.Range) (g : Region) → Some g.range ≡ option_map memory_range u → IsUsedKey u g
+used_key : (u : Option Range) (g : Region) → Some g.range ≡ u → IsUsedKey u g
 used_key None g e = absurd (some_none g.range e)
-used_key (Some r) g e = record { range = r; is = refl; same = inside g.range (memory_range r) e }
+used_key (Some r) g e = record { range = r; is = refl; same = inside g.range r e }
   where
     inside : (a b : Range) → ◌≡◌ {A = Option Range} (Some a) (Some b) → a ≡ b
     inside a b e = cc
@@ -245,7 +243,7 @@ module _ (i : Interface) (s : Start) (past : List Mark) (memory : SpaceState) (t
   abbrev regions : List Region
   regions = memory.held.regions
 
-  abbrev outs : List marks.Range
+  abbrev outs : List Range
   outs = i.outs func args
 
   abbrev ns : List ℕ
@@ -257,11 +255,11 @@ module _ (i : Interface) (s : Start) (past : List Mark) (memory : SpaceState) (t
   depth_is : call.depth ≡ suc (length closes.below)
   depth_is = (h.calls t lt).depth ∙ ap length closes.is
 
-  out_ranges : map (λ (g : Region). g.range) (outs_of call regions) ≡ map memory_range outs
+  out_ranges : map (λ (g : Region). g.range) (outs_of call regions) ≡ outs
   out_ranges =
       (h.calls t lt).outs call.depth
-      ∙ ap (λ qs. map memory_range (ranges_at (λ c. c.outs) call.depth qs)) closes.is
-      ∙ ap (map memory_range) (cond-true (eqb call.depth (suc (length closes.below))) closes.top.outs (ranges_at (λ c. c.outs) call.depth closes.below) (eq-eqb call.depth (suc (length closes.below)) depth_is) ∙ sym closes.outs)
+      ∙ ap (λ qs. ranges_at (λ c. c.outs) call.depth qs) closes.is
+      ∙ (cond-true (eqb call.depth (suc (length closes.below))) closes.top.outs (ranges_at (λ c. c.outs) call.depth closes.below) (eq-eqb call.depth (suc (length closes.below)) depth_is) ∙ sym closes.outs)
 
   waiting : (c : Option (ℕ × ℕ)) → All (IsWaiting regions) (outs_of call regions ++ committed regions c)
   waiting c = gone_waiting call c regions h.sound.held.apart h.sound.held.whole h.sound.held.keys
@@ -303,7 +301,7 @@ module _ (i : Interface) (s : Start) (past : List Mark) (memory : SpaceState) (t
 
   -- the region of a key is committed
   module _ (k n : ℕ) where
-    abbrev now : Option marks.Range
+    abbrev now : Option Range
     now = in_use s k past
 
     abbrev later_checks : Checks
@@ -321,11 +319,7 @@ module _ (i : Interface) (s : Start) (past : List Mark) (memory : SpaceState) (t
     -- the key isn't in now
     module _ (none : prepared_region regions k ≡ None) where
       use_none : now ≡ None
-      use_none = empty now (sym (h.keys k) ∙ ap (option_map (λ (g : Region). g.range)) none)
-        where
-          empty : (o : Option marks.Range) → option_map memory_range o ≡ None → o ≡ None
-          empty None e = refl
-          empty (Some r) e = absurd (some_none (memory_range r) e)
+      use_none = sym (h.keys k) ∙ ap (option_map (λ (g : Region). g.range)) none
 
       lacking_refused : (f : Refusal) → IsRefusedHere f → Finds key_checks (finding_of f)
       lacking_refused (NotLive x) p = absurd p
@@ -350,7 +344,7 @@ module _ (i : Interface) (s : Start) (past : List Mark) (memory : SpaceState) (t
 
     -- it is
     module _ (g : Region) (there : prepared_region regions k ≡ Some g) (u : IsUsedKey now g) where
-      abbrev all_outs : List marks.Range
+      abbrev all_outs : List Range
       all_outs = outs ++ u.range ∷ []
 
       abbrev all_ns : List ℕ
@@ -367,9 +361,8 @@ module _ (i : Interface) (s : Start) (past : List Mark) (memory : SpaceState) (t
         ranges =
             map-append (λ (g : Region). g.range) (outs_of call regions) (committed regions commit)
             ∙ ap (λ qs. qs ++ map (λ (g : Region). g.range) (committed regions commit)) out_ranges
-            ∙ ap (λ o. map memory_range outs ++ map (λ (g : Region). g.range) (option_to_list o)) there
-            ∙ ap (λ q. map memory_range outs ++ q ∷ []) u.same
-            ∙ sym (map-append memory_range outs (u.range ∷ []));
+            ∙ ap (λ o. outs ++ map (λ (g : Region). g.range) (option_to_list o)) there
+            ∙ ap (λ q. outs ++ q ∷ []) u.same;
         sizes = used_more memory outs used ns u.range n (used_at u.range n) sizes refl;
         waits = waiting commit;
       }

@@ -8,12 +8,10 @@ use Rattle.std.proofs.lemmas.List.{map-append, length-set}
 use Rattle.run_events.specs.declared.key.Class.TheVariants.{Async}
 use Rattle.marks.specs.declared.side.Side.TheVariants.{Replay}
 use Rattle.marks.specs.Places.{thread_count, stack, replay_pool, pool_size, is_system}
-use Rattle.marks.specs.Ranges.{Piece, range, any_range, piece_ranges}
-use Rattle.marks.specs.Ranges as marks
+use Rattle.marks.specs.declared.range.Range.{Range}
+use Rattle.marks.specs.Ranges.{Piece, any_range, piece_ranges, covers}
 use Rattle.marks.specs.Marks.{Commit, NoRegion, Withheld, Released, released, Ret, Event, Made, Mark}
 use Rattle.marks.specs.Bytes.{EventAsks, Asks, give_any, event_leaves, cell_after, event_block, block_after}
-use Rattle.memory_map.specs.declared.range.Range.{Range}
-use Rattle.memory_map.specs.Ranges.{covers}
 use Rattle.space_memory_bytes.specs.Areas.{byte_at}
 use Rattle.space_memory.specs.StackFrames.{stack_of}
 use Rattle.pool_list.specs.Blocks.{length_at, LieBetween}
@@ -33,7 +31,7 @@ use Rattle.replay_runs.specs.Returns.{ReleasesInUse}
 use Rattle.space_memory.specs.Sides.{SideState}
 use Rattle.space_memory.specs.Spaces.{SpaceState, IsWhole}
 use Rattle.space_memory.specs.Releases.{outs_of, committed, committed_key, committed_size, AllReturned, HasKey}
-use Rattle.space_memory_laws.specs.Shown.{memory_range, value_when_held, cell_of, stack_with, pool_with, by_address, ranges_at, ins_of}
+use Rattle.space_memory_laws.specs.Shown.{value_when_held, cell_of, stack_with, pool_with, by_address, ranges_at, ins_of}
 use Rattle.space_memory_laws.specs.Held.{AreApart, HaveOwnKeys, has_region, AreHeld}
 use Rattle.space_memory_laws.specs.Sound.{AreStacked, IsBelow, IsSound}
 use Rattle.space_memory_laws.specs.StandsFor.{HoldsFor, StandsFor}
@@ -45,40 +43,24 @@ use Rattle.space_memory_laws.proofs.Closed.{goes_at, value_kept, value_gone, apa
 use Rattle.space_memory_laws.proofs.Gone.{gone_any, gone_waiting, given, untouched, all_fit}
 
 -- an open call that is there is the innermost one, with what it reads and holds
-pub record IsClosed (cs : List run.OpenCall) (ranges : List marks.Range) : Type 0 where
+pub record IsClosed (cs : List run.OpenCall) (ranges : List Range) : Type 0 where
   pub top : run.OpenCall
   pub below : List run.OpenCall
   pub is : cs ≡ top ∷ below
   pub outs : ranges ≡ top.outs
 
-pub closing : (cs : List run.OpenCall) (func : ℕ) (args : List ℕ) (ranges : List marks.Range) → Closes cs func args ranges → IsClosed cs ranges
+pub closing : (cs : List run.OpenCall) (func : ℕ) (args : List ℕ) (ranges : List Range) → Closes cs func args ranges → IsClosed cs ranges
 closing [] func args ranges h = absurd h
 closing (c ∷ cs) func args ranges h = record { top = c; below = cs; is = refl; outs = h.2 }
 
-same_range : (a b : marks.Range) → memory_range a ≡ memory_range b → a ≡ b
-same_range a b e =
-    let at : a.at ≡ b.at = ap (λ (q : Range). q.addr) e in
-    let size : a.size ≡ b.size = ap (λ (q : Range). q.len) e in
-    both a.at b.at a.size b.size at size
-  where
-    both : (x y n k : ℕ) → x ≡ y → n ≡ k → range x n ≡ range y k
-    both x y n k p q = cc
-
-pub some_range : (o : Option marks.Range) (r : marks.Range) → option_map memory_range o ≡ Some (memory_range r) → o ≡ Some r
-some_range None r e = absurd (some_none (memory_range r) (sym e))
-some_range (Some q) r e = ap (λ z. Some z) (same_range q r (inside (memory_range q) (memory_range r) e))
-  where
-    inside : (a b : Range) → ◌≡◌ {A = Option Range} (Some a) (Some b) → a ≡ b
-    inside a b e = cc
-
 -- a region that is committed is that of its piece
-committed_ranges : (m : Mark) (held : HeldState) (c : Option (ℕ × ℕ)) (commit : Commit) → CommitsAs m held c commit → map (λ (r : Region). r.range) (committed held.regions c) ≡ map memory_range (piece_ranges (released commit))
-committed_ranges m held None commit h = sym (ap (λ ps. map memory_range (piece_ranges ps)) h)
+committed_ranges : (m : Mark) (held : HeldState) (c : Option (ℕ × ℕ)) (commit : Commit) → CommitsAs m held c commit → map (λ (r : Region). r.range) (committed held.regions c) ≡ piece_ranges (released commit)
+committed_ranges m held None commit h = sym (ap piece_ranges h)
 committed_ranges m held (Some c) (Released j p) h = one (prepared_region held.regions c.0) (ap (λ z. option_map (λ (r : Region). r.range) (prepared_region held.regions z)) (sym h.1) ∙ h.0)
   where
-    one : (o : Option Region) → option_map (λ (r : Region). r.range) o ≡ Some (memory_range p.range) → map (λ (r : Region). r.range) (option_to_list o) ≡ memory_range p.range ∷ []
-    one None e = absurd (some_none (memory_range p.range) (sym e))
-    one (Some r) e = let same : r.range ≡ memory_range p.range = inside r.range (memory_range p.range) e in ap (λ q. q ∷ []) same
+    one : (o : Option Region) → option_map (λ (r : Region). r.range) o ≡ Some p.range → map (λ (r : Region). r.range) (option_to_list o) ≡ p.range ∷ []
+    one None e = absurd (some_none p.range (sym e))
+    one (Some r) e = let same : r.range ≡ p.range = inside r.range p.range e in ap (λ q. q ∷ []) same
       where
         inside : (a b : Range) → ◌≡◌ {A = Option Range} (Some a) (Some b) → a ≡ b
         inside a b e = cc
@@ -125,19 +107,18 @@ module _ (s : Start) (past : List Mark) (old new : SpaceState) (m : Mark) (e : E
       let down = get_or-set_same old.held.depths m.thread (slice_index old.held.depths m.thread - 1) 0 (omega (arith, k.lt, held.threads)) in
       ap (λ ds. slice_index ds m.thread) k.depths ∙ down ∙ omega (arith, depth_is)
 
-  out_ranges : map (λ (r : Region). r.range) (outs_of call old.held.regions) ≡ map memory_range (piece_ranges pieces)
+  out_ranges : map (λ (r : Region). r.range) (outs_of call old.held.regions) ≡ piece_ranges pieces
   out_ranges =
       (k.h.calls m.thread k.lt).outs (slice_index old.held.depths m.thread)
-      ∙ ap (λ qs. map memory_range (ranges_at (λ c. c.outs) (slice_index old.held.depths m.thread) qs)) k.closes.is
-      ∙ ap (map memory_range) (cond-true (eqb (slice_index old.held.depths m.thread) (suc (length k.closes.below))) k.closes.top.outs (ranges_at (λ c. c.outs) (slice_index old.held.depths m.thread) k.closes.below) (eq-eqb (slice_index old.held.depths m.thread) (suc (length k.closes.below)) depth_is) ∙ sym k.closes.outs)
+      ∙ ap (λ qs. ranges_at (λ c. c.outs) (slice_index old.held.depths m.thread) qs) k.closes.is
+      ∙ (cond-true (eqb (slice_index old.held.depths m.thread) (suc (length k.closes.below))) k.closes.top.outs (ranges_at (λ c. c.outs) (slice_index old.held.depths m.thread) k.closes.below) (eq-eqb (slice_index old.held.depths m.thread) (suc (length k.closes.below)) depth_is) ∙ sym k.closes.outs)
 
-  gone_ranges : map (λ (r : Region). r.range) gone ≡ map memory_range (piece_ranges all_pieces)
+  gone_ranges : map (λ (r : Region). r.range) gone ≡ piece_ranges all_pieces
   gone_ranges =
       map-append (λ (r : Region). r.range) (outs_of call old.held.regions) (committed old.held.regions c)
       ∙ ap (λ qs. qs ++ map (λ (r : Region). r.range) (committed old.held.regions c)) out_ranges
-      ∙ ap (λ qs. map memory_range (piece_ranges pieces) ++ qs) (committed_ranges m old.held c commit k.commits)
-      ∙ sym (map-append memory_range (piece_ranges pieces) (piece_ranges (released commit)))
-      ∙ ap (map memory_range) (sym (piece_ranges_append pieces (released commit)))
+      ∙ ap (λ qs. piece_ranges pieces ++ qs) (committed_ranges m old.held c commit k.commits)
+      ∙ sym (piece_ranges_append pieces (released commit))
 
   abbrev gone_at : ℕ → Bool
   gone_at x = list_any (λ (r : Region). covers r.range x) gone
@@ -171,17 +152,17 @@ module _ (s : Start) (past : List Mark) (old new : SpaceState) (m : Mark) (e : E
   abbrev at_depth : ℕ → OpenCall
   at_depth d = record { thread = m.thread; depth = d }
 
-  left : (d : ℕ) (g : run.OpenCall → List marks.Range) (f : List Region → List Region) → map (λ (r : Region). r.range) (f old.held.regions) ≡ map memory_range (ranges_at g d cs) → (is_same_call call (at_depth d) ≡ false → map (λ (r : Region). r.range) (f (without_closed call (committed_key c) old.held.regions)) ≡ map (λ (r : Region). r.range) (f old.held.regions)) → (d ≡ call.depth → f (without_closed call (committed_key c) old.held.regions) ≡ []) → map (λ (r : Region). r.range) (f new.held.regions) ≡ map memory_range (ranges_at g d k.closes.below)
+  left : (d : ℕ) (g : run.OpenCall → List Range) (f : List Region → List Region) → map (λ (r : Region). r.range) (f old.held.regions) ≡ ranges_at g d cs → (is_same_call call (at_depth d) ≡ false → map (λ (r : Region). r.range) (f (without_closed call (committed_key c) old.held.regions)) ≡ map (λ (r : Region). r.range) (f old.held.regions)) → (d ≡ call.depth → f (without_closed call (committed_key c) old.held.regions) ≡ []) → map (λ (r : Region). r.range) (f new.held.regions) ≡ ranges_at g d k.closes.below
   left d g f was stays goes = ap (λ rs. map (λ (r : Region). r.range) (f rs)) k.regions ∙ elim (cases_eq d call.depth) [
     | inl q ↦
         ap (map (λ (r : Region). r.range)) (goes q)
-        ∙ ap (map memory_range) (sym (ranges_past g d k.closes.below (omega (arith, q, depth_is))))
+        ∙ sym (ranges_past g d k.closes.below (omega (arith, q, depth_is)))
     | inr ne ↦
         let other : is_same_call call (at_depth d) ≡ false = and_right (eqb m.thread m.thread) (eqb call.depth d) (ne_eqb call.depth d (λ q. ne (sym q))) in
         stays other
         ∙ was
-        ∙ ap (λ qs. map memory_range (ranges_at g d qs)) k.closes.is
-        ∙ ap (map memory_range) (cond-false (eqb d (suc (length k.closes.below))) (g k.closes.top) (ranges_at g d k.closes.below) (ne_eqb d (suc (length k.closes.below)) (λ q. ne (q ∙ sym depth_is))))
+        ∙ ap (λ qs. ranges_at g d qs) k.closes.is
+        ∙ cond-false (eqb d (suc (length k.closes.below))) (g k.closes.top) (ranges_at g d k.closes.below) (ne_eqb d (suc (length k.closes.below)) (λ q. ne (q ∙ sym depth_is)))
   ]
 
   own_calls : HoldsFor new.held m.thread k.closes.below
@@ -211,20 +192,20 @@ module _ (s : Start) (past : List Mark) (old new : SpaceState) (m : Mark) (e : E
   ]
 
   -- the keys
-  abbrev use_before : ℕ → Option marks.Range
+  abbrev use_before : ℕ → Option Range
   use_before j = in_use s j past
 
-  use_is : (j : ℕ) (o : Option marks.Range) → act_use j m.act o ≡ commit_leaves j commit o
+  use_is : (j : ℕ) (o : Option Range) → act_use j m.act o ≡ commit_leaves j commit o
   use_is j o = ap (λ a. act_use j a o) k.is ∙ ap (λ q. use_after j q o) k.kind
 
   abbrev shown_range : List Region → ℕ → Option Range
   shown_range rs j = option_map (λ (r : Region). r.range) (prepared_region rs j)
 
-  keys_from : (committing : Option (ℕ × ℕ)) (was : Commit) → CommitsAs m old.held committing was → (j : ℕ) → shown_range (without_closed call (committed_key committing) old.held.regions) j ≡ option_map memory_range (cond (has m (OfKey (key Async j))) (commit_leaves j was (use_before j)) (use_before j))
+  keys_from : (committing : Option (ℕ × ℕ)) (was : Commit) → CommitsAs m old.held committing was → (j : ℕ) → shown_range (without_closed call (committed_key committing) old.held.regions) j ≡ cond (has m (OfKey (key Async j))) (commit_leaves j was (use_before j)) (use_before j)
   keys_from None was as' j =
       key_kept call None j none_dies old.held.regions
       ∙ k.h.keys j
-      ∙ ap (option_map memory_range) (sym (stay s m past (has m (OfKey (key Async j))) (commit_leaves j was (use_before j)) (use_before j) (nothing was as')))
+      ∙ sym (stay s m past (has m (OfKey (key Async j))) (commit_leaves j was (use_before j)) (use_before j) (nothing was as'))
     where
       none_dies : (h : Holder) → has_key j h ≡ true → outlives call None h ≡ true
       none_dies (In o) is = absurd (true≢false (sym is))
@@ -241,11 +222,11 @@ module _ (s : Start) (past : List Mark) (old new : SpaceState) (m : Mark) (e : E
     | inl e ↦
         let same : i ≡ j = as'.1 ∙ sym e in
         ap (option_map (λ (r : Region). r.range)) (key_gone call (Some q.0) j (dies e) old.held.regions)
-        ∙ ap (option_map memory_range) (sym (cond-true (has m (OfKey (key Async j))) (cond (eqb i j) None (use_before j)) (use_before j) (ap (λ z. has m (OfKey (key Async z))) (sym same) ∙ as'.2) ∙ cond-true (eqb i j) None (use_before j) (eq-eqb i j same)))
+        ∙ sym (cond-true (has m (OfKey (key Async j))) (cond (eqb i j) None (use_before j)) (use_before j) (ap (λ z. has m (OfKey (key Async z))) (sym same) ∙ as'.2) ∙ cond-true (eqb i j) None (use_before j) (eq-eqb i j same))
     | inr ne ↦
         key_kept call (Some q.0) j (lives ne) old.held.regions
         ∙ k.h.keys j
-        ∙ ap (option_map memory_range) (sym (stay s m past (has m (OfKey (key Async j))) (cond (eqb i j) None (use_before j)) (use_before j) (cond-false (eqb i j) None (use_before j) (ne_eqb i j (λ z. ne (sym z ∙ as'.1))))))
+        ∙ sym (stay s m past (has m (OfKey (key Async j))) (cond (eqb i j) None (use_before j)) (use_before j) (cond-false (eqb i j) None (use_before j) (ne_eqb i j (λ z. ne (sym z ∙ as'.1)))))
   ]
     where
       dies : j ≡ q.0 → (h : Holder) → has_key j h ≡ true → outlives call (Some q.0) h ≡ false
@@ -258,12 +239,12 @@ module _ (s : Start) (past : List Mark) (old new : SpaceState) (m : Mark) (e : E
       lives ne (Out o) is = absurd (true≢false (sym is))
       lives ne (Key i by) is = ap not (ne_eqb q.0 i (λ e. ne (sym (eqb-true i j is) ∙ sym e)))
 
-  keys_are : (j : ℕ) → shown_range new.held.regions j ≡ option_map memory_range (in_use s j (m ∷ past))
+  keys_are : (j : ℕ) → shown_range new.held.regions j ≡ in_use s j (m ∷ past)
   keys_are j =
       ap (λ rs. shown_range rs j) k.regions
       ∙ keys_from c commit k.commits j
-      ∙ ap (λ o. option_map memory_range (cond (has m (OfKey (key Async j))) o (use_before j))) (sym (use_is j (use_before j)))
-      ∙ ap (option_map memory_range) (sym (keys_more s m past j))
+      ∙ ap (λ o. cond (has m (OfKey (key Async j))) o (use_before j)) (sym (use_is j (use_before j)))
+      ∙ sym (keys_more s m past j)
 
   -- what holds of what is held
   same_call : (other : OpenCall) → other.thread ≡ m.thread → other.depth ≡ call.depth → call ≡ other
@@ -340,7 +321,7 @@ module _ (s : Start) (past : List Mark) (old new : SpaceState) (m : Mark) (e : E
   used_key committing NoRegion as' = tt
   used_key committing Withheld as' = tt
   used_key None (Released j p) as' = absurd cc
-  used_key (Some q) (Released j p) as' = some_range (use_before j) p.range (sym (k.h.keys j) ∙ as'.0)
+  used_key (Some q) (Released j p) as' = sym (k.h.keys j) ∙ as'.0
 
   pub ret_made : IsRet s past m pieces c commit new
   ret_made = record {

@@ -5,11 +5,10 @@ use Rattle.std.specs.List.{list_any}
 use Rattle.std.proofs.lemmas.Bool.{cases_Bool, cases_eq, true≢false, cond-true, cond-false, eq-eqb, ne_eqb, or_cases, and_parts, and_from}
 use Rattle.marks.specs.declared.side.Side.TheVariants.{System}
 use Rattle.marks.specs.Places.{thread_count, is_system}
-use Rattle.marks.specs.Ranges.{bytes_of_number, in_range, any_range}
+use Rattle.marks.specs.Ranges.{bytes_of_number, covers, any_range}
 use Rattle.marks.specs.Ranges as marks
 use Rattle.marks.specs.Marks.{Mark}
 use Rattle.marks.specs.Bytes.{Live, IsHeld}
-use Rattle.memory_map.specs.Ranges.{covers}
 use Rattle.space_memory_bytes.specs.Areas.{byte_at}
 use Rattle.space_memory_bytes.specs.Numbers.{HasNumber}
 use Rattle.space_memory_access.specs.declared.holder.OpenCall.{OpenCall}

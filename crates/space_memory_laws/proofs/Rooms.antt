@@ -4,14 +4,12 @@ use Rattle.std.specs.Prelude.{unwrap_or, slice_get}
 use Rattle.std.proofs.lemmas.Bool.{cases_lt, true≢false, cond-true, cond-false, eq-eqb, ne_eqb}
 use Rattle.marks.specs.declared.side.Side.TheVariants.{Replay}
 use Rattle.marks.specs.Places.{thread_count, frame_count, stack, stack_size, replay_pool, pool_size, is_system}
-use Rattle.marks.specs.Ranges.{range, in_range, any_range}
-use Rattle.marks.specs.Ranges as marks
+use Rattle.marks.specs.declared.range.Range.{Range}
+use Rattle.marks.specs.Ranges.{range, covers, any_range, IsInRange, IsLeastIn}
 use Rattle.marks.specs.Marks.{Mark}
 use Rattle.marks.specs.Bytes.{IsHeld}
 use Rattle.marks.specs.Wants.{Frees}
-use Rattle.memory_map.specs.declared.range.Range.{Range}
 use Rattle.memory_map.specs.declared.areas.TheConstants.{SYSTEM_MEMORY}
-use Rattle.memory_map.specs.Ranges.{covers, IsInRange, IsLeastIn}
 use Rattle.space_memory_bytes.specs.Areas.{byte_at, IsDead}
 use Rattle.space_memory.specs.StackFrames.{StackState, stack_of, IsFullFor}
 use Rattle.space_memory.specs.StackFrames as stacks
@@ -30,7 +28,7 @@ use Rattle.space_memory.specs.Spaces.{SpaceState}
 use Rattle.space_memory.specs.Frames.{IsEnterRefused, IsLeaveRefused}
 use Rattle.space_memory.specs.Blocks.{IsFreeRefused}
 use Rattle.replay_runs.specs.Passing.{Unraced}
-use Rattle.space_memory_laws.specs.Shown.{memory_range, innermost_last, stack_with, by_address}
+use Rattle.space_memory_laws.specs.Shown.{innermost_last, stack_with, by_address}
 use Rattle.space_memory_laws.specs.Sound.{AreStacked}
 use Rattle.space_memory_laws.specs.StandsFor.{StandsFor}
 use Rattle.space_memory_laws.specs.Refusals.{finding_of, access}
@@ -77,21 +75,21 @@ pub record IsTop (bytes : ℕ → Option ℕ) (t : ℕ) (frame : Range) : Type 0
   pub to : frame.addr + frame.len ≤ stack Replay t + stack_size
   pub live : (x : ℕ) → IsInRange frame x → bytes x ≡ None → ⊥
 
-pub top_frame : (s : Start) (past : List Mark) (memory : SpaceState) (t : ℕ) (frame : Range) → StandsFor s past memory → t < thread_count → (fs : List marks.Range) → frames (marks_of s t past) ≡ fs → slice_get (innermost_last fs) (length (innermost_last fs) - 1) ≡ Some frame → IsTop (byte_at memory.bytes) t frame
+pub top_frame : (s : Start) (past : List Mark) (memory : SpaceState) (t : ℕ) (frame : Range) → StandsFor s past memory → t < thread_count → (fs : List Range) → frames (marks_of s t past) ≡ fs → slice_get (innermost_last fs) (length (innermost_last fs) - 1) ≡ Some frame → IsTop (byte_at memory.bytes) t frame
 top_frame s past memory t frame h lt [] were top = absurd (none_some frame top)
   where
     none_some : (r : Range) → ◌≡◌ {A = Option Range} None (Some r) → ⊥
     none_some r e = absurd cc
 top_frame s past memory t frame h lt (f ∷ fs) were top =
-    let same : memory_range f ≡ frame = some_same (memory_range f) frame (sym (last_of (innermost_last fs) (memory_range f)) ∙ top) in
+    let same : f ≡ frame = some_same f frame (sym (last_of (innermost_last fs) f) ∙ top) in
     let stacked = subst (AreStacked (stack Replay t)) were (h.sound.stacked t lt) in
     let low = base_first (stack Replay t) fs stacked.2 in
     subst (IsTop (byte_at memory.bytes) t) same (record {
       from = omega (arith, stacked.0, low);
       to = stacked.1;
       live = λ x in' dead.
-          let c : in_range f x ≡ true = covered (memory_range f) x in'.0 in'.1 in
-          let in_stack : in_range (range (stack Replay t) stack_size) x ≡ true = covered (memory_range (range (stack Replay t) stack_size)) x (omega (arith, in'.0, stacked.0, low)) (omega (arith, in'.1, stacked.1)) in
+          let c : covers f x ≡ true = covered f x in'.0 in'.1 in
+          let in_stack : covers (range (stack Replay t) stack_size) x ≡ true = covered (range (stack Replay t) stack_size) x (omega (arith, in'.0, stacked.0, low)) (omega (arith, in'.1, stacked.1)) in
           let lives : is_some (byte_at memory.bytes x) ≡ true = h.sound.frames_live t lt x in_stack ∙ ap (λ gs. any_range gs x) were ∙ ap (λ b. b || any_range fs x) c in
           true≢false (sym lives ∙ ap is_some dead);
     })
@@ -132,7 +130,7 @@ freed_some (suc n) = subst (λ k. 1 ≤ k) (sym (cond-false (eqb (suc n) 0) 1 (s
 
 module _ (i : Interface) (s : Start) (past : List Mark) (memory : SpaceState) (t a : ℕ) (h : StandsFor s past memory) (unraced : Unraced past t true (freed_range (suc a) (byte s (suc a) past).block)) where
   abbrev freed : Range
-  freed = memory_range (freed_range (suc a) (byte s (suc a) past).block)
+  freed = freed_range (suc a) (byte s (suc a) past).block
 
   no_race : (x : ℕ) → (covers freed x ≡ true) × ((u : ℕ) × Races past t true x u) → ⊥
   no_race x bad = unraced x bad.1.0 bad.0 bad.1.1
@@ -165,7 +163,7 @@ module _ (i : Interface) (s : Start) (past : List Mark) (memory : SpaceState) (t
       let not_system : (y : ℕ) → covers (record { addr = suc a; len = len }) y ≡ true → is_system y ≡ false = λ y c. below_system y (let p = cover_parts (record { addr = suc a; len = len }) y c in omega (arith, p.1, lies.2)) in
       let live : (y : ℕ) → covers (record { addr = suc a; len = len }) y ≡ true → IsDead memory.bytes y → ⊥ = λ y c dead.
       let p = cover_parts (record { addr = suc a; len = len }) y c in
-      let in_pool : in_range (range replay_pool pool_size) y ≡ true = covered (memory_range (range replay_pool pool_size)) y (omega (arith, p.0, lies.0)) (omega (arith, p.1, lies.2)) in
+      let in_pool : covers (range replay_pool pool_size) y ≡ true = covered (range replay_pool pool_size) y (omega (arith, p.0, lies.0)) (omega (arith, p.1, lies.2)) in
       true≢false (sym (h.sound.blocks_live y in_pool ∙ any_is bs y ∙ any_there replay_pool (replay_pool + pool_size) (by_address bs) (suc a) len y h.sound.laid_out there c) ∙ ap is_some dead) in
       let at : (y : ℕ) → covers freed y ≡ true → covers (record { addr = suc a; len = len }) y ≡ true = λ y c. subst (λ (r : Range). covers r y ≡ true) same c in
       let c : covers (record { addr = suc a; len = len }) x ≡ true = covered (record { addr = suc a; len = len }) x least.in_range.0 least.in_range.1 in

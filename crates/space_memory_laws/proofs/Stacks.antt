@@ -5,13 +5,12 @@ use Rattle.std.proofs.lemmas.Bool.{cases_lt}
 use Rattle.std.proofs.lemmas.List.{get_or_past}
 use Rattle.marks.specs.declared.side.Side.TheVariants.{Replay}
 use Rattle.marks.specs.Places.{stack, stack_size}
-use Rattle.marks.specs.Ranges.{in_range, any_range}
-use Rattle.marks.specs.Ranges as marks
-use Rattle.memory_map.specs.declared.range.Range.{Range}
+use Rattle.marks.specs.declared.range.Range.{Range}
+use Rattle.marks.specs.Ranges.{any_range}
 use Rattle.space_memory.specs.StackFrames.{StackState, stack_of, with_frames}
 use Rattle.space_memory.specs.StackFrames as memory
 use Rattle.replay_runs.specs.Threads.{end_of}
-use Rattle.space_memory_laws.specs.Shown.{memory_range, innermost_last, stack_with}
+use Rattle.space_memory_laws.specs.Shown.{innermost_last, stack_with}
 use Rattle.space_memory_laws.specs.Sound.{AreStacked}
 use Rattle.space_memory_laws.proofs.Cells.{cover_cases}
 
@@ -20,16 +19,16 @@ end_snoc from [] r = refl
 end_snoc from (q ∷ rs) r = end_snoc (q.addr + q.len) rs r
 
 -- the next frame's place
-pub end_is : (from : ℕ) (fs : List marks.Range) → memory.end_of from (innermost_last fs) ≡ end_of from fs
+pub end_is : (from : ℕ) (fs : List Range) → memory.end_of from (innermost_last fs) ≡ end_of from fs
 end_is from [] = refl
-end_is from (f ∷ fs) = end_snoc from (innermost_last fs) (memory_range f)
+end_is from (f ∷ fs) = end_snoc from (innermost_last fs) f
 
-pub count_is : (fs : List marks.Range) → length (innermost_last fs) ≡ length fs
+pub count_is : (fs : List Range) → length (innermost_last fs) ≡ length fs
 count_is [] = refl
-count_is (f ∷ fs) = let rest = count_is fs in omega (arith, length-append (innermost_last fs) (memory_range f ∷ []), rest)
+count_is (f ∷ fs) = let rest = count_is fs in omega (arith, length-append (innermost_last fs) (f ∷ []), rest)
 
 -- each thread has a stack
-pub stacks_count : (stacks : List StackState) (t : ℕ) (fs : List marks.Range) → stack_of stacks t ≡ stack_with t fs → t < length stacks
+pub stacks_count : (stacks : List StackState) (t : ℕ) (fs : List Range) → stack_of stacks t ≡ stack_with t fs → t < length stacks
 stacks_count stacks t fs is = elim (cases_lt t (length stacks)) [
   | inl lt ↦ lt
   | inr past ↦
@@ -44,18 +43,18 @@ pub other_stack : (stacks : List StackState) (t u : ℕ) (frames : List Range) �
 other_stack stacks t u frames ne = get_or-set_other stacks t u _ _ (λ e. ne (sym e))
 
 -- frames end at the last one's end or before it, and begin in the stack
-pub base_first : (base : ℕ) (fs : List marks.Range) → AreStacked base fs → base ≤ end_of base fs
+pub base_first : (base : ℕ) (fs : List Range) → AreStacked base fs → base ≤ end_of base fs
 base_first base [] h = omega arith
 base_first base (f ∷ fs) h = let rest = base_first base fs h.2 in omega (arith, h.0, rest)
 
-pub ends_inside : (base : ℕ) (fs : List marks.Range) → AreStacked base fs → end_of base fs ≤ base + stack_size
+pub ends_inside : (base : ℕ) (fs : List Range) → AreStacked base fs → end_of base fs ≤ base + stack_size
 ends_inside base [] h = omega arith
 ends_inside base (f ∷ fs) h = h.1
 
 -- no frame has an address after the last one
-pub none_after : (base : ℕ) (fs : List marks.Range) (x : ℕ) → AreStacked base fs → end_of base fs ≤ x → any_range fs x ≡ false
+pub none_after : (base : ℕ) (fs : List Range) (x : ℕ) → AreStacked base fs → end_of base fs ≤ x → any_range fs x ≡ false
 none_after base [] x h le = refl
-none_after base (f ∷ fs) x h le = elim (cover_cases (memory_range f) x) [
+none_after base (f ∷ fs) x h le = elim (cover_cases f x) [
   | inl in' ↦ absurd (omega (arith, in'.below, le))
   | inr out ↦ ap (λ b. b || any_range fs x) out.is ∙ none_after base fs x h.2 (omega (arith, h.0, le))
 ]
@@ -76,17 +75,17 @@ snoc_last (a ∷ xs) (b ∷ ys) x y e =
     (ap (λ z. z ∷ xs) head ∙ ap (λ zs. b ∷ zs) k.0, k.1)
 
 -- the innermost frame in memory is the innermost of the run
-pub record IsInnermost (fs : List marks.Range) (rest : List Range) (frame : Range) : Type 0 where
-  pub top : marks.Range
-  pub below : List marks.Range
+pub record IsInnermost (fs : List Range) (rest : List Range) (frame : Range) : Type 0 where
+  pub top : Range
+  pub below : List Range
   pub is : fs ≡ top ∷ below
   pub rest_is : rest ≡ innermost_last below
-  pub frame_is : frame ≡ memory_range top
+  pub frame_is : frame ≡ top
 
-pub innermost : (fs : List marks.Range) (rest : List Range) (frame : Range) → innermost_last fs ≡ rest ++ frame ∷ [] → IsInnermost fs rest frame
+pub innermost : (fs : List Range) (rest : List Range) (frame : Range) → innermost_last fs ≡ rest ++ frame ∷ [] → IsInnermost fs rest frame
 innermost [] rest frame e = let n = ap length e in absurd (omega (arith, n, length-append rest (frame ∷ [])))
 innermost (f ∷ fs) rest frame e =
-    let k = snoc_last (innermost_last fs) rest (memory_range f) frame e in
+    let k = snoc_last (innermost_last fs) rest f frame e in
     record { top = f; below = fs; is = refl; rest_is = sym k.0; frame_is = sym k.1 }
 
 at_end : (rest : List Range) (frame : Range) → slice_get (rest ++ frame ∷ []) (length rest) ≡ Some frame

@@ -4,9 +4,9 @@ use Rattle.std.specs.Prelude.{◌≡◌, ℕ, ◌+◌, ◌^◌, ◌<◌, ◌≤�
 use Rattle.marks.specs.declared.side.Side.TheVariants.{System}
 use Rattle.marks.specs.Places.{thread_count}
 use Rattle.marks.specs.Marks.{Mark}
-use Rattle.memory_map.specs.declared.range.Range.{Range}
+use Rattle.marks.specs.declared.range.Range.{Range}
 use Rattle.space_memory_bytes.specs.Areas.{byte_at}
-use Rattle.space_memory_bytes.specs.Numbers.{HasNumber, SameOutside, FillsWith}
+use Rattle.space_memory_bytes.specs.Numbers.{HasNumber, HasBytes, SameOutside, FillsWith}
 use Rattle.space_memory.specs.StackFrames.{stack_of, end_of}
 use Rattle.pool_list.specs.Blocks.{length_at, with_block, without_block}
 use Rattle.pool_list.specs.Places.{IsLeastPlace}
@@ -28,6 +28,18 @@ StoresBelowAreUnseen =
     SameOutside (record { addr = addr; len = width }) old.bytes new.bytes →
     new ≡ record old { bytes = new.bytes } →
     IsAllowed old.bytes old.held.regions (record { side = System; thread = thread; range = record { addr = addr; len = width }; write = true }) →
+    StandsFor s past new
+
+-- bytes that code below the cut writes, there likewise
+abbrev pub WritesBelowAreUnseen : Type 0
+WritesBelowAreUnseen =
+    (s : Start) (past : List Mark) (old new : SpaceState) (thread addr : ℕ) (bytes : List ℕ) →
+    StandsFor s past old →
+    addr < 2 ^ 64 →
+    HasBytes new.bytes addr bytes →
+    SameOutside (record { addr = addr; len = length bytes }) old.bytes new.bytes →
+    new ≡ record old { bytes = new.bytes } →
+    IsAllowed old.bytes old.held.regions (record { side = System; thread = thread; range = record { addr = addr; len = length bytes }; write = true }) →
     StandsFor s past new
 
 -- a frame that is entered below the cut

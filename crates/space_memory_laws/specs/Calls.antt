@@ -2,11 +2,10 @@
 use Rattle.std.specs.Prelude.{◌≡◌, ℕ, ◌+◌, ◌-◌, ◌^◌, ◌<◌, Bool, true, false, List, [], ◌∷◌, ◌++◌, length, map, Some, slice_index, slice_set, All}
 use Rattle.run_events.specs.declared.key.Class.TheVariants.{Async}
 use Rattle.marks.specs.Places.{thread_count, is_constant, is_system}
-use Rattle.marks.specs.Ranges.{Piece, Prepared, in_range, piece_ranges, prepared_ranges}
-use Rattle.marks.specs.Ranges as marks
+use Rattle.marks.specs.declared.range.Range.{Range}
+use Rattle.marks.specs.Ranges.{Piece, Prepared, covers, piece_ranges, prepared_ranges}
 use Rattle.marks.specs.Marks.{Call, Event, Made, Mark}
 use Rattle.marks.specs.Bytes.{touches, writes}
-use Rattle.memory_map.specs.declared.range.Range.{Range}
 use Rattle.space_memory_bytes.specs.Areas.{AreaState, IsDead}
 use Rattle.space_memory_bytes.specs.Numbers.{HasBytes}
 use Rattle.space_memory_access.specs.declared.holder.OpenCall.{OpenCall}
@@ -24,19 +23,18 @@ use Rattle.replay_runs.specs.Passing.{NoneInUse}
 use Rattle.space_memory.specs.Spaces.{SpaceState}
 use Rattle.space_memory.specs.Cells.{is_held}
 use Rattle.space_memory.specs.Held.{region_range, region_access, holder_of, IsRegionOf, AddsRegion, IsPrepareRefused}
-use Rattle.space_memory_laws.specs.Shown.{memory_range}
 use Rattle.space_memory_laws.specs.Held.{AreHeld}
 use Rattle.space_memory_laws.specs.StandsFor.{StandsFor}
 use Rattle.space_memory_laws.specs.Marks.{IsMark}
 
 -- a part of a Call: a range that it reads, one that it holds until its Ret, or one that it prepares under a key
 pub data Part : Type 0 where
-  Reads : (range : marks.Range) → Part
-  Holds : (range : marks.Range) → Part
-  Prepares : (key : ℕ) (range : marks.Range) → Part
+  Reads : (range : Range) → Part
+  Holds : (range : Range) → Part
+  Prepares : (key : ℕ) (range : Range) → Part
 
 -- its range
-abbrev pub range_of : Part → marks.Range
+abbrev pub range_of : Part → Range
 range_of (Reads r) = r
 range_of (Holds r) = r
 range_of (Prepares k r) = r
@@ -54,7 +52,7 @@ holder_for call (Holds r) = Out call
 holder_for call (Prepares k r) = Key k (Some call)
 
 -- the part that `hold` adds
-abbrev pub held_part : Bool → marks.Range → Part
+abbrev pub held_part : Bool → Range → Part
 held_part true r = Holds r
 held_part false r = Reads r
 
@@ -63,13 +61,13 @@ abbrev pub prepared_part : Prepared → Part
 prepared_part p = Prepares p.key p.range
 
 -- the parts of a Call, in order
-abbrev pub parts_of : List marks.Range → List marks.Range → List Prepared → List Part
+abbrev pub parts_of : List Range → List Range → List Prepared → List Part
 parts_of ins outs prepared = map Reads ins ++ (map Holds outs ++ map prepared_part prepared)
 
 -- each part has its region
 abbrev pub HaveRegions : List AreaState → OpenCall → List Part → List Region → Type 0
 HaveRegions bytes call [] [] = Unit {0}
-HaveRegions bytes call (p ∷ ps) (r ∷ rs) = IsRegionOf bytes (memory_range (range_of p)) (holder_for call p) r × HaveRegions bytes call ps rs
+HaveRegions bytes call (p ∷ ps) (r ∷ rs) = IsRegionOf bytes (range_of p) (holder_for call p) r × HaveRegions bytes call ps rs
 HaveRegions bytes call _ _ = ⊥
 
 -- these regions were added, in this order
@@ -81,10 +79,10 @@ pub record AddsRegions (bytes : List AreaState) (call : OpenCall) (parts : List 
 -- code above the cut may hand the part's range down: its bytes are of the own side, live, not pending, and no constants
 -- where they are written
 pub record IsFree (memory : SpaceState) (p : Part) : Type 0 where
-  pub own : (x : ℕ) → in_range (range_of p) x ≡ true → is_system x ≡ false
-  pub live : (x : ℕ) → in_range (range_of p) x ≡ true → ¬ IsDead memory.bytes x
-  pub free : (x : ℕ) → in_range (range_of p) x ≡ true → is_held memory.held.regions x ≡ false
-  pub writable : (x : ℕ) → in_range (range_of p) x ≡ true → is_written p ≡ true → is_constant x ≡ false
+  pub own : (x : ℕ) → covers (range_of p) x ≡ true → is_system x ≡ false
+  pub live : (x : ℕ) → covers (range_of p) x ≡ true → ¬ IsDead memory.bytes x
+  pub free : (x : ℕ) → covers (range_of p) x ≡ true → is_held memory.held.regions x ≡ false
+  pub writable : (x : ℕ) → covers (range_of p) x ≡ true → is_written p ≡ true → is_constant x ≡ false
 
 -- memory while a thread makes a Call: it is that of the past, with one more call open, which has these parts so far
 pub record InCall (s : Start) (past : List Mark) (t : ℕ) (parts : List Part) (base memory : SpaceState) : Type 0 where
@@ -109,10 +107,10 @@ OpenedCallsHaveNoParts =
 -- a range that is held is one more part. A run has the empty range for that of a NULL pointer
 abbrev pub HeldRangesAreParts : Type 0
 HeldRangesAreParts =
-    (s : Start) (past : List Mark) (base old new : SpaceState) (t : ℕ) (parts : List Part) (given : Range) (r : marks.Range) (write : Bool) →
+    (s : Start) (past : List Mark) (base old new : SpaceState) (t : ℕ) (parts : List Part) (given : Range) (r : Range) (write : Bool) →
     InCall s past t parts base old →
     given.addr < 2 ^ 64 →
-    region_range given ≡ memory_range r →
+    region_range given ≡ r →
     AddsRegion old.bytes (region_range given) (holder_of write (innermost old.held t)) old.held new.held →
     new ≡ record old { held = new.held } →
     IsAllowed old.bytes old.held.regions (region_access t given write) →
@@ -121,10 +119,10 @@ HeldRangesAreParts =
 -- a range that is prepared is one more part
 abbrev pub PreparedRangesAreParts : Type 0
 PreparedRangesAreParts =
-    (s : Start) (past : List Mark) (base old new : SpaceState) (t k : ℕ) (parts : List Part) (given : Range) (r : marks.Range) →
+    (s : Start) (past : List Mark) (base old new : SpaceState) (t k : ℕ) (parts : List Part) (given : Range) (r : Range) →
     InCall s past t parts base old →
     given.addr < 2 ^ 64 →
-    region_range given ≡ memory_range r →
+    region_range given ≡ r →
     AddsRegion old.bytes (region_range given) (Key k (Some (innermost old.held t))) old.held new.held →
     new ≡ record old { held = new.held } →
     IsAllowed old.bytes old.held.regions (region_access t given true) →
@@ -143,11 +141,11 @@ UndoneCallsLeaveMemory =
 
 -- a piece has the bytes that memory has in its range
 pub record IsShown (bytes : List AreaState) (p : Piece) : Type 0 where
-  pub whole : length p.bytes ≡ p.range.size
-  pub bytes_are : HasBytes bytes p.range.at p.bytes
+  pub whole : length p.bytes ≡ p.range.len
+  pub bytes_are : HasBytes bytes p.range.addr p.bytes
 
 -- a Call that the rules of runs allow
-pub record IsCall (s : Start) (past : List Mark) (m : Mark) (outs : List marks.Range) (prepared : List Prepared) (new : SpaceState) : Type 0 where
+pub record IsCall (s : Start) (past : List Mark) (m : Mark) (outs : List Range) (prepared : List Prepared) (new : SpaceState) : Type 0 where
   pub mark : IsMark s past m new
   pub other_space : (x : ℕ) → touches m.act x ≡ true → is_system x ≡ false
   pub read_only : (x : ℕ) → writes m.act x ≡ true → is_constant x ≡ false
@@ -158,7 +156,7 @@ pub record IsCall (s : Start) (past : List Mark) (m : Mark) (outs : List marks.R
 -- a call with all its parts is a Call
 abbrev pub CallsAreMarks : Type 0
 CallsAreMarks =
-    (s : Start) (past : List Mark) (base new : SpaceState) (m : Mark) (e : Event) (func : ℕ) (args : List ℕ) (ins : List Piece) (outs : List marks.Range) (prepared : List Prepared) →
+    (s : Start) (past : List Mark) (base new : SpaceState) (m : Mark) (e : Event) (func : ℕ) (args : List ℕ) (ins : List Piece) (outs : List Range) (prepared : List Prepared) →
     InCall s past m.thread (parts_of (piece_ranges ins) outs prepared) base new →
     m.act ≡ Made e →
     e.kind ≡ Call func args ins outs prepared →

@@ -4,7 +4,7 @@ use Rattle.std.specs.List.{range_with_len}
 use Rattle.marks.specs.declared.side.Side.TheVariants.{Replay}
 use Rattle.marks.specs.Places.{thread_count}
 use Rattle.marks.specs.Marks.{Enter, Leave, Mark}
-use Rattle.memory_map.specs.declared.range.Range.{Range}
+use Rattle.marks.specs.declared.range.Range.{Range}
 use Rattle.space_memory_bytes.specs.Areas.{AreaState, byte_at, extents}
 use Rattle.space_memory_bytes.specs.Numbers.{HasBytes, SameOutside, FillsWith}
 use Rattle.space_memory.specs.StackFrames.{stack_of, end_of}

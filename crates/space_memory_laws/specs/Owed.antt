@@ -1,7 +1,8 @@
 -- Which bytes are pending, said by the open calls and the keys in use.
 use Rattle.std.specs.Prelude.{◌≡◌, ◌⊎◌, ◌↔◌, ℕ, ◌<◌, Bool, true, false, ◌||◌, List, [], ◌∷◌, Some}
 use Rattle.marks.specs.Places.{thread_count, is_system}
-use Rattle.marks.specs.Ranges.{Range, in_range, any_range}
+use Rattle.marks.specs.declared.range.Range.{Range}
+use Rattle.marks.specs.Ranges.{covers, any_range}
 use Rattle.marks.specs.Marks.{Mark}
 use Rattle.marks.specs.Bytes.{IsHeld}
 use Rattle.replay_runs.specs.Runs.{Start, marks_of, byte}
@@ -21,7 +22,7 @@ IsHeldFor s past t x = (t < thread_count) × (any_out (open_calls (marks_of s t 
 
 -- the byte lies in the region of the key, which is in use
 abbrev pub IsPreparedUnder : Start → List Mark → ℕ → ℕ → Type 0
-IsPreparedUnder s past k x = (r : Range) × (in_use s k past ≡ Some r) × (in_range r x ≡ true)
+IsPreparedUnder s past k x = (r : Range) × (in_use s k past ≡ Some r) × (covers r x ≡ true)
 
 -- an open call holds the byte, or a key in use
 abbrev pub IsOwed : Start → List Mark → ℕ → Type 0

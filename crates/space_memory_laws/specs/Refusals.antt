@@ -4,10 +4,10 @@ use Rattle.marks.specs.declared.side.Side.TheVariants.{Replay}
 use Rattle.marks.specs.declared.fault.FaultKind.TheVariants as fault
 use Rattle.marks.specs.declared.breach.BreachKind.TheVariants as breach
 use Rattle.marks.specs.Places.{thread_count}
+use Rattle.marks.specs.declared.range.Range.{Range}
 use Rattle.marks.specs.Ranges.{range}
 use Rattle.marks.specs.Marks.{Mark}
 use Rattle.marks.specs.Wants.{Frees}
-use Rattle.memory_map.specs.declared.range.Range.{Range}
 use Rattle.space_memory.specs.StackFrames.{stack_of}
 use Rattle.space_memory_access.specs.declared.access.Access.{Access}
 use Rattle.space_memory_access.specs.declared.refusal.Refusal.{Refusal}

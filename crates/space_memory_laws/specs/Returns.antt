@@ -2,8 +2,8 @@
 use Rattle.std.specs.Prelude.{if◌then◌else◌, ◌≡◌, ◌↔◌, ℕ, ◌-◌, ◌<◌, ◌≤◌, ◌==◌, Bool, true, not, List, [], ◌∷◌, ◌++◌, length, Option, Some, None, option_map, slice_index, slice_set, All}
 use Rattle.run_events.specs.declared.key.Class.TheVariants.{Async}
 use Rattle.marks.specs.Places.{thread_count}
+use Rattle.marks.specs.declared.range.Range.{Range}
 use Rattle.marks.specs.Ranges.{Piece, piece_ranges}
-use Rattle.marks.specs.Ranges as marks
 use Rattle.marks.specs.Wants.{same_origin}
 use Rattle.marks.specs.Marks.{Commit, NoRegion, Withheld, Released, released, Ret, Event, Made, Mark}
 use Rattle.space_memory_bytes.specs.Areas.{AreaState, byte_at}
@@ -14,25 +14,24 @@ use Rattle.replay_runs.specs.Runs.{Start, OfKey, has, marks_of}
 use Rattle.replay_runs.specs.Keys.{key}
 use Rattle.replay_runs.specs.Interface.{Interface, Committing}
 use Rattle.replay_runs.specs.Threads.{open_calls}
-use Rattle.replay_runs.specs.Pool.{in_use}
 use Rattle.replay_runs.specs.Rules.{Closes}
 use Rattle.replay_runs.specs.Checks.{Finding, Answered, Passes, Finds, return_checks}
 use Rattle.replay_runs.specs.Returns.{ReleasesInUse}
 use Rattle.space_memory.specs.Spaces.{SpaceState}
 use Rattle.space_memory.specs.Releases.{committed_size, committed_key, AllReturned, HasKey, IsReleaseRefused}
-use Rattle.space_memory_laws.specs.Shown.{memory_range, value_when_held}
+use Rattle.space_memory_laws.specs.Shown.{value_when_held}
 use Rattle.space_memory_laws.specs.StandsFor.{StandsFor}
 use Rattle.space_memory_laws.specs.Marks.{IsMark}
 use Rattle.space_memory_laws.specs.Refusals.{finding_of}
 
 -- of the region of a NULL pointer nothing is used
-abbrev pub used_at : marks.Range → ℕ → ℕ
-used_at r used = if r.at == 0 then 0 else used
+abbrev pub used_at : Range → ℕ → ℕ
+used_at r used = if r.addr == 0 then 0 else used
 
 -- each piece has the bytes of memory, as many as are used
 abbrev pub ShowUsed : List AreaState → List Piece → List ℕ → Type 0
 ShowUsed bytes [] [] = Unit {0}
-ShowUsed bytes (p ∷ ps) (n ∷ ns) = (length p.bytes ≡ used_at p.range n) × HasBytes bytes p.range.at p.bytes × ShowUsed bytes ps ns
+ShowUsed bytes (p ∷ ps) (n ∷ ns) = (length p.bytes ≡ used_at p.range n) × HasBytes bytes p.range.addr p.bytes × ShowUsed bytes ps ns
 ShowUsed bytes _ _ = ⊥
 
 -- what `release` is told to commit is what the Ret commits: nothing, or the region of a key that it has
@@ -41,11 +40,11 @@ CommitsAs m held None commit = released commit ≡ []
 CommitsAs m held (Some c) NoRegion = ⊥
 CommitsAs m held (Some c) Withheld = ⊥
 CommitsAs m held (Some c) (Released k p) =
-    (option_map (λ r. r.range) (prepared_region held.regions k) ≡ Some (memory_range p.range)) × (k ≡ c.0) × (has m (OfKey (key Async k)) ≡ true)
+    (option_map (λ r. r.range) (prepared_region held.regions k) ≡ Some p.range) × (k ≡ c.0) × (has m (OfKey (key Async k)) ≡ true)
 
 -- a piece has no more bytes than its range
 abbrev pub FitsIn : Piece → Type 0
-FitsIn p = length p.bytes ≤ p.range.size
+FitsIn p = length p.bytes ≤ p.range.len
 
 -- a Ret that the rules of runs allow
 pub record IsRet (s : Start) (past : List Mark) (m : Mark) (pieces : List Piece) (committing : Option (ℕ × ℕ)) (commit : Commit) (new : SpaceState) : Type 0 where
@@ -80,7 +79,7 @@ abbrev pub filled : SpaceState → Answered
 filled memory = record { pieces = []; committed = 0; changed = was_changed memory }
 
 -- the used sizes of a run are those of memory, and 0 at NULL
-abbrev pub AreUsedSizes : List marks.Range → List ℕ → List ℕ → Type 0
+abbrev pub AreUsedSizes : List Range → List ℕ → List ℕ → Type 0
 AreUsedSizes [] [] [] = Unit {0}
 AreUsedSizes (r ∷ rs) (used ∷ more) (n ∷ ns) = (n ≡ used_at r used) × AreUsedSizes rs more ns
 AreUsedSizes _ _ _ = ⊥

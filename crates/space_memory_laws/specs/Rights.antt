@@ -2,11 +2,10 @@
 use Rattle.std.specs.Prelude.{◌≡◌, ◌⊎◌, ◌↔◌, ℕ, ◌^◌, ◌<◌, Bool, true, false, ◌||◌, List, [], ◌∷◌}
 use Rattle.marks.specs.declared.side.Side.TheVariants.{System}
 use Rattle.marks.specs.Places.{thread_count, is_system}
-use Rattle.marks.specs.Ranges.{bytes_of_number, any_range}
+use Rattle.marks.specs.Ranges.{bytes_of_number, any_range, covers}
 use Rattle.marks.specs.Ranges as marks
 use Rattle.marks.specs.Marks.{Mark}
 use Rattle.marks.specs.Bytes.{Live, IsHeld}
-use Rattle.memory_map.specs.Ranges.{covers}
 use Rattle.space_memory_bytes.specs.Numbers.{HasNumber}
 use Rattle.space_memory_access.specs.Held.{IsServed}
 use Rattle.space_memory_access.specs.Accesses.{IsAllowed}

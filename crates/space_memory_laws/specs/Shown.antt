@@ -2,10 +2,9 @@
 use Rattle.std.specs.Prelude.{ℕ, suc, ◌-◌, Bool, false, ◌&&◌, cond, eqb, List, [], ◌∷◌, ◌++◌, length, filter, Option, Some, None, if◌then◌else◌, slice_index_or}
 use Rattle.marks.specs.Places.{stack, replay_pool, pool_size}
 use Rattle.marks.specs.declared.side.Side.TheVariants.{Replay}
-use Rattle.marks.specs.Ranges as marks
 use Rattle.marks.specs.Bytes.{Cell, Dead, Live, Held}
-use Rattle.memory_map.specs.declared.range.Range.{Range}
-use Rattle.memory_map.specs.Ranges.{covers}
+use Rattle.marks.specs.declared.range.Range.{Range}
+use Rattle.marks.specs.Ranges.{covers}
 use Rattle.space_memory.specs.StackFrames.{StackState}
 use Rattle.pool_list.specs.declared.block.Block.{Block}
 use Rattle.pool_list.specs.Blocks.{PoolState, with_block}
@@ -17,8 +16,6 @@ use Rattle.space_memory_access.specs.Holders.{is_pending, is_same_call}
 use Rattle.replay_runs.specs.Threads as run
 
 -- a range of marks as a range of memory
-abbrev pub memory_range : marks.Range → Range
-memory_range r = record { addr = r.at; len = r.size }
 
 -- what the first region that waits and has the address had there when it was held; None where no such region has it
 abbrev pub value_when_held : List Region → ℕ → Option ℕ
@@ -32,25 +29,25 @@ cell_of (Some now) None = Live now
 cell_of (Some now) (Some before) = Held before
 
 -- frames, the innermost last
-abbrev pub innermost_last : List marks.Range → List Range
+abbrev pub innermost_last : List Range → List Range
 innermost_last [] = []
-innermost_last (f ∷ fs) = innermost_last fs ++ memory_range f ∷ []
+innermost_last (f ∷ fs) = innermost_last fs ++ f ∷ []
 
 -- the stack of a thread above the cut with these frames, the innermost first
-abbrev pub stack_with : ℕ → List marks.Range → StackState
+abbrev pub stack_with : ℕ → List Range → StackState
 stack_with t fs = record { base = stack Replay t; frames = innermost_last fs }
 
 -- blocks by address
-abbrev pub by_address : List marks.Range → List Block
+abbrev pub by_address : List Range → List Block
 by_address [] = []
-by_address (b ∷ bs) = with_block (by_address bs) (record { addr = b.at; len = b.size })
+by_address (b ∷ bs) = with_block (by_address bs) (record { addr = b.addr; len = b.len })
 
 -- the pool above the cut with these live blocks
-abbrev pub pool_with : List marks.Range → PoolState
+abbrev pub pool_with : List Range → PoolState
 pool_with bs = record { base = replay_pool; size = pool_size; blocks = by_address bs }
 
 -- the ranges of the open call number d of a thread, 1 for the outermost; none where fewer calls are open
-abbrev pub ranges_at : (run.OpenCall → List marks.Range) → ℕ → List run.OpenCall → List marks.Range
+abbrev pub ranges_at : (run.OpenCall → List Range) → ℕ → List run.OpenCall → List Range
 ranges_at ranges d [] = []
 ranges_at ranges d (c ∷ cs) = cond (eqb d (suc (length cs))) (ranges c) (ranges_at ranges d cs)
 

@@ -2,7 +2,8 @@
 use Rattle.std.specs.Prelude.{◌≡◌, ℕ, suc, ◌+◌, ◌^◌, ◌<◌, ◌≤◌, true, false, List, [], ◌∷◌, length, None, is_some}
 use Rattle.marks.specs.declared.side.Side.TheVariants.{Replay, System}
 use Rattle.marks.specs.Places.{thread_count, stack, stack_size, replay_pool, system_pool, pool_size, is_constant, is_replay, is_system}
-use Rattle.marks.specs.Ranges.{Range, range, in_range, any_range}
+use Rattle.marks.specs.declared.range.Range.{Range}
+use Rattle.marks.specs.Ranges.{range, covers, any_range}
 use Rattle.marks.specs.Marks.{Mark}
 use Rattle.space_memory_bytes.specs.Areas.{AreaState, IsDead, byte_at}
 use Rattle.space_memory.specs.StackFrames.{stack_of, LieInStack}
@@ -18,11 +19,11 @@ use Rattle.space_memory_laws.specs.Held.{AreHeld}
 -- each frame, the innermost first, begins where the one below it ends, and ends in the stack
 abbrev pub AreStacked : ℕ → List Range → Type 0
 AreStacked base [] = Unit {0}
-AreStacked base (f ∷ fs) = (f.at ≡ end_of base fs) × (f.at + f.size ≤ base + stack_size) × AreStacked base fs
+AreStacked base (f ∷ fs) = (f.addr ≡ end_of base fs) × (f.addr + f.len ≤ base + stack_size) × AreStacked base fs
 
 -- of an area just the bytes of these ranges live
 abbrev pub JustTheseLive : Range → List Range → List AreaState → Type 0
-JustTheseLive area rs bytes = (x : ℕ) → in_range area x ≡ true → is_some (byte_at bytes x) ≡ any_range rs x
+JustTheseLive area rs bytes = (x : ℕ) → covers area x ≡ true → is_some (byte_at bytes x) ≡ any_range rs x
 
 -- the stacks and the pool below the cut, and all that is in them, lie in system memory
 pub record IsBelow (side : SideState) : Type 0 where

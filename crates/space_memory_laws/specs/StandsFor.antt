@@ -11,14 +11,14 @@ use Rattle.space_memory.specs.Releases.{outs_of}
 use Rattle.replay_runs.specs.Runs.{Start, marks_of, byte}
 use Rattle.replay_runs.specs.Threads.{OpenCall, frames, open_calls}
 use Rattle.replay_runs.specs.Pool.{blocks, in_use}
-use Rattle.space_memory_laws.specs.Shown.{memory_range, value_when_held, cell_of, stack_with, pool_with, ranges_at, ins_of}
+use Rattle.space_memory_laws.specs.Shown.{value_when_held, cell_of, stack_with, pool_with, ranges_at, ins_of}
 use Rattle.space_memory_laws.specs.Sound.{IsSound}
 
 -- what is held for a thread is what these open calls read and hold
 pub record HoldsFor (held : HeldState) (t : ℕ) (calls : List OpenCall) : Type 0 where
   pub depth : slice_index held.depths t ≡ length calls
-  pub ins : (d : ℕ) → map (λ r. r.range) (ins_of (record { thread = t; depth = d }) held.regions) ≡ map memory_range (ranges_at (λ c. c.ins) d calls)
-  pub outs : (d : ℕ) → map (λ r. r.range) (outs_of (record { thread = t; depth = d }) held.regions) ≡ map memory_range (ranges_at (λ c. c.outs) d calls)
+  pub ins : (d : ℕ) → map (λ r. r.range) (ins_of (record { thread = t; depth = d }) held.regions) ≡ ranges_at (λ c. c.ins) d calls
+  pub outs : (d : ℕ) → map (λ r. r.range) (outs_of (record { thread = t; depth = d }) held.regions) ≡ ranges_at (λ c. c.outs) d calls
 
 -- memory above the cut is what the marks of a past, from a start, leave of it. Nothing is said of memory below the cut
 pub record StandsFor (s : Start) (past : List Mark) (memory : SpaceState) : Type 0 where
@@ -33,6 +33,6 @@ pub record StandsFor (s : Start) (past : List Mark) (memory : SpaceState) : Type
   -- each thread's open Calls, with what they read and hold
   pub calls : (t : ℕ) → t < thread_count → HoldsFor memory.held t (open_calls (marks_of s t past))
   -- the region of each key in use
-  pub keys : (k : ℕ) → option_map (λ r. r.range) (prepared_region memory.held.regions k) ≡ option_map memory_range (in_use s k past)
+  pub keys : (k : ℕ) → option_map (λ r. r.range) (prepared_region memory.held.regions k) ≡ in_use s k past
   -- where all this lies
   pub sound : IsSound s past memory

@@ -1,7 +1,8 @@
 //! The laws. Each holds for any start and any past.
 
 ghost use Rattle.std.specs.Prelude.{List, ℕ};
-ghost use Rattle.marks.specs.Ranges.{Prepared, Range};
+ghost use Rattle.marks.specs.declared.range.Range.{Range};
+ghost use Rattle.marks.specs.Ranges.{Prepared};
 ghost use Rattle.space_memory_laws.specs.Rearranged.{RearrangedRunsShareMemory};
 ghost use Rattle.space_memory_laws.specs.Starts.{NewMemoryStandsForTheStart};
 ghost use Rattle.space_memory_laws.specs.Numbers.{AreBytesOf};
@@ -11,7 +12,7 @@ ghost use Rattle.space_memory_laws.specs.Refusals.{FoundFreesAreRefused, FullSta
 ghost use Rattle.space_memory_laws.specs.Calls.{CallsAreMarks, HeldRangesAreParts, OpenedCallsHaveNoParts, PreparedRangesAreParts, UndoneCallsLeaveMemory};
 ghost use Rattle.space_memory_laws.specs.Returns.{RefusedReturnsAreFindings, ReturnsAreMarks};
 ghost use Rattle.space_memory_laws.specs.CallChecks.{HoldRefusalsAreFindings, MadeCallsPass, PartsGrow, RacesOfHoldsAreFound, RacesOfReadsAreFound, ReadRefusalsAreFindings, RefusedHoldsAreFound, RefusedKeysAreFound, RefusedReadsAreFound};
-ghost use Rattle.space_memory_laws.specs.Below.{AllocsBelowAreUnseen, ArgumentsBelowAreUnseen, FramesBelowAreUnseen, FreesBelowAreUnseen, LeavesBelowAreUnseen, StoresBelowAreUnseen};
+ghost use Rattle.space_memory_laws.specs.Below.{AllocsBelowAreUnseen, ArgumentsBelowAreUnseen, FramesBelowAreUnseen, FreesBelowAreUnseen, LeavesBelowAreUnseen, StoresBelowAreUnseen, WritesBelowAreUnseen};
 ghost use Rattle.space_memory_laws.specs.Ends.{WhatIsEndedIsThere};
 ghost use Rattle.space_memory_laws.specs.Owed.{PendingBytesAreOwed};
 ghost use Rattle.space_memory_laws.specs.Rights.{LoadsBelowShowTheRun, RightsAreHandedDown};
@@ -214,6 +215,11 @@ pub fn loads_below_show_the_run()
 /// A store of code below the cut changes nothing that a run sees: it goes to system memory, or to bytes that wait.
 pub fn stores_below_are_unseen()
     ensures { StoresBelowAreUnseen }
+{}
+
+/// Nor do bytes that such code writes.
+pub fn writes_below_are_unseen()
+    ensures { WritesBelowAreUnseen }
 {}
 
 /// A frame that is entered below the cut changes nothing that a run sees.

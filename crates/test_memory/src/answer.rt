@@ -1,6 +1,6 @@
 // What a call answers.
 
-use memory_map::Range;
+use memory_map::{Bytes8, Range};
 use space_memory::{Cell, HoldError};
 use space_memory_access::Refusal;
 use std::fmt;
@@ -13,6 +13,8 @@ pub enum Answer {
     Number(u64),
     Place(Range),
     Cells([Cell; 16]),
+    Bytes(Bytes8),
+    Holds(bool),
     Refused(Refusal),
     OutOfMemory,
     /// It isn't a call, or not one that may be made now.
@@ -55,6 +57,22 @@ fn write_cells<W: fmt::Write>(f: &mut fmt::Formatter<W>, cells: &[Cell]) -> fmt:
     Ok(())
 }
 
+/// Writes bytes as two digits each, with a blank between two; `empty` where there are none.
+fn write_bytes<W: fmt::Write>(f: &mut fmt::Formatter<W>, bytes: &[u8]) -> fmt::Result {
+    if bytes.is_empty() {
+        return write!(f, "empty");
+    }
+    let mut is_first = true;
+    for byte in bytes {
+        if !is_first {
+            write!(f, " ")?;
+        }
+        is_first = false;
+        write!(f, "{byte:02x}")?;
+    }
+    Ok(())
+}
+
 impl fmt::Display for Answer {
     fn fmt<W: fmt::Write>(&self, f: &mut fmt::Formatter<W>) -> fmt::Result {
         match self {
@@ -67,6 +85,9 @@ impl fmt::Display for Answer {
                 write!(f, "{addr:#x} {len:#x}")
             }
             Answer::Cells(cells) => write_cells(f, cells),
+            Answer::Bytes(bytes) => write_bytes(f, bytes.as_slice()),
+            Answer::Holds(true) => write!(f, "yes"),
+            Answer::Holds(false) => write!(f, "no"),
             Answer::Refused(refusal) => {
                 let cause = cause(*refusal);
                 let addr = refusal.addr();

@@ -1,6 +1,6 @@
 // The calls that a script may make.
 
-use crate::words::{Word, numbers_of};
+use crate::words::{Word, bytes_of, numbers_of};
 use crate::{Answer, Memory};
 use Word::{Number, Side, Write};
 use memory_map::{Bytes8, Place, Range};
@@ -81,7 +81,72 @@ fn make_for_call(
         }
         ("global", [Number(addr), bytes @ ..]) => place(alloc, memory, true, *addr, bytes),
         ("string", [Number(addr), bytes @ ..]) => place(alloc, memory, false, *addr, bytes),
+        _ => make_for_bytes(alloc, memory, name, words),
+    }
+}
+
+/// Makes a call on the bytes of a range, or one that asks whether another would be refused.
+fn make_for_bytes(
+    alloc: Global,
+    memory: &mut Memory,
+    name: &str,
+    words: &[Word],
+) -> Result<Answer, AllocError> {
+    match (name, words) {
+        ("copy", [Side(side), Number(thread), Number(addr), Number(len)]) => {
+            let range = Range {
+                addr: *addr,
+                len: *len,
+            };
+            Ok(memory.copy(alloc, *side, *thread, range))
+        }
+        ("write", [Side(side), Number(thread), Number(addr), bytes @ ..]) => {
+            write(alloc, memory, *side, *thread, *addr, bytes)
+        }
+        ("row", [Number(addr)]) => Ok(memory.live_row(*addr)),
+        ("may_enter", [Side(side), Number(thread), Number(size)]) => {
+            Ok(memory.may_enter(*side, *thread, *size))
+        }
+        ("may_release", [Number(thread), used @ ..]) => {
+            may_release(alloc, memory, *thread, used, None)
+        }
+        ("may_commit", [Number(thread), Number(key), Number(size), used @ ..]) => {
+            may_release(alloc, memory, *thread, used, Some((*key, *size)))
+        }
+        ("filled", [Number(thread), Number(place), Number(size)]) => {
+            Ok(memory.is_filled(*thread, *place, *size))
+        }
+        ("filled_key", [Number(key), Number(size)]) => {
+            Ok(memory.is_committed_filled(*key, *size))
+        }
         _ => Ok(Answer::NoCall),
+    }
+}
+
+fn may_release(
+    alloc: Global,
+    memory: &Memory,
+    thread: u64,
+    used: &[Word],
+    commit: Option<(u64, u64)>,
+) -> Result<Answer, AllocError> {
+    match numbers_of(alloc, used)? {
+        Some(used) => Ok(memory.may_release(thread, used.as_slice(), commit)),
+        None => Ok(Answer::NoCall),
+    }
+}
+
+fn write(
+    alloc: Global,
+    memory: &mut Memory,
+    side: marks::Side,
+    thread: u64,
+    addr: u64,
+    bytes: &[Word],
+) -> Result<Answer, AllocError> {
+    match bytes_of(alloc, bytes)? {
+        Some(bytes) => Ok(memory.write(side, thread, addr, bytes.as_slice())),
+        None => Ok(Answer::NoCall),
     }
 }
 
@@ -105,13 +170,11 @@ fn place(
     addr: u64,
     bytes: &[Word],
 ) -> Result<Answer, AllocError> {
-    let mut init = Vec::new(alloc);
-    for word in bytes {
-        match word {
-            Number(byte) if *byte < 256 => init.push(*byte as u8)?,
-            _ => return Ok(Answer::NoCall),
+    match bytes_of(alloc, bytes)? {
+        Some(bytes) => {
+            let init = Bytes8::from(bytes);
+            memory.place(alloc, is_global, Place { addr, init })
         }
+        None => Ok(Answer::NoCall),
     }
-    let init = Bytes8::from(init);
-    memory.place(alloc, is_global, Place { addr, init })
 }

@@ -297,6 +297,59 @@ impl Memory {
         Answer::Done
     }
 
+    /// Whether the thread's innermost call may be closed, where as many used sizes are given as it holds regions to write.
+    pub fn may_release(&self, thread: u64, used: &[u64], commit: Option<(u64, u64)>) -> Answer {
+        let Some(thread) = self.caller(thread) else {
+            return Answer::NoCall;
+        };
+        if used.len() != out_count(self.held.as_slice(), self.held.innermost(thread)) {
+            return Answer::NoCall;
+        }
+        self.spaces.may_release(thread, used, commit).into()
+    }
+
+    pub fn is_filled(&self, thread: u64, place: u64, used: u64) -> Answer {
+        match thread_of(thread) {
+            Some(thread) => { Answer::Holds(self.spaces.is_filled(thread, place as usize, used)) }
+            None => Answer::NoCall,
+        }
+    }
+
+    pub fn is_committed_filled(&self, key: u64, used: u64) -> Answer {
+        Answer::Holds(self.spaces.is_committed_filled(key, used))
+    }
+
+    pub fn may_enter(&self, side: Side, thread: u64, size: u64) -> Answer {
+        match thread_of(thread) {
+            Some(thread) => self.spaces.may_enter(side, thread, size).into(),
+            None => Answer::NoCall,
+        }
+    }
+
+    pub fn live_row(&self, addr: u64) -> Answer {
+        if addr % 16 != 0 {
+            return Answer::NoCall;
+        }
+        self.spaces.live_row(addr).into()
+    }
+
+    pub fn copy(&self, alloc: Global, side: Side, thread: u64, range: Range) -> Answer {
+        let Some(thread) = thread_of(thread) else {
+            return Answer::NoCall;
+        };
+        match self.spaces.copy(alloc, side, thread, range) {
+            Ok(bytes) => Answer::Bytes(bytes),
+            Err(error) => error.into(),
+        }
+    }
+
+    pub fn write(&mut self, side: Side, thread: u64, addr: u64, bytes: &[u8]) -> Answer {
+        match thread_of(thread) {
+            Some(thread) => self.spaces.write(side, thread, addr, bytes).into(),
+            None => Answer::NoCall,
+        }
+    }
+
     pub fn prepared(&self, key: u64) -> Answer {
         self.spaces.prepared(key).into()
     }

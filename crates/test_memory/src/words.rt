@@ -61,3 +61,15 @@ pub fn numbers_of(alloc: Global, words: &[Word]) -> Result<Option<Vec<u64>>, All
     }
     Ok(Some(numbers))
 }
+
+/// The bytes of words that are numbers below 256 alone.
+pub fn bytes_of(alloc: Global, words: &[Word]) -> Result<Option<Vec<u8>>, AllocError> {
+    let mut bytes = Vec::new(alloc);
+    for word in words {
+        match word {
+            Word::Number(byte) if *byte < 256 => bytes.push(*byte as u8)?,
+            _ => return Ok(None),
+        }
+    }
+    Ok(Some(bytes))
+}

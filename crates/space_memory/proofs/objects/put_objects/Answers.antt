@@ -1,6 +1,6 @@
 use Rattle.std.proofs.Common.{ℕ, List, length, sym, subst}
 use Rattle.memory_map.specs.declared.placed.Place.{Place}
-use Rattle.memory_map.specs.declared.range.Range.{Range}
+use Rattle.marks.specs.declared.range.Range.{Range}
 use Rattle.space_memory_bytes.specs.Areas.{extents, LiesIn}
 use Rattle.space_memory.specs.Objects.{object_range}
 use Rattle.space_memory.proofs.objects.put_objects.Goals as goal

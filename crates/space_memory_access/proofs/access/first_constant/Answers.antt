@@ -1,5 +1,5 @@
 use Rattle.std.proofs.Common.{Bool, sym, subst}
-use Rattle.memory_map.specs.Ranges.{IsFirstIn}
+use Rattle.marks.specs.Ranges.{IsFirstIn}
 use Rattle.space_memory_access.specs.Accesses.{IsConstantTo}
 use Rattle.space_memory_access.proofs.access.first_constant.Goals as goal
 

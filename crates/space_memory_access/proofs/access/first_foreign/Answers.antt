@@ -1,6 +1,6 @@
 use Rattle.std.proofs.Common.{sym, subst}
 use Rattle.marks.specs.declared.side.Side.{Side}
-use Rattle.memory_map.specs.Ranges.{IsFirstIn}
+use Rattle.marks.specs.Ranges.{IsFirstIn}
 use Rattle.space_memory_access.specs.Accesses.{IsForeignTo}
 use Rattle.space_memory_access.proofs.access.first_foreign.Goals as goal
 

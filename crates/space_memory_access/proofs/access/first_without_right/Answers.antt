@@ -1,5 +1,5 @@
 use Rattle.std.proofs.Common.{ℕ, Option, sym, subst, arith}
-use Rattle.memory_map.specs.Ranges.{IsFirstIn}
+use Rattle.marks.specs.Ranges.{IsFirstIn}
 use Rattle.space_memory_access.specs.Accesses.{IsWithoutRight}
 use Rattle.space_memory_access.proofs.access.first_without_right.Goals as goal
 

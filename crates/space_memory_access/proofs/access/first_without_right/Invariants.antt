@@ -1,5 +1,5 @@
 use Rattle.std.proofs.Common.{ℕ, ◌<◌}
-use Rattle.memory_map.specs.Ranges.{IsInRange}
+use Rattle.marks.specs.Ranges.{IsInRange}
 use Rattle.memory_map.specs.declared.areas.TheConstants.{REPLAY_MEMORY}
 use Rattle.space_memory_access.specs.Accesses.{HasRight}
 use Rattle.space_memory_access.proofs.access.first_without_right.Given as goal

@@ -1,5 +1,5 @@
 use Rattle.std.proofs.Common.{◌≡◌, ℕ, ◌+◌, ◌-◌, List, length, get_or, cond, rules, ap, ◌∙◌, arith}
-use Rattle.memory_map.specs.Ranges.{covers}
+use Rattle.marks.specs.Ranges.{covers}
 use Rattle.space_memory_bytes.proofs.Marks.{mid_get}
 use Rattle.space_memory_bytes.proofs.marked_bytes.put_eight.Goals as goal
 

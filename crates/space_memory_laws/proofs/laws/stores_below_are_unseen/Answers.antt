@@ -2,4 +2,4 @@ use Rattle.space_memory_laws.proofs.laws.stores_below_are_unseen.Goals as goal
 use Rattle.space_memory_laws.proofs.Below.{stored}
 
 pub returns : goal.returns
-returns c s past old new thread addr width value h small has same rest ok = stored s past old new thread addr width value h small has same rest ok
+returns c = stored

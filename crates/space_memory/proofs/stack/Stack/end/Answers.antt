@@ -1,6 +1,6 @@
 use Rattle.std.proofs.Common.{◌≡◌, ◌+◌, ◌-◌, Some, length, slice_get, ap, sym, ◌∙◌, arith}
 use Rattle.std.proofs.lemmas.Option.{slice_get_within, get_or_from_slice_get}
-use Rattle.memory_map.specs.declared.range.Range.{Range}
+use Rattle.marks.specs.declared.range.Range.{Range}
 use Rattle.space_memory.specs.StackFrames.{StackState, end_of}
 use Rattle.space_memory.proofs.Ends.{end_of_last}
 use Rattle.space_memory.proofs.stack.Stack.end.Goals as goal

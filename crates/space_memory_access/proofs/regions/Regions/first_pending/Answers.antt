@@ -1,5 +1,5 @@
 use Rattle.std.proofs.Common.{ℕ, ◌+◌, Option, take, ap, sym, ◌∙◌, subst}
-use Rattle.memory_map.specs.Ranges.{IsInRange, IsFirstIn}
+use Rattle.marks.specs.Ranges.{IsInRange, IsFirstIn}
 use Rattle.space_memory_access.specs.declared.holder.Region.{Region}
 use Rattle.space_memory_access.specs.Holders.{is_pending}
 use Rattle.space_memory_access.specs.Held.{IsPending}

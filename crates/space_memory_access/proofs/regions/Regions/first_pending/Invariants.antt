@@ -1,5 +1,5 @@
 use Rattle.std.proofs.Common.{take}
-use Rattle.memory_map.specs.Ranges.{IsFirstIn}
+use Rattle.marks.specs.Ranges.{IsFirstIn}
 use Rattle.space_memory_access.specs.Held.{IsPending}
 use Rattle.space_memory_access.proofs.regions.Regions.first_pending.Given as goal
 

@@ -1,6 +1,6 @@
 use Rattle.std.proofs.Common.{◌≡◌, ◌&&◌, drop}
 use Rattle.std.specs.List.{list_any}
-use Rattle.memory_map.specs.Ranges.{covers}
+use Rattle.marks.specs.Ranges.{covers}
 use Rattle.space_memory_access.specs.Holders.{serves}
 use Rattle.space_memory_access.proofs.regions.Regions.serves.Given as goal
 

@@ -1,5 +1,5 @@
 use Rattle.std.proofs.Common.{List, set, sym, subst, arith}
-use Rattle.memory_map.specs.declared.range.Range.{Range}
+use Rattle.marks.specs.declared.range.Range.{Range}
 use Rattle.space_memory_bytes.specs.Areas.{AreaState, RiseFrom}
 use Rattle.space_memory_bytes.specs.Numbers.{FillsWith}
 use Rattle.space_memory_bytes.proofs.Changes.{room_held, whole_found, extents_kept, fills_with}

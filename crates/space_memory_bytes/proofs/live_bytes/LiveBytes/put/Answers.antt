@@ -1,5 +1,5 @@
 use Rattle.std.proofs.Common.{List, subst, sym, arith}
-use Rattle.memory_map.specs.declared.range.Range.{Range}
+use Rattle.marks.specs.declared.range.Range.{Range}
 use Rattle.space_memory_bytes.specs.Areas.{LiesIn}
 use Rattle.space_memory_bytes.proofs.Changes.{part_lies, put_outside, put_bytes}
 use Rattle.space_memory_bytes.proofs.live_bytes.LiveBytes.put.Goals as goal

@@ -1,7 +1,7 @@
 use Rattle.std.proofs.Common.{◌≡◌, ◌-◌, ℕ, List, length, get_or, cond, refl, ap, sym, subst, ◌∙◌, arith}
 use Rattle.std.specs.Vec.{with_items}
 use Rattle.std.proofs.lemmas.List.{with_items_is}
-use Rattle.memory_map.specs.Ranges.{covers}
+use Rattle.marks.specs.Ranges.{covers}
 use Rattle.space_memory_bytes.specs.Marks.{cells_of, WritesWord}
 use Rattle.space_memory_bytes.proofs.Marks.{length_is, word_put, eight_ones}
 use Rattle.space_memory_bytes.proofs.marked_bytes.MarkedBytes.put_word.Goals as goal

@@ -1,6 +1,7 @@
-// Ranges of addresses.
+//! Ranges of addresses.
+
 ghost use Rattle.std.specs.Prelude.{◌≡◌};
-ghost use Rattle.memory_map.specs.Ranges.{IsInRange, IsFirstIn, covers};
+ghost use Rattle.marks.specs.Ranges.{IsInRange, IsFirstIn, covers};
 
 /// The bytes from `addr` on, `len` of them, as far as addresses go: the last address is 2^64 - 1.
 #[derive(Clone, Copy, Debug, PartialEq, Eq)]
