@@ -17,11 +17,12 @@ use Rattle.c_types_nodes.specs.Tables.{Table}
 use Rattle.c_types_program.specs.declared.function.Function.{Function}
 use Rattle.c_types_program.specs.Declarations.{IsFunction, function_in}
 use Rattle.c_types_environment.specs.States.{State}
-use Rattle.annot_reader_parameters.specs.Rules.{Declared}
-use Rattle.annot_reader_cut.specs.declared.source.Heading.{Heading}
-use Rattle.annot_reader_cut.specs.Headings.{AreHeadings, IsHeading, IsHeadingOf}
-use Rattle.annot_reader.specs.Seen.{declared_by}
+use Rattle.annot_reader_functions.specs.Rules.{Declared}
+use Rattle.annot_reader.specs.declared.source.Heading.{Heading}
+use Rattle.annot_reader.specs.Headings.{AreHeadings, IsHeading, IsHeadingOf}
+use Rattle.annot_reader_functions.specs.Seen.{declared_by}
 use Rattle.annot_reader.specs.Sources.{IsFunctionType, IsTypedFunction}
+use Rattle.annot_reader_functions.proofs.Numbers.{as_many_types}
 use Rattle.annot_reader.proofs.FunctionTypes.{AreFunctionTypes}
 
 all_cons : {X : Type 0} (P : X → Type 0) (x : X) (xs : List X) → P x → All P xs → All P (x ∷ xs)
@@ -33,14 +34,6 @@ all_push P xs x all h = All-append P xs (x ∷ []) all (all_cons P x [] h (λ k 
 
 -- ---- numbers of types
 
-length-after : (ts : List CType) (ns : List Ty) → length (types_after ts ns) ≡ length ts + length ns
-length-after ts [] = omega arith
-length-after ts (n ∷ ns) = let g = length-append ts (made ts n ∷ []) in let h = length-after (ts ++ made ts n ∷ []) ns in omega arith
-
--- as many types as numbers
-pub length-types : (ns : List Ty) → length (types_of ns) ≡ length ns
-length-types ns = let h = length-after [] ns in omega arith
-
 count-all_at : (ts : List CType) (ids : List TypeId) → count (all_at ts ids) ≡ length ids
 count-all_at ts [] = refl
 count-all_at ts (i ∷ ids) = let h = count-all_at ts ids in omega arith
@@ -49,7 +42,7 @@ count-all_at ts (i ∷ ids) = let h = count-all_at ts ids in omega arith
 
 pub heading_number : (s : State) (h : Heading) (t : Ty) (ps : List TypeId) (u : CType) (n : ℕ) → n < length s.table.types → t ≡ nodes.Function h.result ps → h.params ≡ ps → IsMadeOf n t → made (types_of s.table.types) t ≡ u → IsFunctionType u → IsHeading (declared_by s) h
 heading_number s h t ps u n l e q m f k =
-    let long = length-types s.table.types in
+    let long = as_many_types s.table.types in
     let same : t ≡ nodes.Function h.result h.params = e ∙ ap (nodes.Function h.result) (sym q) in
     let parts : IsMadeOf n (nodes.Function h.result h.params) = subst (IsMadeOf n) same m in
     let type : FunctionOf (at (types_of s.table.types) h.result) (all_at (types_of s.table.types) h.params) ≡ u = ap (made (types_of s.table.types)) (sym same) ∙ f in

@@ -1,4 +1,9 @@
 mod FunctionTypes
 mod Headings
 mod Typed
-mod Staying
+mod Listed
+mod Headed
+mod Noting
+mod Meant
+mod Finding
+mod Saying

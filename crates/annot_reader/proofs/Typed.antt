@@ -5,9 +5,9 @@ use Rattle.std.specs.Result.{IsErrAnd}
 use Rattle.std.proofs.lemmas.Result.{err_from_is_err_and}
 use Rattle.c_types_rules.specs.Checked.{Checked}
 use Rattle.annot_reader_rules.specs.Notes.{Annotated}
-use Rattle.annot_reader_cut.specs.declared.error.InterfaceError.{InterfaceError}
-use Rattle.annot_reader_cut.specs.Interface.{Interface}
-use Rattle.annot_reader_cut.specs.Interfaces.{IsInterface}
+use Rattle.annot_reader.specs.declared.error.InterfaceError.{InterfaceError}
+use Rattle.annot_reader.specs.Interface.{Interface}
+use Rattle.annot_reader.specs.Interfaces.{IsInterface}
 use Rattle.c_syntax.specs.Nodes.{Nodes}
 use Rattle.c_syntax.specs.Syntax.{Decls}
 use Rattle.c_types_rules.specs.Limits.{all_keep, few_params}
@@ -15,9 +15,9 @@ use Rattle.c_types_rules.specs.Sources.{Function as Known, Program}
 use Rattle.c_types_program.specs.declared.function.Function.{Function}
 use Rattle.c_types_program.specs.Declarations.{function_in}
 use Rattle.c_types_environment.specs.States.{State}
-use Rattle.annot_reader_cut.specs.declared.source.Heading.{Heading}
-use Rattle.annot_reader_cut.specs.Headings.{AreHeadings, IsHeading, IsTyped}
-use Rattle.annot_reader.specs.Seen.{declared_by}
+use Rattle.annot_reader.specs.declared.source.Heading.{Heading}
+use Rattle.annot_reader.specs.Headings.{AreHeadings, IsHeading, IsTyped}
+use Rattle.annot_reader_functions.specs.Seen.{declared_by}
 use Rattle.annot_reader.specs.Sources.{IsTypedFunction, IsTypedSource, interface_in}
 use Rattle.annot_reader.proofs.FunctionTypes.{AreFunctionTypes, typed_functions}
 use Rattle.annot_reader.proofs.Headings.{typed_all}

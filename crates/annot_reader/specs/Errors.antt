@@ -1,9 +1,9 @@
--- Rules of types that an annotation breaks.
-use Rattle.c_types_operators.specs.declared.error.TypeError.{TypeError}
-use Rattle.c_types_operators.specs.declared.error.TypeError.TheVariants as types
-use Rattle.annot_reader_bare.specs.declared.error.AnnotationError.{AnnotationError}
-use Rattle.annot_reader_bare.specs.declared.error.AnnotationError.TheVariants.{Rule, Memory}
+-- Why a source has no interface of a cut.
+use Rattle.annot_reader_words.specs.declared.error.AnnotationError.{AnnotationError}
+use Rattle.annot_reader_words.specs.declared.error.AnnotationError.TheVariants as broken
+use Rattle.annot_reader.specs.declared.error.InterfaceError.{InterfaceError}
+use Rattle.annot_reader.specs.declared.error.InterfaceError.TheVariants.{Rule, Memory}
 
-abbrev pub by_type_error : TypeError → AnnotationError
-by_type_error (types.Rule from rule) = Rule from rule
-by_type_error types.Memory = Memory
+abbrev pub by_annotation_error : AnnotationError → InterfaceError
+by_annotation_error (broken.Rule from rule) = Rule from rule
+by_annotation_error broken.Memory = Memory

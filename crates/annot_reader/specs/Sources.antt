@@ -13,8 +13,8 @@ use Rattle.c_types_nodes.specs.Tables.{Table}
 use Rattle.c_types_program.specs.declared.function.Function.{Function}
 use Rattle.c_types_program.specs.Declarations.{IsFunction, function_in}
 use Rattle.c_types_environment.specs.States.{State}
-use Rattle.annot_reader_cut.specs.declared.error.InterfaceError.{InterfaceError}
-use Rattle.annot_reader_cut.specs.Interface.{Interface}
+use Rattle.annot_reader.specs.declared.error.InterfaceError.{InterfaceError}
+use Rattle.annot_reader.specs.Interface.{Interface}
 
 -- the tree is that of a source that keeps all rules of types and exceeds no limit; this is declared at its end, and these are its
 -- functions, by number less that of the first

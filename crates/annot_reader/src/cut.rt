@@ -5,12 +5,14 @@ ghost use Rattle.c_syntax.specs.Syntax.{Decls};
 ghost use Rattle.c_types_rules.specs.Sources.{Program};
 ghost use Rattle.annot_reader_rules.specs.Cuts.{annotations};
 ghost use Rattle.c_types_expressions.specs.Found.{Stays};
-ghost use Rattle.annot_reader_cut.specs.Interfaces.{IsInterface};
+ghost use Rattle.annot_reader.specs.Interfaces.{IsInterface};
 ghost use Rattle.annot_reader.specs.Sources.{IsSource, IsTypedSource, interface_in};
 
+use crate::error::InterfaceError;
 use crate::functions::headings_of;
-use crate::types::SourceTypes;
-use annot_reader_cut::{Iface, InterfaceError, Source, interface};
+use crate::iface::Iface;
+use crate::interface::interface;
+use crate::source::Source;
 use c_syntax::Tree;
 use c_types_environment::Environment;
 use c_types_program::Function;
@@ -22,7 +24,7 @@ use std::alloc::Global;
 /// source breaks, with the offset of the node that breaks it; `NoSuchCut` where it breaks none and no declaration names the cut.
 pub fn interface_of(
     alloc: Global,
-    env: Environment,
+    mut env: Environment,
     functions: &[Function],
     tree: &Tree,
     cut: &[u8],
@@ -37,7 +39,6 @@ pub fn interface_of(
         functions: headings.as_slice(),
         cut,
     };
-    let mut types = SourceTypes { env };
-    let iface = interface(alloc, &mut types, &source)?;
-    Ok((types.env, iface))
+    let iface = interface(alloc, &mut env, &source)?;
+    Ok((env, iface))
 }

@@ -5,11 +5,11 @@ ghost use Rattle.std.specs.List.{All};
 ghost use Rattle.c_scopes.specs.Scopes.{same_name};
 ghost use Rattle.c_types_table.specs.Tables.{type_at};
 ghost use Rattle.c_types_program.specs.Declarations.{function_in};
-ghost use Rattle.annot_reader_cut.specs.Headings.{AreHeadings, IsHeading, IsHeadingOf};
-ghost use Rattle.annot_reader.specs.Seen.{declared_by};
+ghost use Rattle.annot_reader.specs.Headings.{AreHeadings, IsHeading, IsHeadingOf};
+ghost use Rattle.annot_reader_functions.specs.Seen.{declared_by};
 ghost use Rattle.annot_reader.specs.Sources.{IsFunctionType, IsTypedFunction};
 
-use annot_reader_cut::Heading;
+use crate::source::Heading;
 use annot_reader_functions::FunctionKind;
 use c_types_environment::Environment;
 use c_types_program::Function;

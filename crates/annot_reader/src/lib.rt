@@ -1,12 +1,19 @@
-//! The interface of a cut of a source whose types were checked.
+//! What the annotations of a source whose types were checked say, and which functions are in the interface of a cut.
 #![tactic(auto)]
 
+mod builtins;
 mod cut;
+mod declarations;
 mod error;
 mod functions;
-mod rules;
-mod types;
+mod growing;
+mod iface;
+mod interface;
+mod laws;
+mod reading;
+mod source;
 
 pub use cut::interface_of;
-pub use rules::{declare, function_named, size_of_name, sort_of};
-pub use types::SourceTypes;
+pub use error::InterfaceError;
+pub use iface::Iface;
+pub use laws::interfaces_say_what_annotations_say;

@@ -10,12 +10,12 @@ use Rattle.c_types_table.specs.Tables.{all_at, at}
 use Rattle.c_types_rules.specs.Environment.{Environment, Meaning, Struct, inner}
 use Rattle.annot_reader_rules.specs.Functions.{within}
 use Rattle.annot_reader_rules.specs.Regions.{Signature}
-use Rattle.annot_reader_bare.specs.declared.error.AnnotationError.{AnnotationError}
-use Rattle.annot_reader_bare.specs.Answers.{Tells}
+use Rattle.annot_reader_words.specs.declared.error.AnnotationError.{AnnotationError}
+use Rattle.annot_reader_words.specs.Answers.{Tells}
 use Rattle.annot_reader_words.specs.declared.notes.Param.{Param}
-use Rattle.annot_reader_parameters.specs.declared.signature.Signature.{Signature as Code}
-use Rattle.annot_reader_parameters.specs.Rules.{Declared, Extends, Names, Stays}
-use Rattle.annot_reader_parameters.specs.Sorts.{IsKnown}
+use Rattle.annot_reader_functions.specs.declared.signature.Signature.{Signature as Code}
+use Rattle.annot_reader_functions.specs.Rules.{Declared, Extends, Names, Stays}
+use Rattle.annot_reader_functions.specs.Sorts.{IsKnown}
 use Rattle.annot_reader_functions.specs.Parameters.{AreTypes, IsRead, StaysAround, one_parameter}
 
 pub around_here : (a : Declared) → StaysAround a a

@@ -15,14 +15,14 @@ use Rattle.annot_reader_rules.specs.Misplaced.{bare_annots, bare_parts, bare_res
 use Rattle.annot_reader_rules.specs.Functions.{FunctionKind, all_noted, all_parameters, function_notes, is_empty, no_holds, nothing, own_parameters, result_parts, within}
 use Rattle.annot_reader_rules.specs.Notes.{Notes, Parameter}
 use Rattle.annot_reader_rules.specs.Regions.{Signature}
-use Rattle.annot_reader_bare.specs.declared.error.AnnotationError.{AnnotationError}
-use Rattle.annot_reader_bare.specs.Answers.{Passes, Tells, Unsaid}
-use Rattle.annot_reader_bare.proofs.Composing.{assoc, follows, goes_on, same_tells, stops, stops_there}
+use Rattle.annot_reader_words.specs.declared.error.AnnotationError.{AnnotationError}
+use Rattle.annot_reader_words.specs.Answers.{Passes, Tells, Unsaid}
+use Rattle.annot_reader_words.proofs.Composing.{assoc, follows, goes_on, same_tells, stops, stops_there}
 use Rattle.annot_reader_words.specs.declared.notes.Param.{Param}
-use Rattle.annot_reader_words.specs.Places.{IsDecl, Shows}
+use Rattle.annot_reader_words.specs.Shown.{IsDecl, Shows}
 use Rattle.annot_reader_words.proofs.Folding.{same_after}
-use Rattle.annot_reader_parameters.specs.Rules.{IsTypeName}
-use Rattle.annot_reader_parameters.specs.Sizing.{IsItem}
+use Rattle.annot_reader_functions.specs.Rules.{IsTypeName}
+use Rattle.annot_reader_functions.specs.Sizing.{IsItem}
 use Rattle.annot_reader_functions.specs.declared.notes.FunctionNotes.{FunctionNotes}
 use Rattle.annot_reader_functions.specs.declared.said.Said.{Said}
 use Rattle.annot_reader_functions.specs.First.{bare_outside, heading, signature_with}

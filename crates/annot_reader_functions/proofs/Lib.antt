@@ -6,3 +6,10 @@ mod Wording
 mod Listing
 mod Naming
 pub mod Composed
+pub mod Marking
+mod Fitting
+mod Sorting
+mod Factors
+pub mod Saying
+pub mod Staying
+pub mod Numbers

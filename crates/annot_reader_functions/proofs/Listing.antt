@@ -16,16 +16,16 @@ use Rattle.c_types_rules.specs.Expressions.{parameter_scope}
 use Rattle.annot_reader_rules.specs.Functions.{all_parameters, bare_within}
 use Rattle.annot_reader_rules.specs.Notes.{Parameter}
 use Rattle.annot_reader_rules.specs.Regions.{Signature, parameter_notes}
-use Rattle.annot_reader_bare.specs.declared.error.AnnotationError.{AnnotationError}
-use Rattle.annot_reader_bare.specs.declared.error.AnnotationError.TheVariants.{Rule, Memory}
-use Rattle.annot_reader_bare.specs.Answers.{Tells}
-use Rattle.annot_reader_bare.proofs.Composing.{same_tells, stops}
+use Rattle.annot_reader_words.specs.declared.error.AnnotationError.{AnnotationError}
+use Rattle.annot_reader_words.specs.declared.error.AnnotationError.TheVariants.{Rule, Memory}
+use Rattle.annot_reader_words.specs.Answers.{Tells}
+use Rattle.annot_reader_words.proofs.Composing.{same_tells, stops}
 use Rattle.annot_reader_words.specs.declared.notes.Param.{Param}
 use Rattle.annot_reader_words.specs.Readings.{parameter_in, parameters_in}
 use Rattle.annot_reader_words.proofs.Folding.{same_after}
-use Rattle.annot_reader_parameters.specs.declared.signature.Signature.{Signature as Code}
-use Rattle.annot_reader_parameters.specs.Rules.{Declared, IsTypeName}
-use Rattle.annot_reader_parameters.specs.Sorts.{AreNamed, IsKnown}
+use Rattle.annot_reader_functions.specs.declared.signature.Signature.{Signature as Code}
+use Rattle.annot_reader_functions.specs.Rules.{Declared, IsTypeName}
+use Rattle.annot_reader_functions.specs.Sorts.{AreNamed, IsKnown}
 use Rattle.annot_reader_functions.specs.Parameters.{AreDecls, AreRead, IsRead, one_parameter}
 use Rattle.annot_reader_functions.proofs.Steps.{after_assoc, bind_assoc, found}
 

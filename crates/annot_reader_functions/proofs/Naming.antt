@@ -13,9 +13,9 @@ use Rattle.c_types_model.specs.declared.extent.Extent.{Extent}
 use Rattle.c_types_table.specs.declared.ids.TypeId.{TypeId}
 use Rattle.c_types_table.specs.Tables.{all_at, at}
 use Rattle.annot_reader_rules.specs.Functions.{named_parameters}
-use Rattle.annot_reader_words.specs.Places.{Shows}
-use Rattle.annot_reader_parameters.specs.declared.signature.Named.{Named}
-use Rattle.annot_reader_parameters.specs.Sorts.{AreNamed, sort_of}
+use Rattle.annot_reader_words.specs.Shown.{Shows}
+use Rattle.annot_reader_functions.specs.declared.signature.Named.{Named}
+use Rattle.annot_reader_functions.specs.Sorts.{AreNamed, sort_of}
 
 module _ (structs : List Extent) (N : Nodes) (types : List CType) (ids : List DeclId) (tids : List TypeId) (ds : Decls) where
   -- the parameters that are left

@@ -12,13 +12,13 @@ use Rattle.annot_reader_rules.specs.Misplaced.{bare_annots, bare_parts, bare_res
 use Rattle.annot_reader_rules.specs.Functions.{bare_within}
 use Rattle.annot_reader_rules.specs.Notes.{Parameter}
 use Rattle.annot_reader_rules.specs.Regions.{Signature, parameter_notes}
-use Rattle.annot_reader_bare.specs.declared.error.AnnotationError.{AnnotationError}
-use Rattle.annot_reader_bare.specs.Answers.{Passes, Tells, Unsaid}
-use Rattle.annot_reader_bare.proofs.Composing.{assoc, follows, goes_on, same_tells, stops, stops_there}
+use Rattle.annot_reader_words.specs.declared.error.AnnotationError.{AnnotationError}
+use Rattle.annot_reader_words.specs.Answers.{Passes, Tells, Unsaid}
+use Rattle.annot_reader_words.proofs.Composing.{assoc, follows, goes_on, same_tells, stops, stops_there}
 use Rattle.annot_reader_words.specs.declared.notes.Param.{Param}
 use Rattle.annot_reader_words.specs.Steps.{bare_around}
-use Rattle.annot_reader_parameters.specs.Rules.{Declared, Extends, Names, Stays}
-use Rattle.annot_reader_parameters.specs.Sizing.{IsParameter}
+use Rattle.annot_reader_functions.specs.Rules.{Declared, Extends, Names, Stays}
+use Rattle.annot_reader_functions.specs.Sizing.{IsParameter}
 use Rattle.annot_reader_functions.specs.Parameters.{IsRead, StaysAround, one_parameter}
 
 -- what is declared, in an answer

@@ -1,9 +1,9 @@
 -- Steps that follow each other.
 use Rattle.std.proofs.Common.{◌≡◌, Result, Ok, refl, sym}
 use Rattle.c_types_rules.specs.Checked.{Checked, Fine, Large, Broken, large, ◌>>=◌, ◌>>◌}
-use Rattle.annot_reader_bare.specs.declared.error.AnnotationError.{AnnotationError}
-use Rattle.annot_reader_bare.specs.Answers.{Tells}
-use Rattle.annot_reader_bare.proofs.Composing.{large_once, large_tells}
+use Rattle.annot_reader_words.specs.declared.error.AnnotationError.{AnnotationError}
+use Rattle.annot_reader_words.specs.Answers.{Tells}
+use Rattle.annot_reader_words.proofs.Composing.{large_once, large_tells}
 
 pub large_then : {A B : Type 0} (c : Checked A) (f : A → Checked B) → (large c >>= f) ≡ large (c >>= f)
 large_then (Fine x) f = refl

@@ -12,10 +12,10 @@ use Rattle.annot_reader_rules.specs.Functions.{FunctionKind, all_noted, among, c
 use Rattle.annot_reader_rules.specs.Notes.{Notes, Parameter}
 use Rattle.annot_reader_rules.specs.Regions.{Signature, alone, key_parameter, one_item, size}
 use Rattle.stub_core.specs.declared.terms.Size.{Size}
-use Rattle.annot_reader_bare.specs.declared.error.AnnotationError.{AnnotationError}
-use Rattle.annot_reader_bare.specs.declared.error.AnnotationError.TheVariants.{Rule}
-use Rattle.annot_reader_bare.specs.Answers.{Tells}
-use Rattle.annot_reader_bare.proofs.Composing.{follows, stops}
+use Rattle.annot_reader_words.specs.declared.error.AnnotationError.{AnnotationError}
+use Rattle.annot_reader_words.specs.declared.error.AnnotationError.TheVariants.{Rule}
+use Rattle.annot_reader_words.specs.Answers.{Tells}
+use Rattle.annot_reader_words.proofs.Composing.{follows, stops}
 use Rattle.annot_reader_words.specs.Items.{MaybeStands}
 use Rattle.annot_reader_words.specs.Readings.{IsSame}
 use Rattle.annot_reader_words.specs.Words.{function_word}

@@ -2,3 +2,9 @@ pub mod Sayings
 pub mod Steps
 pub mod Parameters
 pub mod First
+pub mod Sorts
+pub mod Rules
+pub mod Marking
+pub mod Sizing
+pub mod TypeErrors
+pub mod Seen

@@ -19,8 +19,8 @@ use Rattle.annot_reader_rules.specs.Notes.{Parameter}
 use Rattle.annot_reader_rules.specs.Regions.{Signature, parameter_notes}
 use Rattle.annot_reader_words.specs.declared.notes.Param.{Param}
 use Rattle.annot_reader_words.specs.Readings.{parameters_in}
-use Rattle.annot_reader_parameters.specs.Rules.{Declared, Extends, Names}
-use Rattle.annot_reader_parameters.specs.Sizing.{IsParameter}
+use Rattle.annot_reader_functions.specs.Rules.{Declared, Extends, Names}
+use Rattle.annot_reader_functions.specs.Sizing.{IsParameter}
 
 -- items whose numbers types can represent
 abbrev pub AreItems : Nodes → List Item → Type 0

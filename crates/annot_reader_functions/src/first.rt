@@ -7,13 +7,14 @@ ghost use Rattle.c_types_table.specs.Tables.{all_at, at};
 ghost use Rattle.c_types_rules.specs.Environment.{inner};
 ghost use Rattle.annot_reader_rules.specs.Functions.{all_parameters as all_by_rules, function_notes as function_by_rules, within};
 ghost use Rattle.annot_reader_rules.specs.Regions.{Signature as Known};
-ghost use Rattle.annot_reader_bare.specs.Answers.{Passes, Tells};
-ghost use Rattle.annot_reader_words.specs.Places.{IsDecl};
-ghost use Rattle.annot_reader_parameters.specs.Rules.{IsTypeName, Stays};
-ghost use Rattle.annot_reader_parameters.specs.Sorts.{IsKnown};
+ghost use Rattle.annot_reader_words.specs.Answers.{Passes, Tells};
+ghost use Rattle.annot_reader_words.specs.Shown.{IsDecl};
+ghost use Rattle.annot_reader_functions.specs.Rules.{IsTypeName, Stays};
+ghost use Rattle.annot_reader_functions.specs.Sorts.{IsKnown};
 ghost use Rattle.annot_reader_functions.specs.First.{bare_outside as bare_outside_of, heading as heading_of};
 ghost use Rattle.annot_reader_functions.specs.Parameters.{AreDecls, AreRead, AreTypes};
 ghost use Rattle.annot_reader_functions.specs.Sayings.{AreSaid, IsNoted, kind_in};
+ghost use Rattle.annot_reader_functions.specs.Seen.{declared_by};
 
 use crate::finish::notes_of;
 use crate::kind::Prototype;
@@ -22,11 +23,13 @@ use crate::named::signature_of;
 use crate::notes::FunctionNotes;
 use crate::parameters::parameters;
 use crate::said::Said;
+use crate::signature::Signature;
 use crate::subject::Subject;
-use annot_reader_bare::{AnnotationError, bare_annots, bare_parts, bare_rest};
-use annot_reader_parameters::{Signature, TypeRules};
-use annot_reader_words::{Param, decl_node, split_parts};
+use annot_reader_words::{
+    AnnotationError, Param, bare_annots, bare_parts, bare_rest, decl_node, split_parts,
+};
 use c_syntax::{DeclId, Tree};
+use c_types_environment::Environment;
 use c_types_table::TypeId;
 use std::alloc::Global;
 
@@ -43,20 +46,20 @@ fn bare_outside(alloc: Global, tree: &Tree, id: DeclId) -> Result<(), Annotation
 }
 
 // What the annotations of the function itself say.
-fn heading<T: TypeRules>(
+fn heading(
     alloc: Global,
-    rules: &mut T,
+    env: &mut Environment,
     tree: &Tree,
     id: DeclId,
     subject: &Subject,
 ) -> Result<Said, AnnotationError>
     requires few { length subject.now.signature.now.params.items ≤ 256 }
     requires id { IsTypeName tree.now id }
-    ensures agrees { (d : Declaration) (s : Known) → StandsDecl tree.now id d → IsKnown subject.now.signature.now (T.declared rules.old).env s → Tells (AreSaid subject.now.cut.now) (heading_of s (kind_in subject.now.kind) d) result }
-    ensures kept { Stays (T.declared rules.old) (T.declared rules.new) }
+    ensures agrees { (d : Declaration) (s : Known) → StandsDecl tree.now id d → IsKnown subject.now.signature.now (declared_by env.old).env s → Tells (AreSaid subject.now.cut.now) (heading_of s (kind_in subject.now.kind) d) result }
+    ensures kept { Stays (declared_by env.old) (declared_by env.new) }
 {
     let decl = decl_node(tree, id);
-    let said = said_of(alloc, rules, tree, subject, decl.annots.as_slice())?;
+    let said = said_of(alloc, env, tree, subject, decl.annots.as_slice())?;
     if said.has_cuts && !said.holds.is_empty() {
         return Err(AnnotationError::Rule(decl.from, 8));
     }
@@ -64,9 +67,9 @@ fn heading<T: TypeRules>(
 }
 
 // What is said of the parameters, in a scope of their own.
-fn in_scope<T: TypeRules>(
+fn in_scope(
     alloc: Global,
-    rules: &mut T,
+    env: &mut Environment,
     tree: &Tree,
     signature: &Signature,
     ids: &[DeclId],
@@ -74,14 +77,14 @@ fn in_scope<T: TypeRules>(
 ) -> Result<Vec<Param>, AnnotationError>
     requires few { length signature.now.params.items ≤ 256 }
     requires ids { AreDecls tree.now ids.now }
-    requires types { AreTypes (T.declared rules.old) types.now }
+    requires types { AreTypes (declared_by env.old) types.now }
     requires count { length types.now ≤ 256 }
-    ensures agrees { (ds : Decls) (s : Known) → StandDecls tree.now ids.now ds → IsKnown signature.now (T.declared rules.old).env s → Tells (λ ps v. AreRead ps v.items) (all_by_rules ds (within s (inner s.env)) 0 (all_at (T.declared rules.old).types types.now)) result }
-    ensures kept { OnOk result (Stays (T.declared rules.old) (T.declared rules.new)) }
+    ensures agrees { (ds : Decls) (s : Known) → StandDecls tree.now ids.now ds → IsKnown signature.now (declared_by env.old).env s → Tells (λ ps v. AreRead ps v.items) (all_by_rules ds (within s (inner s.env)) 0 (all_at (declared_by env.old).types types.now)) result }
+    ensures kept { OnOk result (Stays (declared_by env.old) (declared_by env.new)) }
 {
-    rules.open_scope()?;
-    let params = parameters(alloc, rules, tree, signature, ids, types)?;
-    rules.close_scope();
+    env.open_scope()?;
+    let params = parameters(alloc, env, tree, signature, ids, types)?;
+    env.close_scope();
     Ok(params)
 }
 
@@ -89,31 +92,31 @@ fn in_scope<T: TypeRules>(
 ///
 /// `Rule` names the first rule of annotations that it breaks, with the offset of the node that breaks it; where a type name in its
 /// annotations breaks a rule of types, that. What is declared is as before, but not after an error.
-pub fn function_notes<T: TypeRules>(
+pub fn function_notes(
     alloc: Global,
-    rules: &mut T,
+    env: &mut Environment,
     tree: &Tree,
     id: DeclId,
     prototype: &Prototype,
     cut: &[u8],
 ) -> Result<FunctionNotes, AnnotationError>
     requires id { IsTypeName tree.now id }
-    requires result { prototype.now.result.0 < length (T.declared rules.old).types }
-    requires params { AreTypes (T.declared rules.old) prototype.now.params.now }
+    requires result { prototype.now.result.0 < length (declared_by env.old).types }
+    requires params { AreTypes (declared_by env.old) prototype.now.params.now }
     // A function has few parameters.
     requires count { length prototype.now.params.now ≤ 256 }
-    ensures agrees { (d : Declaration) → StandsDecl tree.now id d → Tells (IsNoted cut.now) (function_by_rules (T.declared rules.old).env (kind_in prototype.now.kind) d (at (T.declared rules.old).types prototype.now.result) (all_at (T.declared rules.old).types prototype.now.params.now)) result }
-    ensures kept { OnOk result (Stays (T.declared rules.old) (T.declared rules.new)) }
+    ensures agrees { (d : Declaration) → StandsDecl tree.now id d → Tells (IsNoted cut.now) (function_by_rules (declared_by env.old).env (kind_in prototype.now.kind) d (at (declared_by env.old).types prototype.now.result) (all_at (declared_by env.old).types prototype.now.params.now)) result }
+    ensures kept { OnOk result (Stays (declared_by env.old) (declared_by env.new)) }
 {
     bare_outside(alloc, tree, id)?;
     let (_, own) = split_parts(decl_node(tree, id).parts.as_slice());
-    let signature = signature_of(alloc, rules, tree, own, prototype)?;
+    let signature = signature_of(alloc, env, tree, own, prototype)?;
     let subject = Subject {
         signature: &signature,
         kind: prototype.kind,
         cut,
     };
-    let said = heading(alloc, rules, tree, id, &subject)?;
-    let params = in_scope(alloc, rules, tree, &signature, own, prototype.params)?;
+    let said = heading(alloc, env, tree, id, &subject)?;
+    let params = in_scope(alloc, env, tree, &signature, own, prototype.params)?;
     Ok(notes_of(alloc, said, params)?)
 }

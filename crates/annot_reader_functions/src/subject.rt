@@ -1,7 +1,7 @@
 //! What a list of annotations is read for.
 
 use crate::kind::FunctionKind;
-use annot_reader_parameters::Signature;
+use crate::signature::Signature;
 
 /// A function whose annotations are read, and the cut that is looked for.
 #[derive(Clone, Copy)]

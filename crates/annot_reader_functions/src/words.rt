@@ -8,19 +8,23 @@ ghost use Rattle.c_types_model.specs.declared.extent.Extent.{Extent};
 ghost use Rattle.annot_reader_rules.specs.Functions.{among, commit_word as commit_word_of, cut_word as cut_word_of, holds_word as holds_word_of, sync_word as sync_word_of};
 ghost use Rattle.annot_reader_rules.specs.Notes.{Notes};
 ghost use Rattle.annot_reader_rules.specs.Regions.{Signature as Known};
-ghost use Rattle.annot_reader_bare.specs.Answers.{Tells};
-ghost use Rattle.annot_reader_parameters.specs.Rules.{Stays};
-ghost use Rattle.annot_reader_parameters.specs.Sorts.{AreNamed, IsKnown};
+ghost use Rattle.annot_reader_words.specs.Answers.{Tells};
+ghost use Rattle.annot_reader_functions.specs.Rules.{Stays};
+ghost use Rattle.annot_reader_functions.specs.Sorts.{AreNamed, IsKnown};
 ghost use Rattle.annot_reader_functions.specs.Parameters.{AreItems};
 ghost use Rattle.annot_reader_functions.specs.Sayings.{AreSaid, IsSaid, kind_in};
 ghost use Rattle.annot_reader_functions.specs.Steps.{cache_word as cache_word_of};
+ghost use Rattle.annot_reader_functions.specs.Seen.{declared_by};
 
+use crate::keys::key_parameter;
 use crate::kind::FunctionKind;
+use crate::once::alone;
 use crate::said::Said;
-use annot_reader_bare::AnnotationError;
-use annot_reader_parameters::{Signature, TypeRules, alone, key_parameter, size};
-use annot_reader_words::{mutex, names_cut, one_item};
+use crate::signature::Signature;
+use crate::sizes::size;
+use annot_reader_words::{AnnotationError, mutex, names_cut, one_item};
 use c_syntax::{Annot, Tree};
+use c_types_environment::Environment;
 use std::alloc::AllocError;
 
 /// `cut`: the function is in the interface of the cuts that its items name.
@@ -75,8 +79,8 @@ pub(crate) fn sync_word(
 }
 
 /// `commit`: the call releases what was prepared under the value of a parameter.
-pub(crate) fn commit_word<T: TypeRules>(
-    rules: &mut T,
+pub(crate) fn commit_word(
+    env: &mut Environment,
     tree: &Tree,
     annot: &Annot,
     signature: &Signature,
@@ -84,8 +88,8 @@ pub(crate) fn commit_word<T: TypeRules>(
 ) -> Result<(), AnnotationError>
     requires few { length signature.now.params.items ≤ 256 }
     requires items { AreItems tree.now annot.now.items }
-    ensures agrees { (is : Items) (s : Known) (cut : List ℕ) (n : Notes) → StandItems tree.now annot.now.items is → IsKnown signature.now (T.declared rules.old).env s → IsSaid cut said.old n → Tells (λ m _. IsSaid cut said.new m) (commit_word_of annot.now.from is s n) result }
-    ensures kept { Stays (T.declared rules.old) (T.declared rules.new) }
+    ensures agrees { (is : Items) (s : Known) (cut : List ℕ) (n : Notes) → StandItems tree.now annot.now.items is → IsKnown signature.now (declared_by env.old).env s → IsSaid cut said.old n → Tells (λ m _. IsSaid cut said.new m) (commit_word_of annot.now.from is s n) result }
+    ensures kept { Stays (declared_by env.old) (declared_by env.new) }
 {
     let [key, used] = annot.items.as_slice() else {
         return Err(AnnotationError::Rule(annot.from, 1));
@@ -94,7 +98,7 @@ pub(crate) fn commit_word<T: TypeRules>(
         return Err(AnnotationError::Rule(annot.from, 2));
     }
     let key = key_parameter(signature, key)?;
-    let used = size(rules, tree, signature, true, used)?;
+    let used = size(env, tree, signature, true, used)?;
     said.commit = Some((key, used));
     Ok(())
 }

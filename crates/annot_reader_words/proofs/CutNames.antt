@@ -9,10 +9,10 @@ use Rattle.c_syntax.specs.Stands.{StandsItem, StandItems}
 use Rattle.c_types_rules.specs.Checked.{Checked, Fine, Large, Broken, ◌>>=◌}
 use Rattle.annot_reader_rules.specs.Cuts.{named}
 use Rattle.annot_reader_rules.specs.Functions.{names_in}
-use Rattle.annot_reader_bare.specs.declared.error.AnnotationError.{AnnotationError}
-use Rattle.annot_reader_bare.specs.declared.error.AnnotationError.TheVariants.{Rule, Memory}
-use Rattle.annot_reader_bare.specs.Answers.{Tells}
-use Rattle.annot_reader_bare.proofs.Composing.{memory}
+use Rattle.annot_reader_words.specs.declared.error.AnnotationError.{AnnotationError}
+use Rattle.annot_reader_words.specs.declared.error.AnnotationError.TheVariants.{Rule, Memory}
+use Rattle.annot_reader_words.specs.Answers.{Tells}
+use Rattle.annot_reader_words.proofs.Composing.{memory}
 use Rattle.annot_reader_words.specs.Readings.{NamesCut}
 use Rattle.annot_reader_words.specs.Steps.{name_in}
 

@@ -2,9 +2,9 @@
 use Rattle.std.proofs.Common.{◌≡◌, ℕ, ◌+◌, ◌<◌, ◌≤◌, List, [], ◌∷◌, length, get_or, drop, Result, Ok, Err, refl, ap, subst, add-one, drop-cons}
 use Rattle.std.proofs.Math.ListN.{drop_of_length-le}
 use Rattle.c_types_rules.specs.Checked.{Checked, Fine, Large, Broken, ◌>>=◌, large}
-use Rattle.annot_reader_bare.specs.declared.error.AnnotationError.{AnnotationError}
-use Rattle.annot_reader_bare.specs.Answers.{Tells}
-use Rattle.annot_reader_bare.proofs.Composing.{large_tells, stops}
+use Rattle.annot_reader_words.specs.declared.error.AnnotationError.{AnnotationError}
+use Rattle.annot_reader_words.specs.Answers.{Tells}
+use Rattle.annot_reader_words.proofs.Composing.{large_tells, stops}
 
 -- each stands for the one at its place
 abbrev pub AllStand : {V X : Type 0} → (V → X → Type 0) → List V → List X → Type 0

@@ -8,10 +8,10 @@ use Rattle.c_syntax.specs.Stands.{StandAnnots}
 use Rattle.c_types_rules.specs.Checked.{Checked, ◌>>◌}
 use Rattle.annot_reader_rules.specs.Misplaced.{bare_annots, bare_parts, bare_rest}
 use Rattle.annot_reader_rules.specs.Functions.{global_notes, guards}
-use Rattle.annot_reader_bare.specs.declared.error.AnnotationError.{AnnotationError}
-use Rattle.annot_reader_bare.specs.Answers.{Passes, Tells, Unsaid}
-use Rattle.annot_reader_bare.proofs.Composing.{assoc, goes_on, same_error, same_tells, stops_there, tells_too}
-use Rattle.annot_reader_words.specs.Places.{Shows}
+use Rattle.annot_reader_words.specs.declared.error.AnnotationError.{AnnotationError}
+use Rattle.annot_reader_words.specs.Answers.{Passes, Tells, Unsaid}
+use Rattle.annot_reader_words.proofs.Composing.{assoc, goes_on, same_error, same_tells, stops_there, tells_too}
+use Rattle.annot_reader_words.specs.Shown.{Shows}
 use Rattle.annot_reader_words.specs.Readings.{IsMutex, IsSame}
 use Rattle.annot_reader_words.specs.Steps.{bare_around}
 

@@ -10,11 +10,11 @@ use Rattle.c_syntax.specs.Stands.{StandAnnots, StandDecls, StandParts, StandsRes
 use Rattle.c_types_rules.specs.Checked.{◌>>◌}
 use Rattle.annot_reader_rules.specs.Misplaced.{bare_parts, bare_rest}
 use Rattle.annot_reader_rules.specs.Functions.{declared_later, none_again, nothing_again, own_parameters, result_parts}
-use Rattle.annot_reader_bare.specs.declared.error.AnnotationError.{AnnotationError}
-use Rattle.annot_reader_bare.specs.Answers.{Passes, Unsaid}
-use Rattle.annot_reader_bare.specs.Places.{AreDecls, AreParts}
-use Rattle.annot_reader_bare.proofs.Composing.{goes_on, stops_there}
-use Rattle.annot_reader_words.specs.Places.{IsShown, Shows}
+use Rattle.annot_reader_words.specs.declared.error.AnnotationError.{AnnotationError}
+use Rattle.annot_reader_words.specs.Answers.{Passes, Unsaid}
+use Rattle.annot_reader_words.specs.Places.{AreDecls, AreParts}
+use Rattle.annot_reader_words.proofs.Composing.{goes_on, stops_there}
+use Rattle.annot_reader_words.specs.Shown.{IsShown, Shows}
 
 -- what is found of the parts of a later declaration, one after another
 pub record Found (N : Nodes) (v : DeclNode) (annots : List Annot) (own : List DeclId) (outer : List Part) : Type 0 where

@@ -1,19 +1,21 @@
--- Which numbers stand for parts of a source, and what their nodes show of it.
-use Rattle.std.specs.Prelude.{◌≡◌}
+-- Where in a tree annotations are looked for: pieces of nodes that stand for parts of a source.
+use Rattle.std.specs.Prelude.{List}
 use Rattle.c_syntax.specs.declared.id.DeclId.{DeclId}
-use Rattle.c_syntax.specs.declared.declaration.Decl.{Decl as DeclNode}
+use Rattle.c_syntax.specs.declared.declaration.Annot.{Annot}
+use Rattle.c_syntax.specs.declared.declaration.Part.{Part}
+use Rattle.c_syntax.specs.declared.declaration.Rest.{Rest as After}
 use Rattle.c_syntax.specs.Nodes.{Nodes}
-use Rattle.c_syntax.specs.Syntax.{Decl, Declare}
-use Rattle.c_syntax.specs.Stands.{StandsDecl, StandAnnots, StandParts, StandsRest}
+use Rattle.c_syntax.specs.Syntax.{Decls, Annots, Parts, Rest}
+use Rattle.c_syntax.specs.Stands.{StandDecls, StandAnnots, StandParts, StandsRest}
 
--- the number stands for a declaration
-abbrev pub IsDecl : Nodes → DeclId → Type 0
-IsDecl N i = (d : Decl) × StandsDecl N i d
+abbrev pub AreDecls : Nodes → List DeclId → Type 0
+AreDecls N is = (ds : Decls) × StandDecls N is ds
 
--- the node is that of this declaration
-abbrev pub Shows : Nodes → DeclNode → Decl → Type 0
-Shows N v (Declare from an b ps n r) = (v.from ≡ from) × StandAnnots N v.annots an × (v.base ≡ b) × StandParts N v.parts ps × (v.name ≡ n) × StandsRest N v.rest r
+abbrev pub AreAnnots : Nodes → List Annot → Type 0
+AreAnnots N vs = (xs : Annots) × StandAnnots N vs xs
 
--- the node is that of a declaration
-abbrev pub IsShown : Nodes → DeclNode → Type 0
-IsShown N v = (d : Decl) × Shows N v d
+abbrev pub AreParts : Nodes → List Part → Type 0
+AreParts N vs = (ps : Parts) × StandParts N vs ps
+
+abbrev pub IsRest : Nodes → After → Type 0
+IsRest N v = (r : Rest) × StandsRest N v r

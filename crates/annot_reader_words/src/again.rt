@@ -5,15 +5,16 @@ ghost use Rattle.c_syntax.specs.Nodes.{Nodes};
 ghost use Rattle.c_syntax.specs.Stands.{StandAnnots, StandDecls, StandsDecl};
 ghost use Rattle.c_syntax.specs.Syntax.{Annots, Decl as Declared, Decls};
 ghost use Rattle.annot_reader_rules.specs.Functions.{declared_later as declared_later_of, none_again as none_again_of, nothing_again as nothing_again_of};
-ghost use Rattle.annot_reader_bare.specs.Answers.{Passes};
-ghost use Rattle.annot_reader_bare.specs.Places.{AreDecls, AreParts, IsRest};
-ghost use Rattle.annot_reader_words.specs.Places.{IsDecl};
+ghost use Rattle.annot_reader_words.specs.Answers.{Passes};
+ghost use Rattle.annot_reader_words.specs.Places.{AreDecls, AreParts, IsRest};
+ghost use Rattle.annot_reader_words.specs.Shown.{IsDecl};
 ghost use Rattle.annot_reader_words.specs.Steps.{again as again_of};
 
 use crate::around::bare_after;
-use crate::node::decl_node;
+use crate::declaration::decl_node;
+use crate::error::AnnotationError;
 use crate::parts::split_parts;
-use annot_reader_bare::{AnnotationError, bare_parts, bare_rest};
+use crate::places::{bare_parts, bare_rest};
 use c_syntax::{Annot, DeclId, Tree};
 use std::alloc::Global;
 

@@ -2,11 +2,12 @@
 
 ghost use Rattle.std.specs.Prelude.{◌≡◌};
 ghost use Rattle.c_syntax.specs.Syntax.{Decl as Declared};
-ghost use Rattle.annot_reader_bare.specs.Answers.{Passes};
-ghost use Rattle.annot_reader_words.specs.Places.{IsShown, Shows};
+ghost use Rattle.annot_reader_words.specs.Answers.{Passes};
+ghost use Rattle.annot_reader_words.specs.Shown.{IsShown, Shows};
 ghost use Rattle.annot_reader_words.specs.Steps.{bare_around as bare_around_of, bare_after as bare_after_of};
 
-use annot_reader_bare::{AnnotationError, bare_annots, bare_parts, bare_rest};
+use crate::error::AnnotationError;
+use crate::places::{bare_annots, bare_parts, bare_rest};
 use c_syntax::{Decl, Tree};
 use std::alloc::Global;
 

@@ -6,11 +6,11 @@ ghost use Rattle.c_syntax.specs.Stands.{StandItems, StandsItem};
 ghost use Rattle.c_syntax.specs.Syntax.{Item as Factors, Items};
 ghost use Rattle.c_scopes.specs.Scopes.{same_name};
 ghost use Rattle.annot_reader_rules.specs.Functions.{names_in};
-ghost use Rattle.annot_reader_bare.specs.Answers.{Tells};
+ghost use Rattle.annot_reader_words.specs.Answers.{Tells};
 ghost use Rattle.annot_reader_words.specs.Readings.{IsSame, NamesCut};
 ghost use Rattle.annot_reader_words.specs.Steps.{name_in};
 
-use annot_reader_bare::AnnotationError;
+use crate::error::AnnotationError;
 use c_lexer::Text;
 use c_syntax::{Atom, Item};
 

@@ -5,17 +5,17 @@ ghost use Rattle.c_syntax.specs.Nodes.{Nodes};
 ghost use Rattle.c_syntax.specs.Stands.{StandAnnots, StandsAnnot, StandsDecl};
 ghost use Rattle.c_syntax.specs.Syntax.{Annot as Annotated, Annots, Decl};
 ghost use Rattle.annot_reader_rules.specs.Functions.{global_notes as global_notes_of, guards as guards_of};
-ghost use Rattle.annot_reader_bare.specs.Answers.{Tells};
-ghost use Rattle.annot_reader_words.specs.Places.{IsDecl};
+ghost use Rattle.annot_reader_words.specs.Answers.{Tells};
+ghost use Rattle.annot_reader_words.specs.Shown.{IsDecl};
 ghost use Rattle.annot_reader_words.specs.Readings.{IsMutex, IsSame};
 ghost use Rattle.annot_reader_words.specs.Steps.{guard_step};
 
 use crate::around::bare_around;
+use crate::declaration::decl_node;
+use crate::error::AnnotationError;
 use crate::items::one_item;
 use crate::mutexes::mutex;
-use crate::node::decl_node;
 use crate::word::is_guarded_by;
-use annot_reader_bare::AnnotationError;
 use c_syntax::{Annot, DeclId, Tree};
 use std::alloc::Global;
 

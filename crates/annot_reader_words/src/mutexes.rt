@@ -5,10 +5,10 @@ ghost use Rattle.c_syntax.specs.Nodes.{Nodes};
 ghost use Rattle.c_syntax.specs.Stands.{StandsItem};
 ghost use Rattle.c_syntax.specs.Syntax.{Item as Factors};
 ghost use Rattle.annot_reader_rules.specs.Functions.{mutex as mutex_of};
-ghost use Rattle.annot_reader_bare.specs.Answers.{Tells};
+ghost use Rattle.annot_reader_words.specs.Answers.{Tells};
 ghost use Rattle.annot_reader_words.specs.Readings.{IsSame};
 
-use annot_reader_bare::AnnotationError;
+use crate::error::AnnotationError;
 use c_syntax::{Atom, Item};
 
 /// The mutex that an item is: a number in the range of int.

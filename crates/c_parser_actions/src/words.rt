@@ -4,9 +4,8 @@ ghost use Rattle.std.specs.Prelude.{◌≡◌, IfOk, Option, List, false};
 ghost use Rattle.c_parser_actions.specs.Words.{put_word, take_words, take_specs, skip_consts, step_of, Becomes, SpecsAre, WordsAre};
 ghost use Rattle.c_syntax.specs.TypeWords.{with_core, with_word, with_tag, base_of, no_words as no_words_yet, put_sign};
 
-use crate::parser::copy;
 use c_lexer::{Kind, Text, Token, Word};
-use c_syntax::{Base, Core, Signedness, Specifiers};
+use c_syntax::{Base, Core, SharedSeq, Signedness, Specifiers};
 use std::alloc::{AllocError, Global};
 
 /// What one more token does to the words of a type.
@@ -78,7 +77,8 @@ fn add_tag(alloc: Global, words: &mut Specifiers, tag: &Text) -> Result<bool, Al
 {
     match words.core {
         Core::Absent => {
-            words.core = Core::Struct(copy(alloc, tag)?);
+            let tag = Vec::from_slice(alloc, tag.as_slice())?;
+            words.core = Core::Struct(SharedSeq::from_vec(tag)?);
             Ok(true)
         }
         _ => Ok(false),

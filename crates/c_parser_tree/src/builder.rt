@@ -7,8 +7,8 @@ ghost use Rattle.c_parser_tree.specs.Seen.{nodes_seen, stack_seen};
 ghost use Rattle.c_parser_tree.specs.Stacks.{no_pieces};
 ghost use Rattle.c_parser_tree.specs.Nodes.{with_decl, with_stmt, with_expr, no_nodes};
 
-use crate::copy::{copy_annots, copy_base};
 use crate::piece::{Declarator, Pieces, Shared};
+use crate::share::share_base;
 use c_syntax::{Decl, DeclId, Expr, ExprId, ExprKind, Rest, Seq, Stmt, StmtId, StmtKind};
 use std::alloc::{AllocError, Global};
 
@@ -169,7 +169,7 @@ impl Builder {
         self.put_stmt_id(id)
     }
 
-    /// Puts back what a declaration's names share, and on top a new declaration with a copy of that.
+    /// Puts back what a declaration's names share, and on top a new declaration that has it too.
     pub fn put_decl(
         &mut self,
         declarator: Declarator,
@@ -178,8 +178,8 @@ impl Builder {
     ) -> Result<(), BuildError>
         ensures { Makes result self.old self.new (λ N. put_decl N declarator shared rest) }
     {
-        let annots = copy_annots(self.alloc, shared.annots.as_slice())?;
-        let base = copy_base(self.alloc, &shared.base)?;
+        let annots = shared.annots.share()?;
+        let base = share_base(&shared.base)?;
         self.put_shared(shared)?;
         let id = self.new_decl(Decl {
             from: declarator.from,

@@ -9,7 +9,7 @@ ghost use Rattle.c_parser_tree.specs.Seen.{nodes_seen, stack_seen};
 use crate::builder::{BuildError, Builder, empty, with_last};
 use crate::piece::{Declarator, Shared, Tag};
 use c_parser_actions::Action;
-use c_syntax::{Base, Decl, DeclId, Part, PartKind, Rest, Seq};
+use c_syntax::{Base, Decl, DeclId, Part, PartKind, Rest, Seq, SharedSeq};
 
 impl Builder {
     /// Gives the declarator on top one more part.
@@ -41,12 +41,12 @@ impl Builder {
         ensures stack { OnOk result (stack_seen self.new ≡ stack_seen self.old) }
         ensures memory { IfErr result (λ e. e ≡ BuildError.Memory) }
     {
-        let annots = empty(self.alloc);
+        let name = SharedSeq::from_vec(tag.name.into_vec())?;
         let parts = empty(self.alloc);
         self.new_decl(Decl {
             from: tag.from,
-            annots,
-            base: Base::Struct(tag.name),
+            annots: SharedSeq::empty(),
+            base: Base::Struct(name),
             parts,
             name: None,
             rest: Rest::Members(members),
@@ -89,7 +89,7 @@ impl Builder {
     {
         match action {
             Action::Specs(base) => {
-                let annots = self.pop_annots()?;
+                let annots = SharedSeq::from_vec(self.pop_annots()?.into_vec())?;
                 self.put_shared(Shared { annots, base })
             }
             Action::Declare => self.declare(Rest::None),

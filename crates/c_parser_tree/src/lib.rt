@@ -4,11 +4,11 @@
 mod annotation;
 mod builder;
 mod building;
-mod copy;
 mod declaration;
 mod expression;
 mod piece;
 mod puts;
+mod share;
 mod statement;
 mod takes;
 

@@ -5,7 +5,9 @@ ghost use Rattle.c_parser_tree.specs.Seen.{pieces_of};
 ghost use Rattle.c_parser_tree.specs.Stacks.{no_pieces};
 
 use c_lexer::Text;
-use c_syntax::{Annot, Atom, Base, DeclId, Entry, ExprId, First, Item, Part, Seq, StmtId, Value};
+use c_syntax::{
+    Annot, Atom, Base, DeclId, Entry, ExprId, First, Item, Part, Seq, SharedSeq, StmtId, Value,
+};
 use std::alloc::Global;
 
 /// A declarator and the offset of its name, or of its declaration. Its parts go from the nearest to the name
@@ -20,7 +22,7 @@ pub struct Declarator {
 /// What the names of a declaration share.
 #[derive(Drop)]
 pub struct Shared {
-    pub annots: Seq<Annot>,
+    pub annots: SharedSeq<Annot>,
     pub base: Base,
 }
 

@@ -2,6 +2,7 @@
 
 use crate::id::{DeclId, ExprId, StmtId};
 use crate::seq::Seq;
+use crate::shared::SharedSeq;
 use c_lexer::Text;
 
 /// The type that the words of a declaration make (C11 6.7.2).
@@ -10,7 +11,8 @@ pub enum Base {
     Void,
     /// An integer type of 1, 2, 4 or 8 bytes.
     Int { bytes: u8, signed: bool },
-    Struct(Text),
+    /// A struct, by its tag.
+    Struct(SharedSeq<u8>),
 }
 
 /// A factor of an annotation's item.
@@ -72,11 +74,11 @@ pub enum Rest {
 /// A declared name, a parameter, a member, a type name or a struct's definition (C11 6.7).
 ///
 /// `from` is the offset of its name, or of its first token where it has none. `parts` go from the part farthest from
-/// the name to the nearest. Names that share their specifiers each have the same `annots` and `base`.
+/// the name to the nearest. Names that share their specifiers share `annots` and the tag of `base`.
 #[derive(Drop)]
 pub struct Decl {
     pub from: u32,
-    pub annots: Seq<Annot>,
+    pub annots: SharedSeq<Annot>,
     pub base: Base,
     pub parts: Seq<Part>,
     pub name: Option<Text>,

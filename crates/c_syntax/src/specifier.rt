@@ -1,6 +1,6 @@
 // The words that stand before a declarator.
 
-use c_lexer::Text;
+use crate::shared::SharedSeq;
 
 /// The words of a type but `signed` and `unsigned`.
 #[derive(Drop)]
@@ -13,7 +13,7 @@ pub enum Core {
     Int,
     Long,
     LongInt,
-    Struct(Text),
+    Struct(SharedSeq<u8>),
 }
 
 /// Whether `signed` or `unsigned` stands among the words.

@@ -7,9 +7,8 @@ ghost use Rattle.c_types_environment.specs.Nodes.{type_of_tag};
 ghost use Rattle.c_types_environment.specs.States.{KeepsAll};
 
 use crate::environment::Environment;
-use c_lexer::Text;
 use c_syntax::Base;
-use c_types_table::{StructId, Ty, TypeId};
+use c_types_table::{StructId, Tag, Ty, TypeId};
 use r2_num::IntKind;
 use std::alloc::AllocError;
 
@@ -50,7 +49,7 @@ impl Environment {
         match self.tags.place_of(tag) {
             Some(number) => self.add_type(Ty::Struct(StructId(number))),
             None => {
-                let tag = Text::from_slice(self.alloc, tag)?;
+                let tag = Tag::from_slice(self.alloc, tag)?;
                 self.add_type(Ty::UndefinedStruct(tag))
             }
         }

@@ -1,4 +1,6 @@
 mod TypeLists
 pub mod Extents
-mod Weights
-mod Empties
+mod SameIds
+mod Alike
+mod Distinct
+mod Inserts

@@ -13,7 +13,7 @@ use Rattle.c_types_table.specs.declared.ty.Ty.TheVariants as nodes
 use Rattle.c_types_table.specs.Tables.{IsBelow, IsMadeOf, IsTable, at, all_at, made, types_after, types_of, type_at}
 
 -- the first list agrees with the second as far as it goes
-pub Extends : List CType → List CType → Type 0
+unfoldable pub Extends : List CType → List CType → Type 0
 Extends ts us = (k : ℕ) → k < length ts → get_or us k types.Void ≡ get_or ts k types.Void
 
 -- parts below the length of a list stand for the same in each that extends it
@@ -123,20 +123,8 @@ IsTable-push ns n h p k t e = by (slice_get_push ns n k t e)
     by (inr (a, b)) = let here : ℕ → Type 0 = λ l. IsMadeOf l t in let there : Ty → Type 0 = λ x. IsMadeOf (length ns) x in subst here (sym a) (subst there b p)
 
 -- what is read at a number
-pub got : (items now : List Ty) (i : TypeId) (n : Ty) → items ≡ now → IsTable items → i.0 < length now → n ≡ get_or items i.0 n → (made (types_of now) n ≡ type_at now i) × IsMadeOf i.0 n
-got items now i n same table lt e =
-    let within : i.0 < length items = let size = ap length same in omega arith in
-    let read : slice_get items i.0 ≡ Some n = slice_get-get_or items i.0 n within ∙ ap Some (sym e) in
+pub got : (items now : List Ty) (i : TypeId) (n : Ty) → items ≡ now → IsTable items → slice_get items i.0 ≡ Some n → (made (types_of now) n ≡ type_at now i) × IsMadeOf i.0 n
+got items now i n same table read =
     let meaning : made (types_of items) n ≡ type_at items i = made_in_table items i n table read in
     let claim : List Ty → Type 0 = λ ns. made (types_of ns) n ≡ type_at ns i in
     (subst claim same meaning, table i.0 n read)
-
--- what is put at the end
-pub put_added : (items now new : List Ty) (n : Ty) (i : TypeId) → items ≡ now → new ≡ items ++ n ∷ [] → i.0 ≡ length items → type_at new i ≡ made (types_of now) n
-put_added items now new n i same e place =
-    ap (λ ns. type_at ns i) e ∙ (type_at-push items n i place ∙ ap (λ ns. made (types_of ns) n) same)
-
-pub put_kept : (items now new : List Ty) (n : Ty) → items ≡ now → new ≡ items ++ n ∷ [] → (i : TypeId) → i.0 < length now → type_at new i ≡ type_at now i
-put_kept items now new n same e i lt =
-    let within : i.0 < length items = let size = ap length same in omega arith in
-    ap (λ ns. type_at ns i) e ∙ (type_at-kept items n i within ∙ ap (λ ns. type_at ns i) same)

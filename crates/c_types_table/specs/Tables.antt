@@ -25,6 +25,10 @@ IsMadeOf n (nodes.Function r ps) = IsBelow n r × All (IsBelow n) ps
 abbrev pub IsTable : List Ty → Type 0
 IsTable ns = (k : ℕ) (t : Ty) → slice_get ns k ≡ Some t → IsMadeOf k t
 
+-- no type stands twice
+abbrev pub AreDistinct : List Ty → Type 0
+AreDistinct ns = (i j : ℕ) (t : Ty) → slice_get ns i ≡ Some t → slice_get ns j ≡ Some t → i ≡ j
+
 -- the types of these numbers, where the numbers stand for `ts`
 abbrev pub at : List CType → TypeId → CType
 at ts t = slice_index_or ts t.0 types.Void

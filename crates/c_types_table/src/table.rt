@@ -9,25 +9,26 @@ ghost use Rattle.c_types_table.specs.Tables.{IsMadeOf, made, type_at, types_of};
 use crate::ids::TypeId;
 use crate::ty::Ty;
 use c_types_model::Extent;
+use indexmap::IndexSet;
 use std::alloc::{AllocError, Global};
 use std::marker::Model;
 
-/// Types that name each other by number, each after its parts.
+/// Types that name each other by number, each after its parts, and once.
 #[derive(Drop)]
 pub struct Types {
-    nodes: Vec<Ty>,
+    pub(crate) nodes: IndexSet<Ty>,
 }
 
 impl Model for Types {
     ghost use Rattle.std.specs.Prelude.{List};
     ghost use Rattle.c_types_table.specs.declared.ty.Ty.{Ty};
-    ghost use Rattle.c_types_table.specs.Tables.{IsTable};
+    ghost use Rattle.c_types_table.specs.Tables.{AreDistinct, IsTable};
 
     ghost Value = { List Ty };
 
-    ghost view = { λ t. t.nodes.items };
+    ghost view = { λ t. t.nodes.keys };
 
-    ghost invariant = { λ t. IsTable t.nodes.items };
+    ghost invariant = { λ t. IsTable t.nodes.keys × AreDistinct t.nodes.keys };
 }
 
 impl Types {
@@ -36,11 +37,12 @@ impl Types {
         ensures { length result ≡ 0 }
     {
         Types {
-            nodes: Vec::new(alloc),
+            nodes: IndexSet::new(alloc),
         }
     }
 
-    /// Puts a type into the table, whose parts are in it, and gives its number. Types keep their numbers.
+    /// Puts a type into the table, whose parts are in it, and gives its number: the one that it has, if it is there already. Types keep
+    /// their numbers.
     ///
     /// `AllocError` where there is no memory, or no number, for one more. The table is then as it was.
     pub fn add(&mut self, ty: Ty) -> Result<TypeId, AllocError>
@@ -51,9 +53,9 @@ impl Types {
         ensures grows { length self.old ≤ length self.new }
         ensures err { OnErr result (self.new ≡ self.old) }
     {
-        let number = u32::try_from(self.nodes.len()).map_err(|_| AllocError)?;
-        self.nodes.push(ty)?;
-        Ok(TypeId(number))
+        let _next = u32::try_from(self.nodes.len()).map_err(|_| AllocError)?;
+        let (number, _) = self.nodes.insert_full(ty)?;
+        Ok(TypeId(number as u32))
     }
 
     /// The type of this number. The numbers of its parts are lower.

@@ -1,14 +1,15 @@
 //! Types.
 
 use crate::ids::{StructId, TypeId, TypeIds};
-use c_lexer::Text;
+use crate::tag::Tag;
 use r2_num::IntKind;
 
 /// A type, with its parts by their numbers in a table (C11 6.2.5).
-#[derive(Drop)]
+#[derive(PartialEq, Eq, Drop)]
+#[derive_where(Hash)]
 pub enum Ty {
     Void,
-    Int(IntKind),
+    Int(#[derive_where(skip(Hash))] IntKind),
     /// A pointer, with its target.
     Pointer(TypeId),
     /// An array, with its element and its length.
@@ -16,6 +17,6 @@ pub enum Ty {
     /// A struct that the source defines.
     Struct(StructId),
     /// A struct that the source never defines, by its tag (C11 6.7.2.3, 6 and 8).
-    UndefinedStruct(Text),
+    UndefinedStruct(Tag),
     Function { result: TypeId, params: TypeIds },
 }

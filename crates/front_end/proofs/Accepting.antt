@@ -9,7 +9,7 @@ use Rattle.c_types_rules.specs.Limits.{Outcome}
 use Rattle.c_types_program.specs.Programs.{IsProgram}
 use Rattle.annot_reader_rules.specs.Cuts.{annotations}
 use Rattle.c_types.specs.declared.source.TypedSource.{TypedSource}
-use Rattle.annot_reader_cut.specs.Interfaces.{IsInterface}
+use Rattle.annot_reader.specs.Interfaces.{IsInterface}
 use Rattle.annot_reader.specs.Sources as readable
 use Rattle.front_end.specs.declared.source.CheckedSource.{CheckedSource}
 use Rattle.front_end.specs.Answers.{IsAccepted, IsCode, IsTyped, SaysOf}

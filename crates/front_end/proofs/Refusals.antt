@@ -23,10 +23,10 @@ use Rattle.c_types.specs.declared.error.Which.TheVariants as numbers
 use Rattle.c_types.specs.declared.source.TypedSource.{TypedSource}
 use Rattle.c_types.specs.Answers.{IsCheckedSource, which_in}
 use Rattle.c_types.specs.Sources.{IsTypedAs}
-use Rattle.annot_reader_cut.specs.declared.error.InterfaceError.{InterfaceError}
-use Rattle.annot_reader_cut.specs.declared.error.InterfaceError.TheVariants as reading
-use Rattle.annot_reader_cut.specs.Interface.{Interface}
-use Rattle.annot_reader_cut.specs.Interfaces.{IsInterface}
+use Rattle.annot_reader.specs.declared.error.InterfaceError.{InterfaceError}
+use Rattle.annot_reader.specs.declared.error.InterfaceError.TheVariants as reading
+use Rattle.annot_reader.specs.Interface.{Interface}
+use Rattle.annot_reader.specs.Interfaces.{IsInterface}
 use Rattle.front_end.specs.declared.error.SourceError.{SourceError}
 use Rattle.front_end.specs.declared.error.SourceError.TheVariants as errors
 use Rattle.front_end.specs.declared.error.SourceLimit.TheVariants.{Types}

@@ -19,8 +19,8 @@ use Rattle.annot_reader_rules.specs.Cuts.{annotations}
 use Rattle.c_types.specs.declared.source.TypedSource.{TypedSource}
 use Rattle.c_types.specs.Sources.{IsTypedAs}
 use Rattle.c_types.specs.Texts.{texts_among}
-use Rattle.annot_reader_cut.specs.Interface.{Interface}
-use Rattle.annot_reader_cut.specs.Interfaces.{IsInterface}
+use Rattle.annot_reader.specs.Interface.{Interface}
+use Rattle.annot_reader.specs.Interfaces.{IsInterface}
 use Rattle.front_end.specs.declared.error.SourceError.{SourceError}
 use Rattle.front_end.specs.declared.error.SourceError.TheVariants.{Memory}
 use Rattle.front_end.specs.declared.source.CheckedSource.{CheckedSource}

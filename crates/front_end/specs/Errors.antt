@@ -6,8 +6,8 @@ use Rattle.c_parser.specs.declared.parsing.ParseError.{ParseError}
 use Rattle.c_parser.specs.declared.parsing.ParseError.TheVariants as parsing
 use Rattle.c_types.specs.declared.error.CheckError.{CheckError}
 use Rattle.c_types.specs.declared.error.CheckError.TheVariants as typing
-use Rattle.annot_reader_cut.specs.declared.error.InterfaceError.{InterfaceError}
-use Rattle.annot_reader_cut.specs.declared.error.InterfaceError.TheVariants as reading
+use Rattle.annot_reader.specs.declared.error.InterfaceError.{InterfaceError}
+use Rattle.annot_reader.specs.declared.error.InterfaceError.TheVariants as reading
 use Rattle.front_end.specs.declared.error.SourceError.{SourceError}
 use Rattle.front_end.specs.declared.error.SourceError.TheVariants.{Fault, NoSuchCut, Limit, Memory}
 use Rattle.c_lower.specs.declared.error.LowerError.{LowerError}

@@ -4,7 +4,7 @@ ghost use Rattle.std.specs.Prelude.{◌≡◌};
 ghost use Rattle.front_end.specs.declared.error.SourceError.TheVariants.{Memory as NoMemory};
 ghost use Rattle.front_end.specs.Errors.{by_annotations, by_code, by_grammar, by_tokens, by_types, found};
 
-use annot_reader_cut::InterfaceError;
+use annot_reader::InterfaceError;
 use c_lexer::LexError;
 use c_lower::LowerError;
 use c_parser::ParseError;

@@ -13,8 +13,7 @@ ghost use Rattle.front_end.specs.Sources.{IsSource};
 
 use crate::code::code_of;
 use crate::error::SourceError;
-use annot_reader::interface_of;
-use annot_reader_cut::Iface;
+use annot_reader::{Iface, interface_of};
 use c_code::Code;
 use c_lexer::{Token, lex};
 use c_parser::parse;

@@ -2,7 +2,7 @@
 
 ghost use Rattle.std.specs.Prelude.{◌<◌, length};
 
-use annot_reader_cut::Iface;
+use annot_reader::Iface;
 use c_builtins::FIRST_SOURCE_FUNCTION;
 use c_code::{Bytes8, Place, Placed};
 use c_types_model::Extent;

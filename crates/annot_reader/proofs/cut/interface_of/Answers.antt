@@ -2,10 +2,10 @@ use Rattle.std.proofs.Common.{List, map, sym, subst}
 use Rattle.std.specs.List.{All}
 use Rattle.annot_reader_rules.specs.Cuts.{annotations}
 use Rattle.c_types_program.specs.Declarations.{function_in}
-use Rattle.annot_reader_cut.specs.declared.source.Heading.{Heading}
-use Rattle.annot_reader_cut.specs.Headings.{AreHeadings, IsHeading}
-use Rattle.annot_reader.specs.Seen.{declared_by}
-use Rattle.annot_reader.proofs.Staying.{kept_there}
+use Rattle.annot_reader.specs.declared.source.Heading.{Heading}
+use Rattle.annot_reader.specs.Headings.{AreHeadings, IsHeading}
+use Rattle.annot_reader_functions.specs.Seen.{declared_by}
+use Rattle.annot_reader_functions.proofs.Staying.{kept_there}
 use Rattle.annot_reader.proofs.Typed.{all_typed, is_typed, raised_rule}
 use Rattle.annot_reader.proofs.cut.interface_of.Goals as goal
 

@@ -2,7 +2,7 @@ use Rattle.std.proofs.Common.{◌≡◌, List, ap, ◌∙◌, subst}
 use Rattle.c_types_table.specs.declared.ty.Ty.{Ty}
 use Rattle.c_types_table.specs.Tables.{made, type_at, types_of}
 use Rattle.c_types_nodes.specs.Tables.{Table}
-use Rattle.annot_reader_cut.specs.declared.source.Heading.{Heading}
+use Rattle.annot_reader.specs.declared.source.Heading.{Heading}
 use Rattle.annot_reader.proofs.Headings.{heading_number}
 use Rattle.annot_reader.proofs.functions.heading.Goals as goal
 

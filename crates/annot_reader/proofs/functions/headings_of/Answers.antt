@@ -3,9 +3,9 @@ use Rattle.std.specs.List.{All}
 use Rattle.c_types_rules.specs.Sources.{Function as Known}
 use Rattle.c_types_program.specs.declared.function.Function.{Function}
 use Rattle.c_types_program.specs.Declarations.{function_in}
-use Rattle.annot_reader_cut.specs.declared.source.Heading.{Heading}
-use Rattle.annot_reader_cut.specs.Headings.{AreHeadings, IsHeading, IsHeadingOf}
-use Rattle.annot_reader.specs.Seen.{declared_by}
+use Rattle.annot_reader.specs.declared.source.Heading.{Heading}
+use Rattle.annot_reader.specs.Headings.{AreHeadings, IsHeading, IsHeadingOf}
+use Rattle.annot_reader_functions.specs.Seen.{declared_by}
 use Rattle.annot_reader.proofs.Headings.{all_push, headings_after, map_more}
 use Rattle.annot_reader.proofs.functions.headings_of.Goals as goal
 

@@ -4,8 +4,8 @@ use Rattle.c_syntax.specs.Syntax.{Declare}
 use Rattle.c_types_rules.specs.Checked.{◌>>◌}
 use Rattle.annot_reader_rules.specs.Misplaced.{bare_annots, bare_parts, bare_rest}
 use Rattle.annot_reader_rules.specs.Functions.{result_parts}
-use Rattle.annot_reader_bare.specs.Answers.{Unsaid}
-use Rattle.annot_reader_bare.proofs.Composing.{goes_on, raised, stops_there}
+use Rattle.annot_reader_words.specs.Answers.{Unsaid}
+use Rattle.annot_reader_words.proofs.Composing.{goes_on, raised, stops_there}
 use Rattle.annot_reader_functions.proofs.first.bare_outside.Goals as goal
 
 pub returns-in_err-bare_parts : goal.returns-in_err-bare_parts

@@ -3,10 +3,10 @@ use Rattle.c_syntax.specs.declared.declaration.Annot.{Annot}
 use Rattle.c_syntax.specs.Stands.{StandsAnnot}
 use Rattle.annot_reader_rules.specs.Functions.{all_noted, nothing}
 use Rattle.annot_reader_rules.specs.Notes.{Notes}
-use Rattle.annot_reader_bare.proofs.Composing.{raised, same_tells}
+use Rattle.annot_reader_words.proofs.Composing.{raised, same_tells}
 use Rattle.annot_reader_words.proofs.Folding.{at_end, at_first, broken_next, fold, past_next}
 use Rattle.annot_reader_words.proofs.Lists.{annots_in, annots_stand}
-use Rattle.annot_reader_parameters.proofs.Saying.{known_stays, stays_here, stays_through}
+use Rattle.annot_reader_functions.proofs.Saying.{known_stays, stays_here, stays_through}
 use Rattle.annot_reader_functions.specs.Parameters.{AreItems}
 use Rattle.annot_reader_functions.specs.Sayings.{AreSaid, IsSaid, kind_in}
 use Rattle.annot_reader_functions.specs.Steps.{noted_step}
@@ -15,7 +15,7 @@ use Rattle.annot_reader_functions.proofs.Wording.{noted_fold}
 use Rattle.annot_reader_functions.proofs.list.said_of.Goals as goal
 
 pub loop-annot-init : goal.loop-annot-init
-loop-annot-init g c = (
+loop-annot-init c = (
   stays_here _,
   λ an s h k.
       let step = noted_step s (kind_in c.args.subject.now.kind) in
@@ -24,11 +24,11 @@ loop-annot-init g c = (
 )
 
 pub note-requires-clause-items : goal.note-requires-clause-items
-note-requires-clause-items g c =
+note-requires-clause-items c =
     subst (λ (v : Annot). AreItems c.args.tree.now v.items) (sym c.annot-item.is) (items_at c.args.tree.now c.args.annots.now c.loop-annot.annot-index c.annot-item.result c.requires.annots (omega arith))
 
 pub loop-annot-preserved : goal.loop-annot-preserved
-loop-annot-preserved g c = (
+loop-annot-preserved c = (
   stays_through _ _ _ c.loop-annot.invariant.0 c.in_ok-note.ensures.kept,
   λ an s h k.
       let N = c.args.tree.now in
@@ -41,7 +41,7 @@ loop-annot-preserved g c = (
 )
 
 pub returns-in_err-note-clause-agrees : goal.returns-in_err-note-clause-agrees
-returns-in_err-note-clause-agrees g c = λ an s h k.
+returns-in_err-note-clause-agrees c = λ an s h k.
     let N = c.args.tree.now in
     let kind = kind_in c.args.subject.now.kind in
     let step = noted_step s kind in
@@ -56,10 +56,10 @@ returns-in_err-note-clause-agrees g c = λ an s h k.
     (λ x t. c.in_err-note.ensures.agrees x s i.0 (subst (λ (v : Annot). StandsAnnot N v x) (sym c.annot-item.is) t) (known_stays _ _ _ s c.loop-annot.invariant.0.env k) i.1)))
 
 pub returns-in_err-note-clause-kept : goal.returns-in_err-note-clause-kept
-returns-in_err-note-clause-kept g c = stays_through _ _ _ c.loop-annot.invariant.0 c.in_err-note.ensures.kept
+returns-in_err-note-clause-kept c = stays_through _ _ _ c.loop-annot.invariant.0 c.in_err-note.ensures.kept
 
 pub returns-clause-agrees : goal.returns-clause-agrees
-returns-clause-agrees g c = λ an s h k.
+returns-clause-agrees c = λ an s h k.
     let N = c.args.tree.now in
     let kind = kind_in c.args.subject.now.kind in
     let step = noted_step s kind in
@@ -70,4 +70,4 @@ returns-clause-agrees g c = λ an s h k.
     (at_end (StandsAnnot N) step js js c.args.annots.now c.loop-annot.annot-index i.0 all c.loop-annot.said (omega arith) i.2 i.1)
 
 pub returns-clause-kept : goal.returns-clause-kept
-returns-clause-kept g c = c.loop-annot.invariant.0
+returns-clause-kept c = c.loop-annot.invariant.0

@@ -6,15 +6,16 @@ use Rattle.annot_reader_rules.specs.Notes.{Notes}
 use Rattle.annot_reader_rules.specs.Regions.{Signature}
 use Rattle.annot_reader_words.proofs.Folding.{Decides, fold}
 use Rattle.annot_reader_words.proofs.Lists.{annots_in}
-use Rattle.annot_reader_parameters.specs.Rules.{Stays}
-use Rattle.annot_reader_parameters.specs.Sorts.{IsKnown}
+use Rattle.annot_reader_functions.specs.Rules.{Stays}
+use Rattle.annot_reader_functions.specs.Sorts.{IsKnown}
 use Rattle.annot_reader_functions.specs.Sayings.{AreSaid, IsSaid, kind_in}
 use Rattle.annot_reader_functions.specs.Steps.{noted_step}
+use Rattle.annot_reader_functions.specs.Seen.{declared_by}
 use Rattle.annot_reader_functions.proofs.list.said_of.Given as goal
 
 -- what is declared stays, and the annotations that are left decide
 abbrev pub invariant-loop-annot : goal.invariant-loop-annot
-invariant-loop-annot g l =
-    Stays (g.T.TypeRules.declared l.fn.rules) (g.T.TypeRules.declared l.rules) ×
-    ((an : Annots) (s : Signature) → StandAnnots l.tree l.annots an → IsKnown l.subject.signature.now (g.T.TypeRules.declared l.fn.rules).env s →
+invariant-loop-annot l =
+    Stays (declared_by l.fn.env) (declared_by l.env) ×
+    ((an : Annots) (s : Signature) → StandAnnots l.tree l.annots an → IsKnown l.subject.signature.now (declared_by l.fn.env).env s →
     (n : Notes) × IsSaid l.subject.cut.now l.said n × Decides (StandsAnnot l.tree) (noted_step s (kind_in l.subject.kind)) (AreSaid l.subject.cut.now) (drop l.annot-index l.annots) n (fold (noted_step s (kind_in l.subject.kind)) (annots_in an) nothing))

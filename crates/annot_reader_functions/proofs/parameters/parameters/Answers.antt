@@ -2,35 +2,36 @@ use Rattle.std.proofs.Common.{◌+◌, List, Ok, Err, sym, subst, arith}
 use Rattle.c_syntax.specs.declared.id.DeclId.{DeclId}
 use Rattle.c_types_table.specs.Tables.{all_at}
 use Rattle.annot_reader_rules.specs.Functions.{all_parameters}
-use Rattle.annot_reader_bare.proofs.Composing.{raised}
+use Rattle.annot_reader_words.proofs.Composing.{raised}
 use Rattle.annot_reader_words.specs.declared.notes.Param.{Param}
 use Rattle.annot_reader_functions.proofs.Around.{around_here, around_through, type_kept, typed_kept}
 use Rattle.annot_reader_functions.proofs.Listing.{AreIn, Left, at_end, at_first, broken_next, decl_at, no_types, past_next}
+use Rattle.annot_reader_functions.specs.Seen.{declared_by}
 use Rattle.annot_reader_functions.proofs.parameters.parameters.Goals as goal
 
 abbrev none : DeclId
 none = record { 0 = 0 }
 
 pub loop-place-init : goal.loop-place-init
-loop-place-init g c =
-    let before = g.T.TypeRules.declared c.args.rules.now in (
+loop-place-init c =
+    let before = declared_by c.args.env.now in (
       around_here before,
       λ ds s h k. subst (λ (done : List Param). Left c.args.tree.now c.args.signature.now before.types c.args.ids.now c.args.types.now 0 before.env done (all_parameters ds s 0 (all_at before.types c.args.types.now))) (sym c.new-params.ensures.items)
           (at_first c.args.tree.now c.args.signature.now before.types c.args.ids.now c.args.types.now before.env ds s h k),
     )
 
 pub parameter-requires-clause-id : goal.parameter-requires-clause-id
-parameter-requires-clause-id g c =
+parameter-requires-clause-id c =
     decl_at c.args.tree.now c.args.ids.now c.loop-place.place none c.requires.ids (omega arith)
 
 pub parameter-requires-clause-ty : goal.parameter-requires-clause-ty
-parameter-requires-clause-ty g c = typed_kept _ _ c.args.types.now c.loop-place.place c.in-Some.ty c.loop-place.invariant.0 c.requires.types (sym c.in-Some.ensures)
+parameter-requires-clause-ty c = typed_kept _ _ c.args.types.now c.loop-place.place c.in-Some.ty c.loop-place.invariant.0 c.requires.types (sym c.in-Some.ensures)
 
 pub loop-place-preserved : goal.loop-place-preserved
-loop-place-preserved g c =
-    let before = g.T.TypeRules.declared c.args.rules.now in
-    let now = g.T.TypeRules.declared c.loop-place.rules in
-    let after = g.T.TypeRules.declared c.parameter.new.rules in
+loop-place-preserved c =
+    let before = declared_by c.args.env.now in
+    let now = declared_by c.loop-place.env in
+    let after = declared_by c.parameter.new.env in
     let N = c.args.tree.now in (
       around_through before now after c.loop-place.invariant.0 c.in_ok-param.ensures.around,
       λ ds s h k.
@@ -41,16 +42,16 @@ loop-place-preserved g c =
     )
 
 pub returns-in_default-clause-agrees : goal.returns-in_default-clause-agrees
-returns-in_default-clause-agrees g c = λ ds s h k.
-    let before = g.T.TypeRules.declared c.args.rules.now in
-    let now = g.T.TypeRules.declared c.loop-place.rules in
+returns-in_default-clause-agrees c = λ ds s h k.
+    let before = declared_by c.args.env.now in
+    let now = declared_by c.loop-place.env in
     no_types c.args.tree.now c.args.signature.now before.types c.args.ids.now c.args.types.now c.loop-place.place now.env c.loop-place.params _ (sym c.in_default.ensures) (c.loop-place.invariant.1 ds s h k)
 
 pub returns-in_err-param-clause-agrees : goal.returns-in_err-param-clause-agrees
-returns-in_err-param-clause-agrees g c = λ ds s h k.
-    let before = g.T.TypeRules.declared c.args.rules.now in
-    let now = g.T.TypeRules.declared c.loop-place.rules in
-    let after = g.T.TypeRules.declared c.parameter.new.rules in
+returns-in_err-param-clause-agrees c = λ ds s h k.
+    let before = declared_by c.args.env.now in
+    let now = declared_by c.loop-place.env in
+    let after = declared_by c.parameter.new.env in
     let N = c.args.tree.now in
     let e = c.in_err-param.field-0.0 in
     let all = all_parameters ds s 0 (all_at before.types c.args.types.now) in
@@ -59,7 +60,7 @@ returns-in_err-param-clause-agrees g c = λ ds s h k.
     (λ d t x y. type_kept before now c.args.types.now c.loop-place.place c.in-Some.ty c.loop-place.invariant.0 c.requires.types (sym c.in-Some.ensures) N d t c.loop-place.place after (Err e) (c.in_err-param.ensures.agrees d t x y)))
 
 pub returns-clause-agrees : goal.returns-clause-agrees
-returns-clause-agrees g c = λ ds s h k.
-    let before = g.T.TypeRules.declared c.args.rules.now in
-    let now = g.T.TypeRules.declared c.loop-place.rules in
+returns-clause-agrees c = λ ds s h k.
+    let before = declared_by c.args.env.now in
+    let now = declared_by c.loop-place.env in
     at_end c.args.tree.now c.args.signature.now before.types c.args.ids.now c.args.types.now c.loop-place.place now.env c.loop-place.params _ (omega arith) (c.loop-place.invariant.1 ds s h k)

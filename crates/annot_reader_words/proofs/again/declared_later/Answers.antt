@@ -1,8 +1,8 @@
 use Rattle.std.proofs.Common.{sym, subst}
 use Rattle.c_syntax.specs.Stands.{StandParts}
 use Rattle.annot_reader_rules.specs.Functions.{declared_later}
-use Rattle.annot_reader_bare.specs.Answers.{Unsaid}
-use Rattle.annot_reader_bare.proofs.Composing.{raised}
+use Rattle.annot_reader_words.specs.Answers.{Unsaid}
+use Rattle.annot_reader_words.proofs.Composing.{raised}
 use Rattle.annot_reader_words.proofs.Later.{Found, in_outer, in_rest}
 use Rattle.annot_reader_words.proofs.again.declared_later.Goals as goal
 

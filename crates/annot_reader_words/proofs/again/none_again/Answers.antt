@@ -2,8 +2,8 @@ use Rattle.std.proofs.Common.{Ok, Err, arith}
 use Rattle.c_syntax.specs.declared.id.DeclId.{DeclId}
 use Rattle.c_syntax.specs.Stands.{StandsDecl}
 use Rattle.annot_reader_rules.specs.Functions.{none_again}
-use Rattle.annot_reader_bare.specs.Answers.{Unsaid}
-use Rattle.annot_reader_bare.proofs.Composing.{raised, same_tells}
+use Rattle.annot_reader_words.specs.Answers.{Unsaid}
+use Rattle.annot_reader_words.proofs.Composing.{raised, same_tells}
 use Rattle.annot_reader_words.proofs.Folding.{at_end, at_first, broken_next, fold, past_next, stands_next}
 use Rattle.annot_reader_words.proofs.Folds.{again_fold, again_step}
 use Rattle.annot_reader_words.proofs.Lists.{decls_in, decls_stand}

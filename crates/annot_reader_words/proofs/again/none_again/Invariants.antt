@@ -1,7 +1,7 @@
 use Rattle.std.proofs.Common.{drop}
 use Rattle.c_syntax.specs.Syntax.{Decls}
 use Rattle.c_syntax.specs.Stands.{StandDecls, StandsDecl}
-use Rattle.annot_reader_bare.specs.Answers.{Unsaid}
+use Rattle.annot_reader_words.specs.Answers.{Unsaid}
 use Rattle.annot_reader_words.proofs.Folding.{Decides, fold}
 use Rattle.annot_reader_words.proofs.Folds.{again_step}
 use Rattle.annot_reader_words.proofs.Lists.{decls_in}

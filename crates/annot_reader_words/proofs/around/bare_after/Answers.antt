@@ -3,9 +3,9 @@ use Rattle.c_syntax.specs.Stands.{StandParts}
 use Rattle.c_syntax.specs.Syntax.{Declare}
 use Rattle.c_types_rules.specs.Checked.{◌>>◌}
 use Rattle.annot_reader_rules.specs.Misplaced.{bare_parts, bare_rest}
-use Rattle.annot_reader_bare.specs.Answers.{Unsaid}
-use Rattle.annot_reader_bare.proofs.Composing.{goes_on, raised, stops_there}
-use Rattle.annot_reader_words.proofs.Shown.{shown_parts, shown_rest}
+use Rattle.annot_reader_words.specs.Answers.{Unsaid}
+use Rattle.annot_reader_words.proofs.Composing.{goes_on, raised, stops_there}
+use Rattle.annot_reader_words.proofs.Showing.{shown_parts, shown_rest}
 use Rattle.annot_reader_words.proofs.around.bare_after.Goals as goal
 
 pub bare_parts-requires : goal.bare_parts-requires

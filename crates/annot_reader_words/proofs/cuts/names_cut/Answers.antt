@@ -2,7 +2,7 @@ use Rattle.std.proofs.Common.{◌≡◌, ◌+◌, ◌||◌, drop, sym, subst, ar
 use Rattle.c_syntax.specs.declared.declaration.Item.{Item}
 use Rattle.c_syntax.specs.Stands.{StandsItem}
 use Rattle.annot_reader_rules.specs.Functions.{names_in}
-use Rattle.annot_reader_bare.proofs.Composing.{raised}
+use Rattle.annot_reader_words.proofs.Composing.{raised}
 use Rattle.annot_reader_words.specs.Readings.{NamesCut}
 use Rattle.annot_reader_words.proofs.CutNames.{Left, at_end, at_first, broken_next, found_before, found_here, past_next}
 use Rattle.annot_reader_words.proofs.cuts.names_cut.Goals as goal

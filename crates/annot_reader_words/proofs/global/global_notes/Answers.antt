@@ -1,7 +1,7 @@
 use Rattle.std.proofs.Common.{sym, subst}
 use Rattle.c_syntax.specs.Stands.{StandAnnots}
 use Rattle.annot_reader_rules.specs.Functions.{global_notes}
-use Rattle.annot_reader_bare.proofs.Composing.{raised}
+use Rattle.annot_reader_words.proofs.Composing.{raised}
 use Rattle.annot_reader_words.specs.Readings.{IsMutex}
 use Rattle.annot_reader_words.proofs.Globals.{broken_around, broken_word, guarded}
 use Rattle.annot_reader_words.proofs.global.global_notes.Goals as goal

@@ -1,7 +1,7 @@
 use Rattle.std.proofs.Common.{None, Ok, Err, refl, sym, subst, arith}
 use Rattle.c_syntax.specs.declared.declaration.Annot.{Annot}
 use Rattle.c_syntax.specs.Stands.{StandsAnnot}
-use Rattle.annot_reader_bare.proofs.Composing.{raised, same_tells}
+use Rattle.annot_reader_words.proofs.Composing.{raised, same_tells}
 use Rattle.annot_reader_words.specs.Readings.{IsSame}
 use Rattle.annot_reader_words.specs.Steps.{guard_step}
 use Rattle.annot_reader_words.proofs.Folding.{at_end, at_first, broken_next, fold}

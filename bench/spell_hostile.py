@@ -1,0 +1,124 @@
+#!/usr/bin/env python3
+"""Spells C sources for bench/check.sh whose parts stand for one another many times: `spell_hostile.py KIND BYTES SOURCE` writes one of
+at most about that many bytes. The kinds are the functions of KINDS, each of which says what is many. `spell_hostile.py` alone prints
+their names."""
+import sys
+
+END = "int main(void) { return 0; }\n"
+# A source has 1,000 functions at most, main among them.
+FUNCTIONS = 990
+
+
+def names(budget, spell):
+    """As many names of the form `x0`, spelled by `spell` and with commas between them, as there are bytes for."""
+    parts, length = [], 0
+    while True:
+        part = spell(f"x{len(parts)}")
+        length += len(part) + 1
+        if length > budget:
+            return ",".join(parts)
+        parts.append(part)
+
+
+def words(budget, word):
+    """The word as often as there are bytes for, with commas between."""
+    return ",".join([word] * (budget // (len(word) + 1)))
+
+
+def tag(size):
+    return "t" * size
+
+
+def words_before_globals(size):
+    """Words of annotations, all wrong, before names of globals."""
+    return f"[{words(size // 2, 'a')}] int {names(size // 2, str)};\n" + END
+
+
+def words_before_one_name_again(size):
+    """The same before one name again and again, which breaks a rule of types."""
+    return f"[{words(size // 2, 'a')}] int {words(size // 2, 'a')};\n" + END
+
+
+def sizes_before_globals(size):
+    """Type names in annotations before names of globals."""
+    return f"[{words(size // 2, 'a(sizeof(int *))')}] int {names(size // 2, str)};\n" + END
+
+
+def mutexes_before_functions(size):
+    """Mutexes that functions hold, all different, before names of functions, each of which has a body."""
+    count = min(FUNCTIONS, size // 120)
+    lists = ",".join(f"holds({mutex})" for mutex in range((size - 60 * count) // 14))
+    declared = ",".join(f"x{number}(void)" for number in range(count))
+    bodies = "\n".join(f"void x{number}(void) {{ }}" for number in range(count))
+    return f"[{lists}] void {declared};\n{bodies}\n[cut(top)] int outside(void);\n" + END
+
+
+def cuts_before_functions(size):
+    """Names of cuts before names of functions."""
+    count = min(FUNCTIONS, size // 60)
+    lists = ",".join(["top"] + [f"c{number}" for number in range((size - 20 * count) // 8)])
+    declared = ",".join(f"x{number}(void)" for number in range(count))
+    return f"[cut({lists})] void {declared};\n" + END
+
+
+def long_tag_of_globals(size):
+    """A long tag that is never defined, before names of pointers."""
+    return f"struct {tag(size // 3)} {names(2 * size // 3, lambda name: '*' + name)};\n[cut(top)] int outside(void);\n" + END
+
+
+def long_tag_of_structs(size):
+    """A long tag of a struct that is defined, before names of globals."""
+    word = tag(size // 4)
+    return f"struct {word} {{ char c; }};\nstruct {word} {names(size // 2, str)};\n[cut(top)] int outside(void);\n" + END
+
+
+def long_tag_of_locals(size):
+    """A long tag before names of locals."""
+    body = f"struct {tag(size // 3)} {names(min(2 * size // 3, 20000), lambda name: '*' + name)};"
+    return f"[cut(top)] int outside(void);\nint main(void) {{ {body} return 0; }}\n"
+
+
+def two_long_lists(size):
+    """Two function types with as many parameters as there are bytes for."""
+    params = words(size // 2 - 50, "int")
+    return f"int (*x)({params});\nint (*y)({params});\n[cut(top)] int outside(void);\nint main(void) {{ x = y; return 0; }}\n"
+
+
+def long_lists_compared(size):
+    """Two function types with many parameters, compared again and again."""
+    params = words(size // 10, "int")
+    uses = "x=y;" * min(size // 5, 30000)
+    return f"int (*x)({params});\nint (*y)({params});\n[cut(top)] int outside(void);\nint main(void) {{ {uses} return 0; }}\n"
+
+
+def long_lists_declared_again(size):
+    """A function with many parameters, declared again and again in lists of names that share nothing but a type."""
+    params = words(size // 20, "int")
+    return f"int f({params});\n" * 18 + END
+
+
+KINDS = [
+    words_before_globals,
+    words_before_one_name_again,
+    sizes_before_globals,
+    mutexes_before_functions,
+    cuts_before_functions,
+    long_tag_of_globals,
+    long_tag_of_structs,
+    long_tag_of_locals,
+    two_long_lists,
+    long_lists_compared,
+    long_lists_declared_again,
+]
+
+
+def main():
+    if len(sys.argv) == 1:
+        print("\n".join(kind.__name__ for kind in KINDS))
+        return
+    kind, size, path = sys.argv[1], int(sys.argv[2]), sys.argv[3]
+    with open(path, "w") as file:
+        file.write({known.__name__: known for known in KINDS}[kind](size))
+
+
+main()

@@ -1,4 +1,0 @@
-pub mod Held
-pub mod Answers
-pub mod Sayings
-pub mod Places

@@ -1,6 +1,0 @@
-mod Listed
-mod Headed
-mod Noting
-mod Meant
-mod Finding
-mod Saying

@@ -1,7 +1,0 @@
-use Rattle.std.proofs.Common.{◌≡◌, map, take}
-use Rattle.annot_reader_cut.specs.Builtins.{builtin_note, builtins_by_number}
-use Rattle.annot_reader_cut.proofs.builtins.builtin_notes.Given as goal
-
--- the builtins before this place are there
-abbrev pub invariant-loop-builtin : goal.invariant-loop-builtin
-invariant-loop-builtin l = l.all.items ≡ map builtin_note (take l.builtin-index builtins_by_number)

@@ -1,5 +1,0 @@
-pub mod Marking
-mod Fitting
-mod Sorting
-mod Factors
-pub mod Saying

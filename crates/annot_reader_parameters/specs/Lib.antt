@@ -1,4 +1,0 @@
-pub mod Sorts
-pub mod Rules
-pub mod Marking
-pub mod Sizing

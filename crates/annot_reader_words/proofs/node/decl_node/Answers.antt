@@ -1,5 +1,0 @@
-use Rattle.annot_reader_words.proofs.Shown.{decl_inside}
-use Rattle.annot_reader_words.proofs.node.decl_node.Goals as goal
-
-pub decl-requires : goal.decl-requires
-decl-requires c = record { inside = decl_inside c.args.tree.now c.args.id c.requires }
