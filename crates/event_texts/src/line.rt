@@ -3,28 +3,13 @@
 ghost use Rattle.std.specs.Prelude.{◌≡◌, ◌≤◌, ◌++◌, ℕ, List, codes, decimal, length, OnOk};
 ghost use Rattle.std.specs.List.{flat_map};
 ghost use Rattle.run_events.specs.Class.{word_of};
-ghost use Rattle.event_texts.specs.EventTexts.{kind_word, name_text, key_text, event_line, lines_text};
+ghost use Rattle.event_texts.specs.EventTexts.{name_text, key_text, event_line, lines_text};
 
+use crate::kind::kind_word;
 use crate::prepend::PrependBuffer;
-use run_events::{Class, Event, EventName, KeyMark, Record};
+use run_events::{Class, EventName, KeyMark, Record};
 use std::alloc::AllocError;
 use std::marker::Model;
-
-/// The word of the kind of an event.
-fn kind_word(event: &Event) -> &'static str
-    ensures word { result.now ≡ kind_word event.now }
-    ensures short { length result.now ≤ 8 }
-{
-    match event {
-        Event::Call { .. } => "call",
-        Event::Ret { .. } => "ret",
-        Event::Up { .. } => "up",
-        Event::UpRet { .. } => "upret",
-        Event::Alloc { .. } => "alloc",
-        Event::Free { .. } => "free",
-        Event::Stop { .. } => "stop",
-    }
-}
 
 /// What the line of an event says. Contracts see it as the text of the line.
 #[derive(Drop)]

@@ -3,3 +3,4 @@ pub mod Adding
 pub mod Logs
 pub mod Causes
 pub mod Whole
+pub mod PutTexts

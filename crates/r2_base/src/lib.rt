@@ -4,6 +4,7 @@
 
 mod fault;
 mod held;
+mod hex;
 mod mem_files;
 mod numbers;
 mod outside;
@@ -11,6 +12,7 @@ mod sinks;
 mod sure_files;
 
 pub use fault::Fault;
+pub use hex::hex_digit;
 pub use mem_files::MemFiles;
 pub use numbers::{put_dec, put_hex, read_dec};
 pub use outside::{Files, Sink};

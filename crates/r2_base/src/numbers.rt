@@ -5,6 +5,7 @@ ghost use Rattle.std.specs.Fmt.{decimal, signed_decimal, digits};
 ghost use Rattle.std.specs.Prelude.{false};
 ghost use Rattle.std.specs.Int.{w128};
 
+use crate::hex::write_hex;
 use std::alloc::AllocError;
 
 /// Adds the number in decimal digits, with `-` before one below 0; the digits themselves take no memory.
@@ -15,13 +16,14 @@ pub fn put_dec(to: &mut Vec<u8>, v: i128) -> Result<(), AllocError>
     to.extend_from_slice(itoa::Buffer::new().format(v).as_bytes())
 }
 
-/// Adds the number in hexadecimal digits, in lower case and without leading zeros.
+/// Adds the number in hexadecimal digits, in lower case and without leading zeros; the digits themselves take no memory.
 pub fn put_hex(to: &mut Vec<u8>, v: u64) -> Result<(), AllocError>
     ensures ok { OnOk result (to.new.items ≡ to.old.items ++ digits 16 false v) }
     ensures err { OnErr result (to.new.items ≡ to.old.items) }
 {
-    let text = format!(in *to.allocator(); "{v:x}")?;
-    to.extend_from_slice(text.as_bytes())
+    let mut digits = [0; 64];
+    let start = write_hex(v, &mut digits);
+    to.extend_from_slice(&digits[start..])
 }
 
 /// The number whose decimal digits the text is, without leading zeros.

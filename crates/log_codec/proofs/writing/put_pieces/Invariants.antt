@@ -5,4 +5,7 @@ use Rattle.log_codec.specs.LogText.{piece_text}
 use Rattle.log_codec.proofs.writing.put_pieces.Given as goal
 
 abbrev pub invariant-loop-piece : goal.invariant-loop-piece
-invariant-loop-piece l = l.out.items ≡ l.fn.out.items ++ length l.pieces ∷ flat_map (piece_text to_be_bytes) (take l.piece-index l.pieces)
+invariant-loop-piece l = record {
+  before : l.out.before ≡ l.fn.out.before;
+  added : l.out.added ≡ l.fn.out.added ++ length l.pieces ∷ flat_map (piece_text to_be_bytes) (take l.piece-index l.pieces);
+}

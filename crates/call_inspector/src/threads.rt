@@ -1,0 +1,94 @@
+//! The lines of threads and their events.
+
+ghost use Rattle.std.specs.Prelude.{◌≡◌, ◌++◌, [], OnOk, codes, decimal};
+ghost use Rattle.call_inspector.specs.ThreadText.{event_line, lines_after, thread_text, threads_from};
+
+use crate::crossings::Crossings;
+use crate::events::put_event;
+use crate::run::Records;
+use c_code::Code;
+use event_texts::PrependBuffer;
+use r2_base::put_dec;
+use run_events::Record;
+use std::alloc::AllocError;
+
+/// Adds the index, the clock and the steps of an event, each with a space after it.
+fn put_numbers(text: &mut Vec<u8>, index: usize, entry: &Record) -> Result<(), AllocError>
+    ensures { OnOk result (text.new.items ≡ text.old.items ++ (decimal index ++ codes " " ++ decimal entry.now.clock ++ codes " " ++ decimal entry.now.steps ++ codes " ")) }
+{
+    let mut buffer = PrependBuffer::new();
+    buffer.put_byte(b' ');
+    buffer.put_number(u64::from(entry.steps));
+    buffer.put_byte(b' ');
+    buffer.put_number(u64::from(entry.clock));
+    buffer.put_byte(b' ');
+    buffer.put_number(index as u64);
+    text.extend_from_slice(buffer.as_slice())
+}
+
+/// Adds the line of an event, where these calls and callbacks are open.
+fn put_line(
+    text: &mut Vec<u8>,
+    code: &Code,
+    active: &Crossings,
+    index: usize,
+    entry: &Record,
+) -> Result<(), AllocError>
+    ensures { OnOk result (text.new.items ≡ text.old.items ++ event_line code.now active.now index entry.now) }
+{
+    put_numbers(text, index, entry)?;
+    put_event(text, code, active, &entry.event)?;
+    text.push(b'\n')?;
+    Ok(())
+}
+
+/// Adds the lines of a thread's events. `active` is there for its memory.
+fn put_lines(
+    text: &mut Vec<u8>,
+    code: &Code,
+    active: &mut Crossings,
+    records: &[Record],
+) -> Result<(), AllocError>
+    ensures { OnOk result (text.new.items ≡ text.old.items ++ lines_after code.now [] records.now) }
+{
+    active.clear();
+    for (index, entry) in records.iter().enumerate() {
+        put_line(text, code, active, index, entry)?;
+        active.pass(&entry.event)?;
+    }
+    Ok(())
+}
+
+/// Adds a thread, if it has an event.
+fn put_thread(
+    text: &mut Vec<u8>,
+    code: &Code,
+    active: &mut Crossings,
+    number: usize,
+    records: &[Record],
+) -> Result<(), AllocError>
+    ensures { OnOk result (text.new.items ≡ text.old.items ++ thread_text code.now number records.now) }
+{
+    if records.is_empty() {
+        return Ok(());
+    }
+    text.extend_from_slice(b"thread ")?;
+    put_dec(text, number as i128)?;
+    text.push(b'\n')?;
+    put_lines(text, code, active, records)
+}
+
+/// Adds the threads.
+pub fn put_threads(
+    text: &mut Vec<u8>,
+    code: &Code,
+    active: &mut Crossings,
+    threads: &[Records],
+) -> Result<(), AllocError>
+    ensures { OnOk result (text.new.items ≡ text.old.items ++ threads_from code.now 0 threads.now) }
+{
+    for (number, records) in threads.iter().enumerate() {
+        put_thread(text, code, active, number, records.as_slice())?;
+    }
+    Ok(())
+}
