@@ -1,0 +1,78 @@
+//! The clock and the tickets of each event.
+
+ghost use Rattle.std.specs.Prelude.{◌≡◌, ◌+◌, ◌<◌, [], length, IfOk, OnOk, OnErr};
+ghost use Rattle.logical_clock.specs.Events.{AreDistinct, occurrence};
+ghost use Rattle.logical_clock.specs.Counts.{Counts, CountsNoMore, CountsOneMore, StampsAfter};
+
+use crate::keys::Keys;
+use run_events::{Key, Stamp, Words};
+use std::alloc::{AllocError, Global};
+use std::collections::BTreeMap;
+use std::marker::Model;
+
+/// What the clocks and tickets of the next event follow from.
+#[derive(Drop)]
+pub struct Clocks {
+    /// How many events were made.
+    events: u32,
+    /// By thread, the clock of its last event, 0 where there is none.
+    threads: Vec<u32>,
+    keys: Keys,
+}
+
+impl Model for Clocks {
+    ghost use Rattle.logical_clock.specs.State.{ClockState};
+
+    ghost Value = { ClockState };
+
+    ghost use Rattle.logical_clock.specs.Counts.{Reached};
+    ghost use Rattle.logical_clock.specs.Kept.{AreNumbered};
+
+    ghost view = { λ c. record { events = c.events; threads = c.threads.items; numbers = c.keys.numbers.entries; rows = c.keys.rows.items } };
+
+    ghost invariant = { λ c. Reached (record { events = c.events; threads = c.threads.items; numbers = c.keys.numbers.entries; rows = c.keys.rows.items }) × AreNumbered c.keys };
+}
+
+impl Clocks {
+    /// Before any event of so many threads.
+    pub fn new(alloc: Global, threads: u8) -> Result<Clocks, AllocError>
+        ensures counts { IfOk result (λ c. Counts [] c) }
+        ensures events { IfOk result (λ c. c.events ≡ 0) }
+        ensures threads { IfOk result (λ c. length c.threads ≡ threads) }
+    {
+        let clocks = vec![in alloc; 0; threads as usize]?;
+        Ok(Clocks {
+            events: 0,
+            threads: clocks,
+            keys: Keys {
+                numbers: BTreeMap::new(alloc),
+                rows: Vec::new(alloc),
+            },
+        })
+    }
+
+    /// The logical clock (Lamport 1978) and the tickets of the next event, which the thread makes with these keys.
+    ///
+    /// `AllocError` where there is no memory; no event counts then.
+    pub fn event(&mut self, alloc: Global, thread: u8, keys: &[Key]) -> Result<Stamp, AllocError>
+        requires thread { thread < length self.old.threads }
+        requires few { self.old.events < 4000000000 }
+        requires distinct { AreDistinct keys.now }
+        ensures stamp { IfOk result (StampsAfter self.old (occurrence thread keys.now)) }
+        ensures counts { OnOk result (CountsOneMore (occurrence thread keys.now) self.old self.new) }
+        ensures unchanged { OnErr result (CountsNoMore self.old self.new) }
+        ensures events { OnOk result (self.new.events ≡ self.old.events + 1) }
+        ensures threads { length self.new.threads ≡ length self.old.threads }
+    {
+        let own = self.threads[thread as usize];
+        let mut tickets = Vec::with_capacity(alloc, keys.len())?;
+        let clock = self.keys.find(own, keys, &mut tickets)? + 1;
+        self.keys.count_all(keys, clock, &mut tickets);
+        self.threads[thread as usize] = clock;
+        self.events += 1;
+        Ok(Stamp {
+            clock,
+            tickets: Words::from(tickets),
+        })
+    }
+}

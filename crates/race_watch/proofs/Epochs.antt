@@ -1,0 +1,250 @@
+-- The epochs of bytes.
+use Rattle.std.proofs.Common.{◌≡◌, ℕ, ◌+◌, ◌-◌, ◌*◌, ◌<◌, ◌≤◌, Bool, true, false, ◌&&◌, ◌||◌, cond, eqb, List, [], ◌∷◌, Option, Some, None, refl, sym, ap, ◌∙◌, subst, arith, eq-eqb, eqb-true}
+use Rattle.std.specs.Prelude.{nat_lt, nat_le, not, slice_index, map, unwrap_or}
+use Rattle.std.specs.List.{range_with_len}
+use Rattle.std.proofs.lemmas.Bool.{and_parts}
+use Rattle.std.proofs.lemmas.Bool.Decides.{nat_tests}
+use Rattle.std.proofs.lemmas.List.{get_or_past}
+use Rattle.std.proofs.lemmas.List.FromFn.{get_or-map-range_with_len, length-map-range_with_len}
+use Rattle.marks.specs.Places.{is_constant}
+use Rattle.race_watch_pages.specs.Kept.{kept, size}
+use Rattle.race_watch_pages.specs.declared.pages.Pages.{Pages}
+use Rattle.race_watch.specs.declared.bytes.Bytes.{Bytes}
+use Rattle.race_watch.specs.declared.tables.Tables.{Tables}
+use Rattle.race_watch.specs.Cells.{cell_of, base_of, IsPart}
+use Rattle.race_watch.specs.Tables.{at, at_cell, listed, listed_cell, cells_of, AreTables}
+
+-- a epoch is that of a cell
+pub at_some : (t : Tables) (w : Bool) (u x c : ℕ) → cell_of x ≡ Some c → u < t.threads → at t w u x ≡ kept t.epochs (base_of u w + c)
+at_some t w u x c e lt = ap (at_cell t w u) e ∙ ap (λ b. cond b (kept t.epochs (base_of u w + c)) 0) is
+  where
+    is : nat_lt u t.threads ≡ true
+    is = grind (arith, nat_tests, lt)
+
+pub at_none : (t : Tables) (w : Bool) (u x : ℕ) → t.threads ≤ u → at t w u x ≡ 0
+at_none t w u x le = go (cell_of x)
+  where
+    not_lt : nat_lt u t.threads ≡ false
+    not_lt = grind (arith, nat_tests, le)
+
+    go : (o : Option ℕ) → at_cell t w u o ≡ 0
+    go None = refl
+    go (Some c) = ap (λ b. cond b (kept t.epochs (base_of u w + c)) 0) not_lt
+
+-- only threads that there are have epochs
+pub known_thread : (t : Tables) (w : Bool) (u x n : ℕ) → n < at t w u x → u < t.threads
+known_thread t w u x n lt = go (nat_lt u t.threads) refl
+  where
+    go : (b : Bool) → nat_lt u t.threads ≡ b → u < t.threads
+    go true e = grind (arith, nat_tests)
+    go false e = let le : t.threads ≤ u = grind (arith, nat_tests) in absurd (omega (arith, lt, at_none t w u x le))
+
+-- all cells of some bytes have something, where those of its part have
+pub each_cell : (P : ℕ → Type 0) (t : Tables) (w : Bool) (u : ℕ) (b : Bytes) → IsPart b → u < t.threads → ((c : ℕ) → base_of u w + b.cell ≤ c → c < base_of u w + b.cell + (b.to - b.from) → P (kept t.epochs c)) → (x : ℕ) → b.from ≤ x → x < b.to → P (at t w u x)
+each_cell P t w u b p lt each x lo hi =
+    subst P (sym (at_some t w u x (b.cell + (x - b.from)) (p.cells x lo hi) lt)) (each (base_of u w + (b.cell + (x - b.from))) (omega (arith, lo)) (omega (arith, lo, hi)))
+
+-- one byte is that of a cell
+
+data Lies (x c : ℕ) : Type 0 where
+  globals : 0x10000000 ≤ x → x < 0x10100000 → x - 0x10000000 ≡ c → Lies x c
+  stacks : 0x20000000 ≤ x → x < 0x20200000 → x - 0x20000000 + 0x100000 ≡ c → Lies x c
+  pool : 0x30000000 ≤ x → x < 0x30100000 → x - 0x30000000 + 0x300000 ≡ c → Lies x c
+
+between : (a b x : ℕ) → (nat_le a x && nat_lt x b) ≡ true → (a ≤ x) × (x < b)
+between a b x e = let p = and_parts (nat_le a x) (nat_lt x b) e in (grind (arith, nat_tests), grind (arith, nat_tests))
+
+lies : (x c : ℕ) → cell_of x ≡ Some c → Lies x c
+lies x c e = go (nat_le 0x10000000 x && nat_lt x 0x10100000) (nat_le 0x20000000 x && nat_lt x 0x20200000) (nat_le 0x30000000 x && nat_lt x 0x30100000) refl refl refl e
+  where
+    go : (a b d : Bool) → (nat_le 0x10000000 x && nat_lt x 0x10100000) ≡ a → (nat_le 0x20000000 x && nat_lt x 0x20200000) ≡ b → (nat_le 0x30000000 x && nat_lt x 0x30100000) ≡ d → cond a (Some (x - 0x10000000)) (cond b (Some (x - 0x20000000 + 0x100000)) (cond d (Some (x - 0x30000000 + 0x300000)) None)) ≡ Some c → Lies x c
+    go true b d f g h e = let p = between 0x10000000 0x10100000 x f in globals p.0 p.1 (ap (λ o. unwrap_or o 0) e)
+    go false true d f g h e = let p = between 0x20000000 0x20200000 x g in stacks p.0 p.1 (ap (λ o. unwrap_or o 0) e)
+    go false false true f g h e = let p = between 0x30000000 0x30100000 x h in pool p.0 p.1 (ap (λ o. unwrap_or o 0) e)
+    go false false false f g h e = absurd cc
+
+pub same_byte : (x y c : ℕ) → cell_of x ≡ Some c → cell_of y ≡ Some c → x ≡ y
+same_byte x y c e f = go (lies x c e) (lies y c f)
+  where
+    go : Lies x c → Lies y c → x ≡ y
+    go (globals a b d) (globals k l m) = omega (arith, a, b, d, k, l, m)
+    go (globals a b d) (stacks k l m) = absurd (omega (arith, a, b, d, k, l, m))
+    go (globals a b d) (pool k l m) = absurd (omega (arith, a, b, d, k, l, m))
+    go (stacks a b d) (globals k l m) = absurd (omega (arith, a, b, d, k, l, m))
+    go (stacks a b d) (stacks k l m) = omega (arith, a, b, d, k, l, m)
+    go (stacks a b d) (pool k l m) = absurd (omega (arith, a, b, d, k, l, m))
+    go (pool a b d) (globals k l m) = absurd (omega (arith, a, b, d, k, l, m))
+    go (pool a b d) (stacks k l m) = absurd (omega (arith, a, b, d, k, l, m))
+    go (pool a b d) (pool k l m) = omega (arith, a, b, d, k, l, m)
+
+pub cell_below : (x c : ℕ) → cell_of x ≡ Some c → c < 0x400000
+cell_below x c e = go (lies x c e)
+  where
+    go : Lies x c → c < 0x400000
+    go (globals a b d) = omega (arith, a, b, d)
+    go (stacks a b d) = omega (arith, a, b, d)
+    go (pool a b d) = omega (arith, a, b, d)
+
+-- the areas, lowest first
+pub data InArea (x : ℕ) : Type 0 where
+  in_globals : 0x10000000 ≤ x → x < 0x10100000 → InArea x
+  in_stacks : 0x20000000 ≤ x → x < 0x20200000 → InArea x
+  in_pool : 0x30000000 ≤ x → x < 0x30100000 → InArea x
+
+pub known_area : (t : Tables) (w : Bool) (u x n : ℕ) → n < at t w u x → InArea x
+known_area t w u x n lt = go (cell_of x) refl lt
+  where
+    at_area : (c : ℕ) → Lies x c → InArea x
+    at_area c (globals a b d) = in_globals a b
+    at_area c (stacks a b d) = in_stacks a b
+    at_area c (pool a b d) = in_pool a b
+
+    go : (o : Option ℕ) → cell_of x ≡ o → n < at_cell t w u o → InArea x
+    go None e l = absurd (omega (arith, l))
+    go (Some c) e l = at_area c (lies x c e)
+
+-- no epoch is that of a constant
+pub no_constant : (x : ℕ) → InArea x → is_constant x ≡ false
+no_constant x (in_globals a b) = grind (arith, nat_tests, a, b)
+no_constant x (in_stacks a b) = grind (arith, nat_tests, a, b)
+no_constant x (in_pool a b) = grind (arith, nat_tests, a, b)
+
+-- cells of two threads, or of two kinds, are two
+
+base_apart : (u t : ℕ) (w k : Bool) (c d : ℕ) → c < 0x400000 → d < 0x400000 → base_of u w + c ≡ base_of t k + d → (u ≡ t) × (w ≡ k) × (c ≡ d)
+base_apart u t true true c d l m e = (omega (arith, l, m, e), refl, omega (arith, l, m, e))
+base_apart u t false false c d l m e = (omega (arith, l, m, e), refl, omega (arith, l, m, e))
+base_apart u t true false c d l m e = absurd (omega (arith, l, m, e))
+base_apart u t false true c d l m e = absurd (omega (arith, l, m, e))
+
+abbrev pub alike : Bool → Bool → Bool
+alike true k = k
+alike false k = not k
+
+alike_is : (w k : Bool) → w ≡ k → alike w k ≡ true
+alike_is true k e = sym e
+alike_is false true e = absurd cc
+alike_is false false e = refl
+
+is_alike : (w k : Bool) → alike w k ≡ true → w ≡ k
+is_alike true k e = sym e
+is_alike false true e = absurd cc
+is_alike false false e = refl
+
+all_of : (a b c : Bool) → a ≡ true → b ≡ true → c ≡ true → (a && (b && c)) ≡ true
+all_of true true true p q r = refl
+all_of true true false p q r = absurd cc
+all_of true false c p q r = absurd cc
+all_of false b c p q r = absurd cc
+
+bools : (a b : Bool) → (a ≡ true → b ≡ true) → (b ≡ true → a ≡ true) → a ≡ b
+bools true b f g = sym (f refl)
+bools false true f g = g refl
+bools false false f g = refl
+
+within : (a b x : ℕ) → a ≤ x → x < b → (nat_le a x && nat_lt x b) ≡ true
+within a b x h l = grind (arith, nat_tests, h, l)
+
+-- a cell is among those of the bytes exactly if its byte is among them
+cell_is : (b : Bytes) (t u x c : ℕ) (w k : Bool) → IsPart b → cell_of x ≡ Some c → (nat_le (base_of t k + b.cell) (base_of u w + c) && nat_lt (base_of u w + c) (base_of t k + b.cell + (b.to - b.from))) ≡ (eqb t u && (alike w k && (nat_le b.from x && nat_lt x b.to)))
+cell_is b t u x c w k p e = bools (nat_le (base_of t k + b.cell) (base_of u w + c) && nat_lt (base_of u w + c) (base_of t k + b.cell + (b.to - b.from))) (eqb t u && (alike w k && (nat_le b.from x && nat_lt x b.to))) forth back
+  where
+    forth : (nat_le (base_of t k + b.cell) (base_of u w + c) && nat_lt (base_of u w + c) (base_of t k + b.cell + (b.to - b.from))) ≡ true → (eqb t u && (alike w k && (nat_le b.from x && nat_lt x b.to))) ≡ true
+    forth h =
+        let l = between (base_of t k + b.cell) (base_of t k + b.cell + (b.to - b.from)) (base_of u w + c) h in
+        let d : ℕ = base_of u w + c - base_of t k in
+        let e1 : base_of u w + c ≡ base_of t k + d = omega (arith, l.0) in
+        let low : b.cell ≤ d = omega (arith, l.0) in
+        let high : d < b.cell + (b.to - b.from) = omega (arith, l.0, l.1) in
+        let s = base_apart u t w k c d (cell_below x c e) (omega (arith, high, p.within)) e1 in
+        let y : ℕ = b.from + (d - b.cell) in
+        let y1 : y < b.to = omega (arith, low, high) in
+        let cell : b.cell + (y - b.from) ≡ c = omega (arith, low, s.2) in
+        let is : x ≡ y = same_byte x y c e (p.cells y (omega arith) y1 ∙ ap (λ n. Some n) cell) in
+        all_of (eqb t u) (alike w k) (nat_le b.from x && nat_lt x b.to) (eq-eqb t u (sym s.0)) (alike_is w k s.1) (within b.from b.to x (omega (arith, is)) (omega (arith, is, y1)))
+
+    back : (eqb t u && (alike w k && (nat_le b.from x && nat_lt x b.to))) ≡ true → (nat_le (base_of t k + b.cell) (base_of u w + c) && nat_lt (base_of u w + c) (base_of t k + b.cell + (b.to - b.from))) ≡ true
+    back h =
+        let a = and_parts (eqb t u) (alike w k && (nat_le b.from x && nat_lt x b.to)) h in
+        let d = and_parts (alike w k) (nat_le b.from x && nat_lt x b.to) a.1 in
+        let l = between b.from b.to x d.1 in
+        let some : Some c ≡ Some (b.cell + (x - b.from)) = sym e ∙ p.cells x l.0 l.1 in
+        let cell : c ≡ b.cell + (x - b.from) = ap (λ o. unwrap_or o 0) some in
+        let base : base_of t k ≡ base_of u w = ap (λ n. base_of n k) (eqb-true t u a.0) ∙ ap (base_of u) (sym (is_alike w k d.0)) in
+        within (base_of t k + b.cell) (base_of t k + b.cell + (b.to - b.from)) (base_of u w + c) (omega (arith, base, cell)) (omega (arith, base, cell, l.0, l.1))
+
+-- the epochs after one kind of a thread's cells was filled
+pub filled_at : (old new : Tables) (b : Bytes) (t epoch : ℕ) (k : Bool) → IsPart b → t < old.threads → new.threads ≡ old.threads → ((c : ℕ) → kept new.epochs c ≡ cond (nat_le (base_of t k + b.cell) c && nat_lt c (base_of t k + b.cell + (b.to - b.from))) epoch (kept old.epochs c))
+    → (w : Bool) (u x : ℕ) → at new w u x ≡ cond (eqb t u && (alike w k && (nat_le b.from x && nat_lt x b.to))) epoch (at old w u x)
+filled_at old new b t epoch k p lt same fill w u x = go (cell_of x) refl
+  where
+    unless : (a : Bool) (n : ℕ) → (a ≡ true → ⊥) → n ≡ cond a epoch n
+    unless true n f = absurd (f refl)
+    unless false n f = refl
+
+    some : (c : ℕ) (v : Bool) → cell_of x ≡ Some c → nat_lt u old.threads ≡ v → cond v (kept new.epochs (base_of u w + c)) 0 ≡ cond (eqb t u && (alike w k && (nat_le b.from x && nat_lt x b.to))) epoch (cond v (kept old.epochs (base_of u w + c)) 0)
+    some c true e f = fill (base_of u w + c) ∙ ap (λ a. cond a epoch (kept old.epochs (base_of u w + c))) (cell_is b t u x c w k p e)
+    some c false e f = unless (eqb t u && (alike w k && (nat_le b.from x && nat_lt x b.to))) 0 (λ h.
+        let a = and_parts (eqb t u) (alike w k && (nat_le b.from x && nat_lt x b.to)) h in
+        let is : t ≡ u = eqb-true t u a.0 in
+        let le : old.threads ≤ u = grind (arith, nat_tests) in
+        omega (arith, le, is, lt))
+
+    go : (o : Option ℕ) → cell_of x ≡ o → at_cell new w u o ≡ cond (eqb t u && (alike w k && (nat_le b.from x && nat_lt x b.to))) epoch (at_cell old w u o)
+    go None e = unless (eqb t u && (alike w k && (nat_le b.from x && nat_lt x b.to))) 0 (λ h.
+        let a = and_parts (eqb t u) (alike w k && (nat_le b.from x && nat_lt x b.to)) h in
+        let d = and_parts (alike w k) (nat_le b.from x && nat_lt x b.to) a.1 in
+        let l = between b.from b.to x d.1 in
+        let none : None ≡ Some (b.cell + (x - b.from)) = sym e ∙ p.cells x l.0 l.1 in
+        absurd cc)
+    go (Some c) e = ap (λ n. cond (nat_lt u n) (kept new.epochs (base_of u w + c)) 0) same ∙ some c (nat_lt u old.threads) e refl
+
+-- a read, and a write
+pub put_read : (a b : Bool) (w : Bool) (m n v : ℕ) → v ≡ cond (a && (alike w true && b)) m n → v ≡ cond (a && ((w || false) && b)) m n
+put_read a b true m n v e = e
+put_read a b false m n v e = e
+
+pub put_write : (a b : Bool) (w : Bool) (m n v r : ℕ) → v ≡ cond (a && (alike w true && b)) m n → r ≡ cond (a && (alike w false && b)) m v → r ≡ cond (a && ((w || true) && b)) m n
+put_write true true true m n v r e f = f ∙ e
+put_write true true false m n v r e f = f
+put_write true false true m n v r e f = f ∙ e
+put_write true false false m n v r e f = f ∙ e
+put_write false b true m n v r e f = f ∙ e
+put_write false b false m n v r e f = f ∙ e
+
+-- the list of all epochs
+
+map_same : (f g : ℕ → ℕ) (xs : List ℕ) → ((n : ℕ) → f n ≡ g n) → map f xs ≡ map g xs
+map_same f g [] h = refl
+map_same f g (x ∷ xs) h = ap (λ y. y ∷ map f xs) (h x) ∙ ap (λ ys. g x ∷ ys) (map_same f g xs h)
+
+pub cells_same : (old new : Tables) → size new.epochs ≡ size old.epochs → ((c : ℕ) → kept new.epochs c ≡ kept old.epochs c) → cells_of new ≡ cells_of old
+unfolding cells_of
+cells_same old new s h = ap (λ n. map (kept new.epochs) (range_with_len 0 (256 * n))) s ∙ map_same (kept new.epochs) (kept old.epochs) (range_with_len 0 (256 * size old.epochs)) h
+
+pub listed_is : (t : Tables) (w : Bool) (u x : ℕ) → AreTables t → listed (cells_of t) w u x ≡ at t w u x
+unfolding cells_of
+listed_is t w u x h = go (cell_of x) refl
+  where
+    small : (w : Bool) (c : ℕ) → c < 0x400000 → u < t.threads → base_of u w + c < 256 * size t.epochs
+    small true c l lt = omega (arith, l, lt, h.size)
+    small false c l lt = omega (arith, l, lt, h.size)
+
+    large : (w : Bool) (c : ℕ) → t.threads ≤ u → 256 * size t.epochs ≤ base_of u w + c
+    large true c le = omega (arith, le, h.size)
+    large false c le = omega (arith, le, h.size)
+
+    some : (c : ℕ) (v : Bool) → cell_of x ≡ Some c → nat_lt u t.threads ≡ v → slice_index (map (kept t.epochs) (range_with_len 0 (256 * size t.epochs))) (base_of u w + c) ≡ cond v (kept t.epochs (base_of u w + c)) 0
+    some c true e f = get_or-map-range_with_len (kept t.epochs) 0 (256 * size t.epochs) (base_of u w + c) (base_of u w + c) 0 (small w c (cell_below x c e) (grind (arith, nat_tests))) (omega arith)
+    some c false e f =
+        let le : t.threads ≤ u = grind (arith, nat_tests) in
+        get_or_past (map (kept t.epochs) (range_with_len 0 (256 * size t.epochs))) (base_of u w + c) 0 (omega (arith, length-map-range_with_len (kept t.epochs) 0 (256 * size t.epochs), large w c le))
+
+    go : (o : Option ℕ) → cell_of x ≡ o → listed_cell (map (kept t.epochs) (range_with_len 0 (256 * size t.epochs))) w u o ≡ at_cell t w u o
+    go None e = refl
+    go (Some c) e = some c (nat_lt u t.threads) e refl
+
+pub filled_by : (old : Tables) (new : Pages) (mid : ℕ → ℕ) (b : Bytes) (t epoch : ℕ) (k : Bool) (r : ℕ) → IsPart b → t < old.threads → r ≡ base_of t k → ((c : ℕ) → kept new c ≡ cond (nat_le (r + b.cell) c && nat_lt c (r + b.cell + (b.to - b.from))) epoch (mid c)) → ((c : ℕ) → mid c ≡ kept old.epochs c)
+    → (w : Bool) (u x : ℕ) → at (record { threads = old.threads; epochs = new }) w u x ≡ cond (eqb t u && (alike w k && (nat_le b.from x && nat_lt x b.to))) epoch (at old w u x)
+filled_by old new mid b t epoch k r p lt is fill same =
+    filled_at old (record { threads = old.threads; epochs = new }) b t epoch k p lt refl (λ c. fill c ∙ ap (λ n. cond (nat_le (n + b.cell) c && nat_lt c (n + b.cell + (b.to - b.from))) epoch (mid c)) is ∙ ap (cond (nat_le (base_of t k + b.cell) c && nat_lt c (base_of t k + b.cell + (b.to - b.from))) epoch) (same c))

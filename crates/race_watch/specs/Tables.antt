@@ -1,0 +1,99 @@
+-- What tables keep.
+use Rattle.std.specs.Prelude.{◌≡◌, ◌≢◌, ◌⊎◌, nat_le, ℕ, ◌+◌, ◌*◌, ◌<◌, ◌≤◌, Bool, ◌||◌, ◌&&◌, nat_lt, eqb, cond, suc, slice_index, map, List, Option, Some, None, MatchOption}
+use Rattle.std.specs.List.{range_with_len}
+use Rattle.memory_map.specs.declared.range.Range.{Range}
+use Rattle.memory_map.specs.Ranges.{IsInRange, covers}
+use Rattle.race_watch_pages.specs.Kept.{kept, size}
+use Rattle.race_watch.specs.declared.seen.Seen.{Seen}
+use Rattle.race_watch.specs.declared.first.Tested.{Tested}
+use Rattle.race_watch.specs.declared.tables.Tables.{Tables}
+use Rattle.race_watch.specs.Cells.{cell_of, base_of}
+use Rattle.race_watch.specs.declared.bytes.Bytes.{Bytes}
+use Rattle.race_watch.specs.Hits.{Hits, In}
+
+abbrev pub at_cell : Tables → Bool → ℕ → Option ℕ → ℕ
+at_cell t touched u None = 0
+at_cell t touched u (Some c) = cond (nat_lt u t.threads) (kept t.epochs (base_of u touched + c)) 0
+
+-- the epoch of a byte, of the thread's last access of it or of its last write
+abbrev pub at : Tables → Bool → ℕ → ℕ → ℕ
+at t touched u x = at_cell t touched u (cell_of x)
+
+-- the same in a list of the epochs of all cells
+abbrev pub listed_cell : List ℕ → Bool → ℕ → Option ℕ → ℕ
+listed_cell epochs touched u None = 0
+listed_cell epochs touched u (Some c) = slice_index epochs (base_of u touched + c)
+
+abbrev pub listed : List ℕ → Bool → ℕ → ℕ → ℕ
+listed epochs touched u x = listed_cell epochs touched u (cell_of x)
+
+-- the epochs of all cells
+unfoldable pub cells_of : Tables → List ℕ
+cells_of t = map (kept t.epochs) (range_with_len 0 (256 * size t.epochs))
+
+-- there is room for each thread
+pub record AreTables (t : Tables) : Type 0 where
+  pub size : size t.epochs ≡ t.threads * 0x8000
+  pub few : t.threads ≤ 32
+
+-- the access isn't known to follow u's last one of the byte that counts
+pub record HasEpoch (a : Tested) (epochs : Bool → ℕ → ℕ → ℕ) (x u : ℕ) : Type 0 where
+  pub other : u ≢ a.thread
+  pub unknown : slice_index a.known.now u < epochs a.write u x
+
+-- no access of these bytes is unknown
+abbrev pub NoneUnknown : Tested → (Bool → ℕ → ℕ → ℕ) → Bytes → Type 0
+NoneUnknown a epochs b = (x u : ℕ) → b.from ≤ x → x < b.to → HasEpoch a epochs x u → ⊥
+
+-- the access isn't known to follow u's last one of the byte, of some bytes alone
+abbrev pub HasEpochIn : Tested → (Bool → ℕ → ℕ → ℕ) → Bytes → ℕ → ℕ → Type 0
+HasEpochIn a epochs b x u = HasEpoch a epochs x u × (b.from ≤ x) × (x < b.to)
+
+-- it races with one that was seen, by u
+abbrev pub HasHit : Tested → List Seen → ℕ → ℕ → Type 0
+HasHit a seen x u = (s : Seen) × In s seen × (s.thread ≡ u) × Hits a s x
+
+-- it races with one that was seen, or isn't known to follow one of the tables
+abbrev pub HasEither : Tested → List Seen → (Bool → ℕ → ℕ → ℕ) → ℕ → ℕ → Type 0
+HasEither a seen epochs x u = HasHit a seen x u ⊎ HasEpoch a epochs x u
+
+-- the least byte of the range for which something holds with a thread, and the least thread of those
+pub record IsLeastOf (range : Range) (R : ℕ → ℕ → Type 0) (addr other : ℕ) : Type 0 where
+  pub in_range : IsInRange range addr
+  pub holds : R addr other
+  pub least : (x u : ℕ) → IsInRange range x → R x u → (addr ≤ x) × (x ≡ addr → other ≤ u)
+
+abbrev pub IsFirst : Range → (ℕ → ℕ → Type 0) → Option (ℕ × ℕ) → Type 0
+IsFirst range R result = MatchOption result ((x u : ℕ) → IsInRange range x → R x u → ⊥) (λ p. IsLeastOf range R p.0 p.1)
+
+-- and of some bytes alone
+pub record IsLeastFrom (from to : ℕ) (R : ℕ → ℕ → Type 0) (addr other : ℕ) : Type 0 where
+  pub low : from ≤ addr
+  pub high : addr < to
+  pub holds : R addr other
+  pub least : (x u : ℕ) → from ≤ x → x < to → R x u → (addr ≤ x) × (x ≡ addr → other ≤ u)
+
+abbrev pub IsFirstFrom : ℕ → ℕ → (ℕ → ℕ → Type 0) → Option (ℕ × ℕ) → Type 0
+IsFirstFrom from to R result = MatchOption result ((x u : ℕ) → from ≤ x → x < to → R x u → ⊥) (λ p. IsLeastFrom from to R p.0 p.1)
+
+-- the least thread for which something holds
+pub record IsLeastThread (R : ℕ → Type 0) (other : ℕ) : Type 0 where
+  pub holds : R other
+  pub least : (u : ℕ) → R u → other ≤ u
+
+abbrev pub IsFirstThread : (ℕ → Type 0) → Option ℕ → Type 0
+IsFirstThread R result = MatchOption result ((u : ℕ) → R u → ⊥) (λ u. IsLeastThread R u)
+
+-- epochs with one access more
+abbrev pub ArePut : (Bool → ℕ → ℕ → ℕ) → (Bool → ℕ → ℕ → ℕ) → Seen → Type 0
+ArePut old new one = (touched : Bool) (u x : ℕ) → new touched u x ≡ cond (eqb one.thread u && ((touched || one.write) && covers one.range x)) (suc one.place) (old touched u x)
+
+-- the epochs of some bytes are written, of a thread's accesses, and of its writes where it writes
+abbrev pub IsPut : Bytes → ℕ → Bool → ℕ → (Bool → ℕ → ℕ → ℕ) → (Bool → ℕ → ℕ → ℕ) → Type 0
+IsPut b thread write epoch old new = (w : Bool) (u x : ℕ) → new w u x ≡ cond (eqb thread u && ((w || write) && (nat_le b.from x && nat_lt x b.to))) epoch (old w u x)
+
+-- zeros, over so many threads
+pub record AreBlankTables (threads : ℕ) (t : Tables) : Type 0 where
+  pub tables : AreTables t
+  pub many : t.threads ≡ threads
+  pub zeros : (w : Bool) (u x : ℕ) → at t w u x ≡ 0

@@ -1,0 +1,60 @@
+//! An access: whether it has to be tested, the first race, and what is kept of it.
+
+ghost use Rattle.std.specs.Prelude.{◌≡◌, ◌+◌, ◌<◌, ◌≤◌, ℕ, true, not, length, IfErr, OnOk, OnErr, IsTrue};
+ghost use Rattle.std.specs.List.{All};
+ghost use Rattle.memory_map.specs.Ranges.{covers};
+ghost use Rattle.race_watch.specs.declared.seen.Seen.{Seen};
+ghost use Rattle.race_watch.specs.Stands.{IsNoted};
+ghost use Rattle.race_watch.specs.Tables.{at, cells_of, AreTables, HasEither, IsFirst};
+
+use crate::bytes::whole;
+use crate::error::WatchError;
+use crate::first::{Tested, earlier, first_hit};
+use crate::seen::{Seen, take};
+use crate::tables::Tables;
+use memory_map::Range;
+
+/// Whether the thread is seen to have accessed each byte of the range since its last event, in a way that counts for
+/// this one.
+pub fn is_settled(tables: &Tables, thread: u8, range: Range, write: bool, epoch: u32) -> bool
+    requires tables { AreTables tables.now }
+    requires thread { thread < tables.now.threads }
+    ensures { IsTrue result → (x : ℕ) → covers range x ≡ true → at tables.now (not write) thread x ≡ epoch }
+{
+    match whole(range) {
+        None => false,
+        Some(part) => tables.is_all(thread, !write, part, epoch),
+    }
+}
+
+/// The least byte at which the access races with one that is kept, and the least thread of which one is.
+pub fn first_race(tested: &Tested, seen: &[Seen], tables: &Tables) -> Option<(u64, u8)>
+    requires seen { All (λ (s : Seen). s.thread < length tested.now.known.now) seen.now }
+    requires tables { AreTables tables.now }
+    requires known { tables.now.threads ≤ length tested.now.known.now }
+    ensures { IsFirst tested.now.range (HasEither tested.now seen.now (at tables.now)) result }
+{
+    let found = tables.first(tested);
+    match first_hit(tested, seen) {
+        None => found,
+        Some((addr, other)) => earlier(found, Some(addr), other),
+    }
+}
+
+/// Keeps an access.
+pub fn note(seen: &mut Vec<Seen>, tables: &mut Tables, one: Seen) -> Result<(), WatchError>
+    requires tables { AreTables tables.old }
+    requires thread { one.thread < tables.old.threads }
+    requires place { one.place + 1 < 4294967296 }
+    ensures tables { AreTables tables.new }
+    ensures threads { tables.new.threads ≡ tables.old.threads }
+    ensures noted { OnOk result (IsNoted seen.old.items seen.new.items (at tables.old) (at tables.new) one) }
+    ensures unchanged { OnErr result (seen.new.items ≡ seen.old.items) }
+    ensures same { OnErr result (cells_of tables.new ≡ cells_of tables.old) }
+    ensures memory { IfErr result (λ e. e ≡ WatchError.Memory) }
+{
+    match whole(one.range) {
+        None => take(seen, one),
+        Some(part) => tables.put(one.thread, part, one.write, one.place + 1),
+    }
+}

@@ -1,0 +1,86 @@
+//! Which bytes have cells: those of the areas that replay code may write, one area's after another's.
+
+ghost use Rattle.std.specs.Prelude.{◌≡◌, ◌+◌, ◌-◌, ◌<◌, ◌≤◌, IfSome};
+ghost use Rattle.race_watch.specs.Cells.{IsPart, IsCommon};
+
+use memory_map::{
+    GLOBALS_SIZE, POOL_SIZE, REPLAY_GLOBALS, REPLAY_POOL, REPLAY_STACKS, Range, STACK_SIZE,
+};
+
+/// Some bytes of one area, from the first to before the last, and the number of the first one's cell.
+#[derive(Clone, Copy)]
+pub struct Bytes {
+    pub from: u64,
+    pub to: u64,
+    pub cell: u32,
+}
+
+/// The globals of replay code.
+pub const GLOBALS: Bytes = Bytes {
+    from: 0x1000_0000,
+    to: 0x1010_0000,
+    cell: 0,
+};
+
+/// Its stacks.
+pub const STACKS: Bytes = Bytes {
+    from: 0x2000_0000,
+    to: 0x2020_0000,
+    cell: 0x10_0000,
+};
+
+/// Its pool.
+pub const POOL: Bytes = Bytes {
+    from: 0x3000_0000,
+    to: 0x3010_0000,
+    cell: 0x30_0000,
+};
+
+const _: () = prove!(GLOBALS.from == REPLAY_GLOBALS && GLOBALS.to == REPLAY_GLOBALS + GLOBALS_SIZE);
+
+const _: () = prove!(STACKS.from == REPLAY_STACKS && STACKS.to == REPLAY_STACKS + 32 * STACK_SIZE);
+
+const _: () = prove!(POOL.from == REPLAY_POOL && POOL.to == REPLAY_POOL + POOL_SIZE);
+
+/// The bytes of a range that lie in an area.
+pub fn common(range: Range, area: Bytes) -> Option<Bytes>
+    requires part { IsPart area }
+    requires small { area.to ≤ 0x4000_0000 }
+    ensures { IsCommon range area result }
+{
+    let from = range.addr.max(area.from);
+    if from - range.addr >= range.len || from >= area.to {
+        return None;
+    }
+    let to = if range.len < area.to - range.addr.min(area.to) {
+        range.addr + range.len
+    } else {
+        area.to
+    };
+    Some(Bytes {
+        from,
+        to,
+        cell: area.cell + (from - area.from) as u32,
+    })
+}
+
+/// The bytes of a range all of which lie in one area.
+pub fn whole(range: Range) -> Option<Bytes>
+    ensures { IfSome result (λ b. IsPart b × (b.from ≡ range.addr) × (b.to ≡ range.addr + range.len)) }
+{
+    let area = if range.addr < STACKS.from {
+        GLOBALS
+    } else if range.addr < POOL.from {
+        STACKS
+    } else {
+        POOL
+    };
+    if range.addr < area.from || range.addr > area.to || range.len > area.to - range.addr {
+        return None;
+    }
+    Some(Bytes {
+        from: range.addr,
+        to: range.addr + range.len,
+        cell: area.cell + (range.addr - area.from) as u32,
+    })
+}

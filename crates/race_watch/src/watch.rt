@@ -1,0 +1,139 @@
+//! The watch.
+
+ghost use Rattle.std.specs.Prelude.{◌≡◌, ◌+◌, ◌<◌, ◌≤◌, [], length, IfOk, OnOk, OnErr};
+ghost use Rattle.logical_clock.specs.Events.{occurrence};
+ghost use Rattle.race_watch.specs.Told.{Accessed, Happened};
+ghost use Rattle.race_watch.specs.Rows.{AreBlank};
+ghost use Rattle.race_watch.specs.Stands.{Stands, AnswersBy, WasTold, WasToldNoMore};
+
+use crate::access::{first_race, is_settled, note};
+use crate::error::WatchError;
+use crate::first::Tested;
+use crate::known::{Row, learn_keys, tell_keys};
+use crate::seen::Seen;
+use crate::tables::Tables;
+use logical_clock::KeyName;
+use memory_map::Range;
+use run_events::Key;
+use std::alloc::{AllocError, Global};
+use std::collections::BTreeMap;
+use std::marker::Model;
+
+/// Rows of threads that know of no event.
+fn blank_rows(alloc: Global, threads: u8) -> Result<Vec<Row>, AllocError>
+    ensures { IfOk result (λ r. AreBlank threads r.items) }
+{
+    let mut rows = Vec::new(alloc);
+    for _row in 0..threads {
+        rows.push([0; 32])?;
+    }
+    Ok(rows)
+}
+
+/// What tells whether an access races with an earlier one.
+#[derive(Drop)]
+pub struct Watch {
+    /// How many events were made.
+    events: u32,
+    /// By thread, how many events it made, and how many of each thread it knows.
+    made: Vec<u32>,
+    rows: Vec<Row>,
+    /// By key, how many events of each thread the last event with the key tells of.
+    keys: BTreeMap<KeyName, Row>,
+    /// Accesses that leave the areas of replay code, and the epochs of all others.
+    seen: Vec<Seen>,
+    tables: Tables,
+}
+
+impl Model for Watch {
+    ghost use Rattle.race_watch.specs.State.{WatchState};
+    ghost use Rattle.race_watch.specs.Tables.{cells_of};
+
+    ghost Value = { WatchState };
+
+    ghost use Rattle.race_watch.specs.Stands.{Reached};
+    ghost use Rattle.race_watch.specs.Tables.{AreTables};
+    ghost use Rattle.std.specs.Prelude.{◌≡◌, length};
+
+    ghost view = { λ w. record { events = w.events; made = w.made.items; rows = w.rows.items; keys = w.keys.entries; seen = w.seen.items; epochs = cells_of w.tables } };
+
+    ghost invariant = { λ w. Reached (record { events = w.events; made = w.made.items; rows = w.rows.items; keys = w.keys.entries; seen = w.seen.items; epochs = cells_of w.tables }) × AreTables w.tables × (w.tables.threads ≡ length w.rows.items) };
+}
+
+impl Watch {
+    /// Before any event and access of so many threads.
+    pub fn new(alloc: Global, threads: u8) -> Result<Watch, AllocError>
+        requires { threads ≤ 32 }
+        ensures stands { IfOk result (λ w. Stands [] w) }
+        ensures events { IfOk result (λ w. w.events ≡ 0) }
+        ensures threads { IfOk result (λ w. length w.rows ≡ threads) }
+    {
+        let made = vec![in alloc; 0; threads as usize]?;
+        let rows = blank_rows(alloc, threads)?;
+        let tables = Tables::new(alloc, threads)?;
+        Ok(Watch {
+            events: 0,
+            made,
+            rows,
+            keys: BTreeMap::new(alloc),
+            seen: Vec::new(alloc),
+            tables,
+        })
+    }
+
+    /// Takes an access of the bytes of a range by the thread.
+    ///
+    /// `Race` exactly where it races with an earlier one; `Memory` where there is no memory. Both leave the watch as it
+    /// was.
+    pub fn access(&mut self, thread: u8, range: Range, write: bool) -> Result<(), WatchError>
+        requires { thread < length self.old.rows }
+        ensures answers { AnswersBy self.old thread range write result }
+        ensures told { OnOk result (WasTold (Accessed thread range write) self.old self.new) }
+        ensures unchanged { OnErr result (self.new ≡ self.old) }
+        ensures events { self.new.events ≡ self.old.events }
+        ensures threads { length self.new.rows ≡ length self.old.rows }
+    {
+        let place = self.made[thread as usize];
+        if is_settled(&self.tables, thread, range, write, place + 1) {
+            return Ok(());
+        }
+        let tested = Tested {
+            thread,
+            known: &self.rows[thread as usize],
+            range,
+            write,
+        };
+        if let Some((addr, other)) = first_race(&tested, &self.seen, &self.tables) {
+            return Err(WatchError::Race { other, addr });
+        }
+        let one = Seen {
+            thread,
+            place,
+            range,
+            write,
+        };
+        note(&mut self.seen, &mut self.tables, one)
+    }
+
+    /// Takes an event that the thread makes with these keys.
+    ///
+    /// `AllocError` where there is no memory; no event counts then.
+    pub fn event(&mut self, thread: u8, keys: &[Key]) -> Result<(), AllocError>
+        requires thread { thread < length self.old.rows }
+        requires few { self.old.events < 4000000000 }
+        ensures told { OnOk result (WasTold (Happened (occurrence thread keys.now)) self.old self.new) }
+        ensures unchanged { OnErr result (WasToldNoMore self.old self.new) }
+        ensures events { OnOk result (self.new.events ≡ self.old.events + 1) }
+        ensures threads { length self.new.rows ≡ length self.old.rows }
+    {
+        let mut row = self.rows[thread as usize];
+        learn_keys(&mut self.keys, &mut row, keys)?;
+        let index = self.made[thread as usize];
+        row[thread as usize] = row[thread as usize].max(index + 1);
+        tell_keys(&mut self.keys, keys, &row);
+        self.rows[thread as usize] = row;
+        self.made[thread as usize] = index + 1;
+        self.events += 1;
+        Ok(())
+    }
+}

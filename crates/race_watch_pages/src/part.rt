@@ -1,0 +1,42 @@
+//! Some cells of one page.
+
+ghost use Rattle.std.specs.Prelude.{◌≡◌, ℕ, ◌<◌, ◌≤◌, ◌&&◌, nat_le, nat_lt, cond, slice_index, length, IsTrue};
+
+/// Whether no number from the first place to before the last is above the bound.
+pub fn are_at_most(values: &[u32; 256], from: usize, to: usize, bound: u32) -> bool
+    requires order { from ≤ to }
+    requires within { to ≤ 256 }
+    ensures { IsTrue result → (k : ℕ) → from ≤ k → k < to → slice_index values.now k ≤ bound }
+{
+    for k in from..to {
+        if values[k] > bound {
+            return false;
+        }
+    }
+    true
+}
+
+/// Whether each number from the first place to before the last is this one.
+pub fn are_all(values: &[u32; 256], from: usize, to: usize, value: u32) -> bool
+    requires order { from ≤ to }
+    requires within { to ≤ 256 }
+    ensures { IsTrue result → (k : ℕ) → from ≤ k → k < to → slice_index values.now k ≡ value }
+{
+    for k in from..to {
+        if values[k] != value {
+            return false;
+        }
+    }
+    true
+}
+
+/// Puts a number at each place from the first to before the last.
+pub fn fill(values: &mut [u32], from: usize, to: usize, value: u32)
+    requires order { from ≤ to }
+    requires within { to ≤ length values.old }
+    ensures { (k : ℕ) → k < length values.old → slice_index values.new k ≡ cond (nat_le from k && nat_lt k to) value (slice_index values.old k) }
+{
+    for k in from..to {
+        values[k] = value;
+    }
+}
