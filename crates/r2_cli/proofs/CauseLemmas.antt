@@ -22,8 +22,8 @@ use Rattle.r2_cli_outcome.proofs.Consequences.{leaves_cause}
 use Rattle.r2_cli.specs.declared.help.TheConstants.{HELP, VERSION}
 use Rattle.r2_cli.specs.Source as source_stage
 use Rattle.r2_cli.specs.Source.{SourceOf, refused_for, source}
-use Rattle.r2_cli.specs.Words.{Form, help, version, order, check, IsForm, IsUsage, source_of, log_of, inputs_of}
-use Rattle.r2_cli.specs.Commands.{command, order_outcome, IsOutcome, OutcomeOf, no_form, formed}
+use Rattle.r2_cli.specs.Words.{Form, help, version, order, check, gen, IsForm, IsUsage, source_of, log_of, inputs_of}
+use Rattle.r2_cli.specs.Commands.{command, generated, order_outcome, IsOutcome, OutcomeOf, no_form, formed}
 use Rattle.r2_cli.specs.Causes as cause
 use Rattle.r2_cli.specs.Causes.{Cause, IsCaused, IsComplete, IsTooLong, ReadsLog, ReadsSource, long_log, long_source}
 
@@ -69,6 +69,7 @@ ends_command words held a b (order name) is =
 ends_command words held a b (check src cut) is =
     ends_then (Caused words held a b) (source (Of held) src cut) (λ accepted. Only (passed (printed Done (codes "typed\n") []))) (ends_source words held a b (check src cut) src cut is refl (inl refl))
     (λ accepted. ends_only (Caused words held a b) (printed Done (codes "typed\n") []))
+ends_command words held a b (gen rounds src sys) is = ends_only (Caused words held a b) (generated rounds src sys)
 
 of_same : (words : List (List ℕ)) (held : Contents) (a b : World) (o p : Outcome) → Only (passed p) (passed o) → Caused words held a b p → Caused words held a b o
 of_same words held a b o p e c = let same : o ≡ p = cc e in subst (λ (q : Outcome). Caused words held a b q) (sym same) c
@@ -90,6 +91,7 @@ done_command words held a b version o is h = of_same words held a b o (printed D
 done_command words held a b (order name) o is (on {a = part} h k) =
     of_same words held a b o (order_outcome part.whole part.events) k (ordered_cause words held a b name part part.whole is refl (part_there held name part h))
 done_command words held a b (check src cut) o is (on {a = accepted} h k) = of_same words held a b o (printed Done (codes "typed\n") []) k (checked_cause words held a b src cut accepted is h)
+done_command words held a b (gen rounds src sys) o is h = of_same words held a b o (generated rounds src sys) h (cause.done (gen rounds src sys) is tt)
 
 comes_cause : (words : List (List ℕ)) (held : Contents) (a b : World) (form : Form) (o : Outcome) → IsForm words form → Comes (command (Of held) form) o → Caused words held a b o
 comes_cause words held a b form o is (done h) = done_command words held a b form o is h

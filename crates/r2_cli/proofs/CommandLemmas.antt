@@ -1,12 +1,12 @@
 -- Each command decides one outcome, reads its inputs alone, and writes its outputs alone.
-use Rattle.std.proofs.Common.{◌≡◌, ◌∷◌, [], ◌++◌, ℕ, List, Bool, true, false, Option, codes, sym, ◌∙◌, refl, subst}
+use Rattle.std.proofs.Common.{◌≡◌, inl, inr, ◌∷◌, [], ◌++◌, ℕ, List, Bool, true, false, Option, codes, sym, ◌∙◌, refl, subst}
 use Rattle.front_end.specs.declared.error.SourceError.{SourceError}
 use Rattle.front_end.specs.declared.error.SourceError.TheVariants as errors
 use Rattle.log_closure.specs.Events.{Part, In}
 use Rattle.r2_base.specs.Seen.{Contents, Store, OnlyReads}
 use Rattle.r2_cli_outcome.specs.declared.plan.Plan.{Plan}
 use Rattle.r2_cli_outcome.specs.declared.status.Status.TheVariants.{Done, Usage, Short}
-use Rattle.r2_cli_outcome.specs.Outcome.{Outcome, Write, out, file, printed, refusal}
+use Rattle.r2_cli_outcome.specs.Outcome.{Outcome, Target, Write, out, file, printed, refusal}
 use Rattle.r2_cli_outcome.specs.Reading.{Reading, Of, Sees}
 use Rattle.r2_cli_outcome.specs.Stages.{Answer, Then, Only, Comes, passed, ended, on, stop, done, refused}
 use Rattle.r2_cli_outcome.specs.Input as input
@@ -17,12 +17,14 @@ use Rattle.r2_cli_outcome.proofs.Decided.{IsOne, EndsIn, one_then, one_only, one
 use Rattle.r2_cli_outcome.proofs.OneLog.{one_log}
 use Rattle.r2_cli_outcome.proofs.Named.{has, has_first, ReadsOnly, IsNamed, reads_input, reads_both, named_input, named_last, named_comes, named_contents, named_none}
 use Rattle.r2_cli_outcome.proofs.Consequences.{Avoids}
+use Rattle.generated_files.specs.Source.{source_text}
+use Rattle.generated_files.specs.declared.texts.TheConstants.{SYSTEM}
 use Rattle.r2_cli.specs.declared.help.TheConstants.{HELP, VERSION}
 use Rattle.r2_cli.specs.Source as source_stage
 use Rattle.r2_cli.specs.Source.{SourceOf, refused_for, source}
-use Rattle.r2_cli.specs.Words.{Form, help, version, order, check, IsForm, IsUsage, inputs_of, outputs_of}
+use Rattle.r2_cli.specs.Words.{Form, help, version, order, check, gen, IsForm, IsUsage, inputs_of, outputs_of}
 use Rattle.r2_cli.specs.Commands as outcomes
-use Rattle.r2_cli.specs.Commands.{command, order_outcome, IsOutcome, OutcomeOf, SameOutcome, no_form, formed}
+use Rattle.r2_cli.specs.Commands.{command, generated, order_outcome, IsOutcome, OutcomeOf, SameOutcome, no_form, formed}
 use Rattle.r2_cli.proofs.FormLemmas.{one_form, in_has, has_in}
 use Rattle.r2_cli.proofs.SourceLemmas.{self, one_source}
 
@@ -35,6 +37,7 @@ one_command held (order name) =
     one_then SameOutcome (log (Of held) name) (λ part. Only (passed (order_outcome part.whole part.events))) (one_log SameOutcome self held name) (λ part. one_only SameOutcome (order_outcome part.whole part.events))
 one_command held (check src cut) =
     one_then SameOutcome (source (Of held) src cut) (λ accepted. Only (passed (printed Done (codes "typed\n") []))) (one_source held src cut) (λ accepted. one_only SameOutcome (printed Done (codes "typed\n") []))
+one_command held (gen rounds src sys) = one_only SameOutcome (generated rounds src sys)
 
 pub one_outcome : (words : List (List ℕ)) (held : Contents) (o p : Outcome) → IsOutcome (Of held) words o → IsOutcome (Of held) words p → SameOutcome o p
 one_outcome words held o p (no_form u) (no_form v) = outcomes.same
@@ -58,6 +61,7 @@ reads_command (order name) =
     reads_both (name ∷ []) (λ reading. log reading name) (λ reading part. Only (passed (order_outcome part.whole part.events))) (reads_log (name ∷ []) name (has_first name [])) (λ part s t f ans h. h)
 reads_command (check src cut) =
     reads_both (src ∷ []) (λ reading. source reading src cut) (λ reading accepted. Only (passed (printed Done (codes "typed\n") []))) (reads_source (src ∷ []) src cut (has_first src [])) (λ accepted s t f ans h. h)
+reads_command (gen rounds src sys) = λ s t f ans h. h
 
 comes_by : (form : Form) (s t : Reading) → ((n : List ℕ) (x : Option (List ℕ)) → has (inputs_of form) n ≡ true → s n x → t n x) → (o : Outcome) → Comes (command s form) o → Comes (command t form) o
 comes_by form s t f o (done h) = done (reads_command form s t f (passed o) h)
@@ -84,6 +88,7 @@ named_command files (order name) ans h =
     named_last (name ∷ []) files (λ reading. log reading name) (λ part. Only (passed (order_outcome part.whole part.events))) ans (named_log files name) h
 named_command files (check src cut) ans h =
     named_last (src ∷ []) files (λ reading. source reading src cut) (λ accepted. Only (passed (printed Done (codes "typed\n") []))) ans (named_source files src cut) h
+named_command files (gen rounds src sys) ans h = named_none files (λ held. command (Of held) (gen rounds src sys) ans) (λ held. h)
 
 pub of_contents : (files : Store) (words : List (List ℕ)) (o : Outcome) → IsOutcome (Sees files) words o → OutcomeOf files words o
 of_contents files words o (no_form u) = (files.holds, λ told n. refl, no_form u)
@@ -101,11 +106,16 @@ order_avoids n false part = (λ (e : out ≡ file n). cc, tt)
 print_avoids : (n : List ℕ) (o p : Outcome) → Only (passed p) (passed o) → Avoids n p.writes → Avoids n o.writes
 print_avoids n o p e a = let same : o ≡ p = cc e in subst (λ (q : Outcome). Avoids n q.writes) (sym same) a
 
+-- a name that is none of two isn't written to
+two_avoid : (n rounds_text system src sys : List ℕ) → (In n (src ∷ sys ∷ []) → ⊥) → Avoids n (record { to = file src; text = rounds_text } ∷ record { to = file sys; text = system } ∷ [])
+two_avoid n rounds_text system src sys f = ((λ (e : file src ≡ file n). f (inl (let same : n ≡ src = cc e in same))), ((λ (e : file sys ≡ file n). f (inr (inl (let same : n ≡ sys = cc e in same)))), tt))
+
 done_avoids : (n : List ℕ) (reading : Reading) (form : Form) (o : Outcome) → (In n (outputs_of form) → ⊥) → command reading form (passed o) → Avoids n o.writes
 done_avoids n reading help o f h = print_avoids n o (printed Done HELP.now []) h (λ (e : out ≡ file n). cc, tt)
 done_avoids n reading version o f h = print_avoids n o (printed Done VERSION.now []) h (λ (e : out ≡ file n). cc, tt)
 done_avoids n reading (order name) o f (on {a = part} h k) = print_avoids n o (order_outcome part.whole part.events) k (order_avoids n part.whole part)
 done_avoids n reading (check src cut) o f (on {a = accepted} h k) = print_avoids n o (printed Done (codes "typed\n") []) k (λ (e : out ≡ file n). cc, tt)
+done_avoids n reading (gen rounds src sys) o f h = print_avoids n o (generated rounds src sys) h (two_avoid n (source_text rounds) SYSTEM.now src sys f)
 
 input_avoids : (n : List ℕ) (reading : Reading) (name word : List ℕ) (most : ℕ) → EndsIn (λ o. Avoids n o.writes) (Input reading name word most)
 input_avoids n reading name word most o (input.missing h) = tt
@@ -140,6 +150,7 @@ ended_avoids n reading (order name) =
 ended_avoids n reading (check src cut) =
     ends_then (λ o. Avoids n o.writes) (source reading src cut) (λ accepted. Only (passed (printed Done (codes "typed\n") []))) (source_avoids n reading src cut)
     (λ accepted. ends_only (λ o. Avoids n o.writes) (printed Done (codes "typed\n") []))
+ended_avoids n reading (gen rounds src sys) = ends_only (λ o. Avoids n o.writes) (generated rounds src sys)
 
 comes_avoids : (n : List ℕ) (reading : Reading) (form : Form) (o : Outcome) → (In n (outputs_of form) → ⊥) → Comes (command reading form) o → Avoids n o.writes
 comes_avoids n reading form o f (done h) = done_avoids n reading form o f h

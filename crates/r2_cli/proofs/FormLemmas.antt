@@ -1,46 +1,52 @@
 -- Words have one form at most, and the names that a form reads.
-use Rattle.std.proofs.Common.{◌≡◌, ◌∷◌, [], ◌⊎◌, ◌||◌, inl, inr, ℕ, List, Option, Some, None, codes, sym, ◌∙◌, ap, refl, subst, cond, bytes_eq, IfNone, true, false, Bool}
+use Rattle.std.proofs.lemmas.Fmt.{decimal_is_IsNumeral}
+use Rattle.std.specs.Str.Parse.{digits_value}
+use Rattle.std.proofs.Common.{arith, ◌≡◌, ◌∷◌, [], ◌⊎◌, ◌||◌, inl, inr, ℕ, List, Option, Some, None, codes, sym, ◌∙◌, ap, refl, subst, cond, bytes_eq, IfNone, true, false, Bool}
 use Rattle.log_closure.specs.Events.{In}
 use Rattle.r2_cli_outcome.proofs.Named.{has, has_first, has_more, its_name, same_name}
 use Rattle.r2_cli.specs.declared.forms.Command.{Command}
 use Rattle.r2_cli.specs.Forms.{form_of}
-use Rattle.r2_cli.specs.Words.{Form, help, version, order, check, words_of, IsForm, IsUsage}
+use Rattle.r2_cli.specs.Words.{Form, help, version, order, check, gen, words_of, HasNames, IsForm, IsUsage}
 
 -- a command line is read back: one line a form, where a comparison of forms has one for each two
 read : List (List ℕ) → Option Form
 read (w ∷ []) = cond (bytes_eq w (codes "--help")) (Some help) (Some version)
 read (w ∷ a ∷ []) = Some (order a)
 read (w ∷ a ∷ b ∷ []) = Some (check a b)
+read (w ∷ a ∷ b ∷ d ∷ []) = Some (gen (digits_value 10 a) b d)
 read _ = None
 
-reads : (f : Form) → read (words_of f) ≡ Some f
+reads : (f : Form) → HasNames f → read (words_of f) ≡ Some f
 unfolding read
-reads help = refl
-reads version = refl
-reads (order a) = refl
-reads (check a b) = refl
+reads help h = refl
+reads version h = refl
+reads (order a) h = refl
+reads (check a b) h = refl
+reads (gen n a b) h = ap (λ m. Some (gen m a b)) (decimal_is_IsNumeral n (omega (arith, h.few))).1
 
-same_words : (f g : Form) → words_of f ≡ words_of g → f ≡ g
-same_words f g e = let d : Some f ≡ Some g = sym (reads f) ∙ ap read e ∙ reads g in cc
+same_words : (f g : Form) → HasNames f → HasNames g → words_of f ≡ words_of g → f ≡ g
+same_words f g p q e = let d : Some f ≡ Some g = sym (reads f p) ∙ ap read e ∙ reads g q in cc
 
 pub one_form : (words : List (List ℕ)) (f g : Form) → IsForm words f → IsForm words g → f ≡ g
-one_form words f g p q = same_words f g (sym p.0 ∙ q.0)
+one_form words f g p q = same_words f g p.1 q.1 (sym p.0 ∙ q.0)
 
 -- the form of words from which a command was read
 pub is_form_of : (words : List (List ℕ)) (c d : Command) (form : Form) → IsForm words (form_of c) → c ≡ d → form_of d ≡ form → IsForm words form
 is_form_of words c d form is e same = subst (IsForm words) (ap form_of e ∙ same) is
 
 -- words that have none of the forms, form by form
-no_form_of : (words : List (List ℕ)) → (IsForm words help → ⊥) → (IsForm words version → ⊥) → ((log : List ℕ) → IsForm words (order log) → ⊥) → ((src cut : List ℕ) → IsForm words (check src cut) → ⊥) → IsUsage words
-no_form_of words a b d e help is = a is
-no_form_of words a b d e version is = b is
-no_form_of words a b d e (order log) is = d log is
-no_form_of words a b d e (check src cut) is = e src cut is
+no_form_of : (words : List (List ℕ)) → (IsForm words help → ⊥) → (IsForm words version → ⊥) → ((log : List ℕ) → IsForm words (order log) → ⊥) → ((src cut : List ℕ) → IsForm words (check src cut) → ⊥)
+    → ((n : ℕ) (src sys : List ℕ) → IsForm words (gen n src sys) → ⊥) → IsUsage words
+no_form_of words a b d e f help is = a is
+no_form_of words a b d e f version is = b is
+no_form_of words a b d e f (order log) is = d log is
+no_form_of words a b d e f (check src cut) is = e src cut is
+no_form_of words a b d e f (gen n src sys) is = f n src sys is
 
 pub is_usage : {T : Type 0} (words : List (List ℕ)) (result : Option T) → (IsForm words help → ⊥) → (IsForm words version → ⊥) → ((log : List ℕ) → IsForm words (order log) → ⊥)
-    → IfNone result ((src cut : List ℕ) → IsForm words (check src cut) → ⊥) → IfNone result (IsUsage words)
-is_usage words None a b d e = no_form_of words a b d e
-is_usage words (Some x) a b d e = tt
+    → ((src cut : List ℕ) → IsForm words (check src cut) → ⊥) → IfNone result ((n : ℕ) (src sys : List ℕ) → IsForm words (gen n src sys) → ⊥) → IfNone result (IsUsage words)
+is_usage words None a b d e f = no_form_of words a b d e f
+is_usage words (Some x) a b d e f = tt
 
 -- a name among these
 pub in_has : (names : List (List ℕ)) (n : List ℕ) → In n names → has names n ≡ true

@@ -4,3 +4,4 @@ pub mod SourceLemmas
 pub mod CommandLemmas
 pub mod CauseLemmas
 pub mod RunLemmas
+pub mod Rounds

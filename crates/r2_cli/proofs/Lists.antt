@@ -2,6 +2,7 @@
 use Rattle.std.proofs.Common.{◌≡◌, ◌≤◌, ◌<◌, ◌∷◌, [], ℕ, List, Bool, true, false, ◌==◌, map, length, get_or, sym, ◌∙◌, ap, refl, arith}
 use Rattle.std.specs.Str.{bytes_eq}
 use Rattle.std.proofs.lemmas.Slice.Eq.{bytes_eq-Decides}
+use Rattle.std.proofs.lemmas.Bool.{ne_eqb}
 
 pub one_item : {A : Type 0} (xs : List A) (x : A) → 1 ≤ length xs → length xs < 2 → x ≡ get_or xs 0 x → xs ≡ x ∷ []
 one_item [] x some few is = absurd (omega arith)
@@ -21,6 +22,15 @@ three_items (a ∷ b ∷ []) x y z some few is it at = absurd (omega arith)
 three_items (a ∷ b ∷ d ∷ []) x y z some few is it at = ap (λ w. w ∷ b ∷ d ∷ []) (sym is) ∙ ap (λ w. x ∷ w ∷ d ∷ []) (sym it) ∙ ap (λ w. x ∷ y ∷ w ∷ []) (sym at)
 three_items (a ∷ b ∷ d ∷ e ∷ es) x y z some few is it at = absurd (omega arith)
 
+pub four_items : {A : Type 0} (xs : List A) (x y z w : A) → 4 ≤ length xs → length xs < 5 → x ≡ get_or xs 0 x → y ≡ get_or xs 1 y → z ≡ get_or xs 2 z → w ≡ get_or xs 3 w → xs ≡ x ∷ y ∷ z ∷ w ∷ []
+four_items [] x y z w some few is it at last = absurd (omega arith)
+four_items (a ∷ []) x y z w some few is it at last = absurd (omega arith)
+four_items (a ∷ b ∷ []) x y z w some few is it at last = absurd (omega arith)
+four_items (a ∷ b ∷ d ∷ []) x y z w some few is it at last = absurd (omega arith)
+four_items (a ∷ b ∷ d ∷ e ∷ []) x y z w some few is it at last =
+    ap (λ k. k ∷ b ∷ d ∷ e ∷ []) (sym is) ∙ ap (λ k. x ∷ k ∷ d ∷ e ∷ []) (sym it) ∙ ap (λ k. x ∷ y ∷ k ∷ e ∷ []) (sym at) ∙ ap (λ k. x ∷ y ∷ z ∷ k ∷ []) (sym last)
+four_items (a ∷ b ∷ d ∷ e ∷ f ∷ fs) x y z w some few is it at last = absurd (omega arith)
+
 pub one_word : {A B : Type 0} (f : A → B) (xs : List A) (x : A) (w : B) → 1 ≤ length xs → length xs < 2 → x ≡ get_or xs 0 x → f x ≡ w → map f xs ≡ w ∷ []
 one_word f xs x w some few is e = ap (map f) (one_item xs x some few is) ∙ ap (λ z. z ∷ []) e
 
@@ -32,8 +42,17 @@ pub three_words : {A B : Type 0} (f : A → B) (xs : List A) (x y z : A) (w v u 
 three_words f xs x y z w v u some few is it at e d g = ap (map f) (three_items xs x y z some few is it at)
     ∙ ap (λ k. k ∷ f y ∷ f z ∷ []) e ∙ ap (λ k. w ∷ k ∷ f z ∷ []) d ∙ ap (λ k. w ∷ v ∷ k ∷ []) g
 
+pub four_words : {A B : Type 0} (f : A → B) (xs : List A) (x y z k : A) (w v u t : B) → 4 ≤ length xs → length xs < 5 → x ≡ get_or xs 0 x → y ≡ get_or xs 1 y → z ≡ get_or xs 2 z → k ≡ get_or xs 3 k
+    → f x ≡ w → f y ≡ v → f z ≡ u → f k ≡ t → map f xs ≡ w ∷ v ∷ u ∷ t ∷ []
+four_words f xs x y z k w v u t some few is it at last e d g h = ap (map f) (four_items xs x y z k some few is it at last)
+    ∙ ap (λ n. n ∷ f y ∷ f z ∷ f k ∷ []) e ∙ ap (λ n. w ∷ n ∷ f z ∷ f k ∷ []) d ∙ ap (λ n. w ∷ v ∷ n ∷ f k ∷ []) g ∙ ap (λ n. w ∷ v ∷ u ∷ n ∷ []) h
+
 pub same_bytes : (a b : List ℕ) → bytes_eq a b ≡ true → a ≡ b
 same_bytes a b e = (bytes_eq-Decides a b).0 e
+
+pub is_empty : (text : List ℕ) (test : Bool) → test ≡ (length text == 0) → test ≡ true → text ≡ []
+is_empty [] test is on = refl
+is_empty (b ∷ bs) test is on = absurd (let zero : false ≡ (length (b ∷ bs) == 0) = (let apart : (length (b ∷ bs) == 0) ≡ false = ne_eqb (length (b ∷ bs)) 0 (λ e. omega arith) in sym apart) in let both : true ≡ false = sym on ∙ is ∙ sym zero in cc)
 
 -- text that isn't empty
 pub not_empty : (text : List ℕ) (test : Bool) → test ≡ (length text == 0) → test ≡ false → text ≡ [] → ⊥

@@ -15,7 +15,7 @@ use Rattle.r2_cli_outcome.specs.Outcome.{Target}
 use Rattle.r2_cli_outcome.specs.Reading.{AreOf}
 use Rattle.r2_cli_outcome.specs.Left.{faults_at}
 use Rattle.r2_cli_outcome.specs.Log.{IsLogPart, IsBadLog}
-use Rattle.r2_cli.specs.Words.{Form, help, version, order, check, IsForm, IsUsage, source_of, log_of, inputs_of}
+use Rattle.r2_cli.specs.Words.{Form, help, version, order, check, gen, IsForm, IsUsage, source_of, log_of, inputs_of}
 
 -- the command reads a log of at most 67,108,864 bytes, and this is what it holds
 pub record ReadsLog (contents : Contents) (form : Form) (bytes : List ℕ) : Type 0 where
@@ -37,6 +37,7 @@ IsComplete contents help = Unit {0}
 IsComplete contents version = Unit {0}
 IsComplete contents (order log) = (bytes : List ℕ) × (part : Part) × ReadsLog contents (order log) bytes × IsLogPart bytes part × (part.whole ≡ true)
 IsComplete contents (check src cut) = (bytes : List ℕ) × ReadsSource contents (check src cut) bytes cut × IsRight bytes cut
+IsComplete contents (gen rounds src sys) = Unit {0}
 
 -- what an input file holds exceeds its limit
 pub data IsTooLong (contents : Contents) (form : Form) : Type 0 where

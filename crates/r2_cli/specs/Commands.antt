@@ -1,22 +1,32 @@
 -- The commands: each is its stages, one after the other, and what it then leaves. The order of the stages is that of refusals.
-use Rattle.std.specs.Prelude.{List, [], ℕ, codes, Bool, true, false, Option}
+use Rattle.std.specs.Prelude.{List, [], ◌∷◌, ℕ, codes, Bool, true, false, Option}
 use Rattle.log_closure.specs.Events.{LogEvent, Part}
 use Rattle.event_texts.specs.EventTexts.{order_text}
+use Rattle.generated_files.specs.Source.{source_text}
+use Rattle.generated_files.specs.declared.texts.TheConstants.{SYSTEM}
 use Rattle.front_end.specs.declared.error.SourceRule.TheVariants.{Token, Deep}
 use Rattle.r2_base.specs.Seen.{Contents, Store}
 use Rattle.r2_cli_outcome.specs.declared.status.Status.TheVariants.{Done, Usage, Source, Short}
-use Rattle.r2_cli_outcome.specs.Outcome.{Outcome, refusal, printed, line_of}
+use Rattle.r2_cli_outcome.specs.Outcome.{Outcome, file, refusal, printed, line_of}
 use Rattle.r2_cli_outcome.specs.Reading.{Reading, Of, AreOf}
 use Rattle.r2_cli_outcome.specs.Stages.{Stage, Only, Comes, passed, ◌>>=◌}
 use Rattle.r2_cli_outcome.specs.Log.{log}
 use Rattle.r2_cli.specs.declared.help.TheConstants.{HELP, VERSION}
 use Rattle.r2_cli.specs.Source.{source, source_words}
-use Rattle.r2_cli.specs.Words.{Form, help, version, order, check, IsForm, IsUsage}
+use Rattle.r2_cli.specs.Words.{Form, help, version, order, check, gen, IsForm, IsUsage}
 
 -- the events are printed, of a whole log or of one that is cut short
 abbrev pub order_outcome : Bool → List LogEvent → Outcome
 order_outcome true events = printed Done (order_text events) []
 order_outcome false events = printed Short (order_text events) (line_of (codes "short"))
+
+-- the source of a program with so many rounds is written, and then its system file
+abbrev pub generated : (rounds : ℕ) → (src sys : List ℕ) → Outcome
+generated rounds src sys = record {
+  status = Done;
+  writes = record { to = file src; text = source_text rounds } ∷ record { to = file sys; text = SYSTEM.now } ∷ [];
+  line = [];
+}
 
 abbrev pub command : Reading → Form → Stage Outcome
 command reading help = Only (passed (printed Done HELP.now []))
@@ -27,6 +37,7 @@ command reading (order name) = do
 command reading (check src cut) = do
   accepted ← source reading src cut
   Only (passed (printed Done (codes "typed\n") []))
+command reading (gen rounds src sys) = Only (passed (generated rounds src sys))
 
 -- the outcome of the words: that of the command whose form they have, or else Usage
 pub data IsOutcome (reading : List ℕ → Option (List ℕ) → Type 0) (words : List (List ℕ)) : Outcome → Type 0 where

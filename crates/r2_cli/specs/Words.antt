@@ -1,17 +1,18 @@
 -- The forms of the command line.
-use Rattle.std.specs.Prelude.{◌≡◌, ◌≢◌, List, [], ◌∷◌, ℕ, String, codes, map, string_bytes, Option, Some, None}
+use Rattle.std.specs.Prelude.{◌≡◌, ◌≢◌, ◌≤◌, List, [], ◌∷◌, ℕ, String, codes, decimal, map, string_bytes, Option, Some, None}
 use Rattle.std.specs.declared.alloc.Global.{Global}
 
 -- the words as lists of bytes
 abbrev pub texts_of : List (String Global) → List (List ℕ)
 texts_of words = map string_bytes words
 
--- a command with the names of its files, and of its cut
+-- a command with the names of its files and of its cut, or with its number of rounds
 pub data Form : Type 0 where
   help : Form
   version : Form
   order : (log : List ℕ) → Form
   check : (src cut : List ℕ) → Form
+  gen : (rounds : ℕ) → (src sys : List ℕ) → Form
 
 -- the command line, without the name of the program
 abbrev pub words_of : Form → List (List ℕ)
@@ -19,6 +20,15 @@ words_of help = codes "--help" ∷ []
 words_of version = codes "--version" ∷ []
 words_of (order log) = codes "order" ∷ log ∷ []
 words_of (check src cut) = codes "check" ∷ src ∷ cut ∷ []
+words_of (gen rounds src sys) = codes "gen" ∷ decimal rounds ∷ src ∷ sys ∷ []
+
+-- the two files of a generated program have names, and not the same one, and it makes 1 to 40,000 rounds
+pub record CanGenerate (rounds : ℕ) (src sys : List ℕ) : Type 0 where
+  pub some : 1 ≤ rounds
+  pub few : rounds ≤ 40000
+  pub source : src ≢ []
+  pub system : sys ≢ []
+  pub apart : src ≢ sys
 
 -- no name of a file is empty; any word is the name of a cut
 abbrev pub HasNames : Form → Type 0
@@ -26,6 +36,7 @@ HasNames help = Unit {0}
 HasNames version = Unit {0}
 HasNames (order log) = log ≢ []
 HasNames (check src cut) = src ≢ []
+HasNames (gen rounds src sys) = CanGenerate rounds src sys
 
 -- the words have the form
 abbrev pub IsForm : List (List ℕ) → Form → Type 0
@@ -41,6 +52,7 @@ source_of help = None
 source_of version = None
 source_of (order log) = None
 source_of (check src cut) = Some (src, cut)
+source_of (gen rounds src sys) = None
 
 -- the log that it reads
 abbrev pub log_of : Form → Option (List ℕ)
@@ -48,6 +60,7 @@ log_of help = None
 log_of version = None
 log_of (order log) = Some log
 log_of (check src cut) = None
+log_of (gen rounds src sys) = None
 
 -- all files that it reads, in their order
 abbrev pub inputs_of : Form → List (List ℕ)
@@ -55,6 +68,7 @@ inputs_of help = []
 inputs_of version = []
 inputs_of (order log) = log ∷ []
 inputs_of (check src cut) = src ∷ []
+inputs_of (gen rounds src sys) = []
 
 -- all files that it writes
 abbrev pub outputs_of : Form → List (List ℕ)
@@ -62,3 +76,4 @@ outputs_of help = []
 outputs_of version = []
 outputs_of (order log) = []
 outputs_of (check src cut) = []
+outputs_of (gen rounds src sys) = src ∷ sys ∷ []

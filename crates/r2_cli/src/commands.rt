@@ -1,21 +1,23 @@
 //! The commands, stage by stage. Nothing is written here.
 
-ghost use Rattle.std.specs.Prelude.{◌≡◌, [], IfOk};
+ghost use Rattle.std.specs.Prelude.{◌≡◌, [], ◌∷◌, map, IfOk};
 ghost use Rattle.r2_base.specs.Seen.{OnlyReads};
 ghost use Rattle.r2_cli_outcome.specs.declared.status.Status.TheVariants.{Done};
-ghost use Rattle.r2_cli_outcome.specs.Outcome.{printed};
+ghost use Rattle.r2_cli_outcome.specs.Outcome.{file, printed};
 ghost use Rattle.r2_cli_outcome.specs.Reading.{Sees};
 ghost use Rattle.r2_cli_outcome.specs.Stages.{Only, passed};
-ghost use Rattle.r2_cli_outcome.specs.Plans.{Answers, IsPlanned, outcome_of};
+ghost use Rattle.r2_cli_outcome.specs.Plans.{Answers, IsPlanned, outcome_of, write_of};
 ghost use Rattle.r2_cli.specs.Words.{texts_of, order, check};
-ghost use Rattle.r2_cli.specs.Commands.{command, order_outcome, IsOutcome};
+ghost use Rattle.generated_files.specs.Source.{source_text};
+ghost use Rattle.r2_cli.specs.Commands.{command, generated, order_outcome, IsOutcome};
 
 use crate::forms::{Command, command_of};
 use crate::help::{HELP, VERSION};
 use crate::source::source;
+use generated_files::SYSTEM;
 use log_closure::Closed;
 use r2_base::Files;
-use r2_cli_outcome::{End, Plan, Status, Text, line, log, print, refused};
+use r2_cli_outcome::{End, Plan, Status, Target, Text, Write, line, log, print, refused};
 use std::alloc::{AllocError, Global};
 
 /// The plan that prints the text.
@@ -67,6 +69,37 @@ fn check<F: Files>(alloc: Global, files: &mut F, src: &str, cut: &str) -> Result
     Ok(printed(alloc, "typed\n")?)
 }
 
+/// The two files of a generated program.
+fn two_files(alloc: Global, rounds: u32, src: &str, sys: &str) -> Result<Vec<Write>, AllocError>
+    ensures { IfOk result (λ ws. map write_of ws.items
+        ≡ record { to = file src.now; text = source_text rounds } ∷ record { to = file sys.now; text = SYSTEM.now } ∷ []) }
+{
+    let source = Write {
+        to: Target::File(String::from_str(alloc, src)?),
+        text: Text::Bytes(generated_files::source(alloc, rounds)?),
+    };
+    let system = Write {
+        to: Target::File(String::from_str(alloc, sys)?),
+        text: Text::Bytes(Vec::from_slice(alloc, SYSTEM.as_bytes())?),
+    };
+    let mut writes = Vec::new(alloc);
+    writes.push(source)?;
+    writes.push(system)?;
+    Ok(writes)
+}
+
+fn generate(alloc: Global, rounds: u32, src: &str, sys: &str) -> Result<Plan, End>
+    ensures { Answers outcome_of (Only (passed (generated rounds src.now sys.now))) 0 0 result }
+{
+    let writes = two_files(alloc, rounds, src, sys)?;
+    let line = Vec::new(alloc);
+    Ok(Plan {
+        status: Status::Done,
+        writes,
+        line,
+    })
+}
+
 /// What the words come to.
 pub fn planned<F: Files>(alloc: Global, words: &[String], files: &mut F) -> Result<Plan, End>
     ensures only { OnlyReads (F.seen files.old) (F.seen files.new) }
@@ -81,5 +114,10 @@ pub fn planned<F: Files>(alloc: Global, words: &[String], files: &mut F) -> Resu
         Command::Version => version(alloc),
         Command::Order { log } => order(alloc, files, log),
         Command::Check { source, cut } => check(alloc, files, source, cut),
+        Command::Generate {
+            rounds,
+            source,
+            system,
+        } => generate(alloc, rounds, source, system),
     }
 }

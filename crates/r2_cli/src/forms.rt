@@ -1,16 +1,31 @@
 //! The command line.
 
-ghost use Rattle.std.specs.Prelude.{◌≡◌, ℕ, List, IfNone, IfSome};
-ghost use Rattle.r2_cli.specs.Words.{texts_of, IsForm, IsUsage, help, version, order, check};
+ghost use Rattle.std.specs.Prelude.{◌≡◌, ◌≤◌, ℕ, List, IfNone, IfSome, decimal};
+ghost use Rattle.r2_cli.specs.Words.{texts_of, IsForm, IsUsage, CanGenerate, help, version, order, check, gen};
 ghost use Rattle.r2_cli.specs.Forms.{form_of};
+
+use r2_base::read_dec;
+
+/// The most rounds of a generated program.
+const MOST_ROUNDS: i128 = 40_000;
 
 /// A command with its words.
 #[derive(Clone, Copy)]
 pub enum Command<'a> {
     Help,
     Version,
-    Order { log: &'a str },
-    Check { source: &'a str, cut: &'a str },
+    Order {
+        log: &'a str,
+    },
+    Check {
+        source: &'a str,
+        cut: &'a str,
+    },
+    Generate {
+        rounds: u32,
+        source: &'a str,
+        system: &'a str,
+    },
 }
 
 fn help_form(words: &[String]) -> Option<Command<'_>>
@@ -60,6 +75,57 @@ fn check_form(words: &[String]) -> Option<Command<'_>>
     }
 }
 
+/// The number of rounds that a word spells.
+fn rounds_of(word: &str) -> Option<u32>
+    ensures some { IfSome result (λ n. word.now ≡ decimal n) }
+    ensures least { IfSome result (λ n. 1 ≤ n) }
+    ensures most { IfSome result (λ n. n ≤ 40000) }
+    ensures none { IfNone result ((n : ℕ) → 1 ≤ n → n ≤ 40000 → word.now ≡ decimal n → ⊥) }
+{
+    let number = read_dec(word.as_bytes())?;
+    if number < 1 {
+        return None;
+    }
+    if number > MOST_ROUNDS {
+        return None;
+    }
+    Some(number as u32)
+}
+
+/// The number of rounds, where the two names are names of two files.
+fn generated<'a>(rounds: &str, source: &'a str, system: &'a str) -> Option<Command<'a>>
+    ensures form { IfSome result (λ c. (n : ℕ) × (rounds.now ≡ decimal n) × (form_of c ≡ gen n source.now system.now) × CanGenerate n source.now system.now) }
+    ensures none { IfNone result ((n : ℕ) → rounds.now ≡ decimal n → CanGenerate n source.now system.now → ⊥) }
+{
+    if source.is_empty() {
+        return None;
+    }
+    if system.is_empty() {
+        return None;
+    }
+    if source == system {
+        return None;
+    }
+    let rounds = rounds_of(rounds)?;
+    Some(Command::Generate {
+        rounds,
+        source,
+        system,
+    })
+}
+
+fn generate_form(words: &[String]) -> Option<Command<'_>>
+    ensures form { IfSome result (λ c. IsForm (texts_of words.now) (form_of c)) }
+    ensures none { IfNone result ((n : ℕ) (src sys : List ℕ) → IsForm (texts_of words.now) (gen n src sys) → ⊥) }
+{
+    match words {
+        [word, rounds, source, system] if word.as_str() == "gen" => {
+            generated(rounds.as_str(), source.as_str(), system.as_str())
+        }
+        _ => None,
+    }
+}
+
 /// The command that the words say; None where they have none of the forms.
 pub fn command_of(words: &[String]) -> Option<Command<'_>>
     ensures form { IfSome result (λ c. IsForm (texts_of words.now) (form_of c)) }
@@ -74,5 +140,8 @@ pub fn command_of(words: &[String]) -> Option<Command<'_>>
     if let Some(command) = order_form(words) {
         return Some(command);
     }
-    check_form(words)
+    if let Some(command) = check_form(words) {
+        return Some(command);
+    }
+    generate_form(words)
 }

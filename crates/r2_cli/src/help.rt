@@ -6,6 +6,7 @@ r2 records, replays and reads the runs of programs that are cut at an interface.
 
   r2 order LOG       print the events of a log, sorted by clock and thread
   r2 check SRC CUT   check a C source, its annotations and a cut
+  r2 gen N SRC SYS   write a source of N rounds, 1 to 40000, and its system file
   r2 --help          print this text
   r2 --version       print the version
 

@@ -13,3 +13,7 @@ mod names;
 mod numbers;
 #[cfg(test)]
 mod outside;
+#[cfg(test)]
+mod scripts;
+#[cfg(test)]
+mod system;

@@ -1,6 +1,6 @@
 use Rattle.std.proofs.Common.{refl}
 use Rattle.r2_cli_outcome.proofs.StageLemmas.{plans, plans_refusal, read_nothing}
-use Rattle.r2_cli.specs.Words.{help, version, order, check}
+use Rattle.r2_cli.specs.Words.{help, version, order, check, gen}
 use Rattle.r2_cli.specs.Commands.{command, no_form, formed}
 use Rattle.r2_cli.proofs.FormLemmas.{is_form_of}
 use Rattle.r2_cli.proofs.commands.planned.Goals as goal
@@ -23,3 +23,8 @@ returns-in-Order-clause-planned g c =
 pub returns-in-Check-clause-planned : goal.returns-in-Check-clause-planned
 returns-in-Check-clause-planned g c =
     plans _ _ _ _ _ (λ o k. formed (check c.in-Check.source.now c.in-Check.cut.now) (is_form_of _ _ _ (check c.in-Check.source.now c.in-Check.cut.now) c.in-Some.ensures.form c.in-Check.is refl) k) c.check.ensures.answers
+
+pub returns-in-Generate-clause-planned : goal.returns-in-Generate-clause-planned
+returns-in-Generate-clause-planned g c =
+    plans _ _ _ _ _ (λ o k. formed (gen c.in-Generate.rounds c.in-Generate.source.now c.in-Generate.system.now)
+    (is_form_of _ _ _ (gen c.in-Generate.rounds c.in-Generate.source.now c.in-Generate.system.now) c.in-Some.ensures.form c.in-Generate.is refl) k) (read_nothing _ _ _ _ _ c.generate.ensures)

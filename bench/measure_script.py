@@ -1,0 +1,48 @@
+#!/usr/bin/env python3
+"""Runs `PROGRAM FILE` and `wc -l FILE` in turn over several system files of 1 MiB, and prints the time of the first over that of
+the second, each the best of its runs. What a program takes to start is part of both."""
+import os
+import sys
+
+from timing import timed
+
+MOST = 1 << 20
+
+
+def lines(line):
+    """As many of the line as a file holds."""
+    return line * (MOST // len(line))
+
+
+FILES = {
+    "one note": "#" * (MOST - 1) + "\n",
+    "empty lines": "\n" * MOST,
+    "notes": lines("# a note of some words, as a person writes them\n"),
+    "one schedule": "schedule" + " 0*7 1*5" * ((MOST - 9) // 8) + "\n",
+    "one schedule of threads": "schedule" + " 3" * ((MOST - 9) // 2) + "\n",
+    "answers without bytes": lines("answer read 0 -\n"),
+    "answers of 16 bytes": lines("answer read 16 000102030405060708090a0b0c0d0e0f\n"),
+    "one long answer": "answer read 1 " + "5a" * ((MOST - 15) // 2) + "\n",
+}
+
+
+def main():
+    program, scratch = sys.argv[1:]
+    printed = os.path.join(scratch, "printed")
+    for name, text in FILES.items():
+        file = os.path.join(scratch, "file.sys")
+        with open(file, "w", encoding="ascii") as out:
+            out.write(text)
+        words = {"read": [program, file], "wc": ["wc", "-l", file]}
+        best = dict.fromkeys(words, float("inf"))
+        for _ in range(21):
+            for word, command in words.items():
+                seconds, status, _ = timed(command, printed)
+                if status != 0:
+                    sys.exit(f"{command} ended with {status}")
+                best[word] = min(best[word], seconds)
+        ratio = best["read"] / best["wc"]
+        print(f"{name:24} read {best['read'] * 1e3:6.2f} ms  wc -l {best['wc'] * 1e3:6.2f} ms  ratio {ratio:5.2f}")
+
+
+main()

@@ -1,0 +1,43 @@
+//! A program to be timed: it reads a system file, whose name is its word, and prints how many turns and answers the file has,
+//! or the line that is wrong. It knows one function, `read`, which writes one region.
+#![tactic(auto)]
+
+use std::alloc::{AllocError, Global};
+use std::{env, fs, io};
+use sys_script_lines::{External, Externals, ScriptError, read_lines};
+
+/// How many bytes a file may have.
+const MOST_BYTES: usize = 1_048_576;
+
+/// What is printed of the bytes of a file.
+fn line(alloc: Global, bytes: &[u8]) -> Result<String, AllocError> {
+    if bytes.len() > MOST_BYTES {
+        return String::from_str(alloc, "too long");
+    }
+    let mut externals = Externals::new(alloc);
+    let read = External {
+        func: 16,
+        below: 2_147_483_648,
+        most: 2_147_483_647,
+        pieces: 1,
+    };
+    externals.add(b"read", read)?;
+    match read_lines(alloc, bytes, &externals) {
+        Ok(file) => {
+            let turns = file.schedule.as_slice().len();
+            let answers = file.answers.as_slice().len();
+            format!(in alloc; "turns {turns} answers {answers}")
+        }
+        Err(ScriptError::Line(number)) => format!(in alloc; "line {number}"),
+        Err(ScriptError::Memory) => Err(AllocError),
+    }
+}
+
+fn main(rt: HostRuntime) -> io::Result<()> {
+    for name in env::args(&rt)?.skip(1) {
+        let bytes = fs::read(&rt, name.as_str())?;
+        let line = line(rt.alloc(), &bytes)?;
+        println!(rt; "{line}")?;
+    }
+    Ok(())
+}

@@ -1,0 +1,6 @@
+pub mod Cuts
+pub mod Joined
+pub mod Hex
+pub mod Digits
+pub mod Names
+pub mod Steps

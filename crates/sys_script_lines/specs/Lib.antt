@@ -1,0 +1,10 @@
+pub mod Parts
+pub mod Each
+pub mod Numbers
+pub mod Pieces
+pub mod Turns
+pub mod Externals
+pub mod Answers
+pub mod Lines
+pub mod Scripts
+pub mod Says

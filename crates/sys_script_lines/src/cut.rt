@@ -1,0 +1,19 @@
+//! Texts with bytes that part them.
+
+ghost use Rattle.std.specs.Prelude.{◌≡◌, ◌∷◌, ◌+◌, ◌<◌, [], length, IfSome, IfNone};
+ghost use Rattle.sys_script_lines.specs.Parts.{cut_at, pair_of, parts};
+
+/// What stands before the first `end`, and what after it; `None` where there is none.
+pub(crate) fn cut(text: &[u8], end: u8) -> Option<(&[u8], &[u8])>
+    ensures cut { pair_of (λ x. x.now) result ≡ cut_at end text.now }
+    ensures parts { IfSome result (λ x. parts end text.now ≡ x.0.now ∷ parts end x.1.now) }
+    ensures last { IfNone result (parts end text.now ≡ text.now ∷ []) }
+    ensures shorter { IfSome result (λ x. length x.1.now < length text.now) }
+{
+    for (at, byte) in text.iter().enumerate() {
+        if *byte == end {
+            return Some((&text[..at], &text[at + 1..]));
+        }
+    }
+    None
+}

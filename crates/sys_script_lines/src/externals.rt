@@ -1,0 +1,72 @@
+//! The functions that a system file answers.
+
+ghost use Rattle.std.specs.Prelude.{◌≡◌, ℕ, List, [], None, Some, OnOk, OnErr, if◌then◌else◌};
+ghost use Rattle.std.specs.Option.{option_copied, option_or};
+ghost use Rattle.std.specs.Str.{bytes_eq};
+ghost use Rattle.sys_script_lines.specs.Externals.{external_named, only_named};
+
+use indexmap::IndexMap;
+use std::alloc::{AllocError, Global};
+use std::marker::Model;
+
+/// What an answer of a function looks like that has no body.
+#[derive(Clone, Copy)]
+pub struct External {
+    /// The number of the function.
+    pub func: u16,
+    /// How far below 0 its result may lie.
+    pub below: u64,
+    /// The greatest result.
+    pub most: u64,
+    /// How many pieces of bytes an answer has, one for each region that the function writes.
+    pub pieces: usize,
+}
+
+/// The functions without a body, by their names.
+#[derive(Drop)]
+pub struct Externals {
+    alloc: Global,
+    by_name: IndexMap<Vec<u8>, External>,
+}
+
+impl Model for Externals {
+    ghost use Rattle.std.specs.Prelude.{ℕ, List};
+    ghost use Rattle.sys_script_lines.specs.Externals.{texts};
+    ghost use Rattle.sys_script_lines.specs.declared.externals.External.{External};
+
+    ghost Value = { List (List ℕ × External) };
+
+    ghost view = { λ e. texts e.by_name.entries };
+}
+
+impl Externals {
+    /// No functions.
+    pub fn new(alloc: Global) -> Externals
+        ensures { result ≡ [] }
+    {
+        Externals {
+            alloc,
+            by_name: IndexMap::new(alloc),
+        }
+    }
+
+    /// Puts one more function in. A name that is there already keeps what it has.
+    pub fn add(&mut self, name: &[u8], external: External) -> Result<(), AllocError>
+        ensures added { OnOk result ((n : List ℕ) → external_named n self.new ≡ option_or (external_named n self.old) (only_named n name.now external)) }
+        ensures err { OnErr result (self.new ≡ self.old) }
+    {
+        if self.by_name.contains_key(name) {
+            return Ok(());
+        }
+        let name = Vec::from_slice(self.alloc, name)?;
+        self.by_name.insert(name, external)?;
+        Ok(())
+    }
+
+    /// The function of this name.
+    pub fn find(&self, name: &[u8]) -> Option<External>
+        ensures { result ≡ external_named name.now self.now }
+    {
+        self.by_name.get(name).copied()
+    }
+}

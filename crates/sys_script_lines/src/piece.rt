@@ -1,0 +1,79 @@
+//! Pieces of bytes.
+
+ghost use Rattle.std.specs.Prelude.{◌≡◌};
+ghost use Rattle.sys_script_lines.specs.Each.{each};
+ghost use Rattle.sys_script_lines.specs.Pieces.{hex_byte, hex_bytes, hex_digit, piece};
+ghost use Rattle.sys_script_lines.specs.Says.{Says};
+ghost use Rattle.sys_script_lines.specs.Parts.{parts};
+
+use crate::cut::cut;
+use crate::error::Wrong;
+use run_events::Bytes;
+use std::alloc::Global;
+
+/// The value of a hexadecimal digit in lower case.
+fn hex_digit(byte: u8) -> Option<u8>
+    ensures { result ≡ hex_digit byte }
+{
+    match byte {
+        b'0'..=b'9' => Some(byte - b'0'),
+        b'a'..=b'f' => Some(byte - b'a' + 10),
+        _ => None,
+    }
+}
+
+/// The byte that two digits spell, the high one first.
+fn hex_byte(high: u8, low: u8) -> Option<u8>
+    ensures { result ≡ hex_byte high low }
+{
+    let high = hex_digit(high)?;
+    let low = hex_digit(low)?;
+    Some(high * 16 + low)
+}
+
+/// The bytes that the digits spell, each by two of them.
+fn hex_bytes(alloc: Global, digits: &[u8]) -> Result<Vec<u8>, Wrong>
+    ensures { Says (λ v. v.items) result (hex_bytes digits.now) }
+{
+    let mut bytes = Vec::with_capacity(alloc, digits.len() / 2)?;
+    let mut rest = digits;
+    while let [high, low, after @ ..] = rest {
+        let Some(byte) = hex_byte(*high, *low) else {
+            return Err(Wrong::Text);
+        };
+        bytes.push(byte)?;
+        rest = after;
+    }
+    if rest.is_empty() {
+        Ok(bytes)
+    } else {
+        Err(Wrong::Text)
+    }
+}
+
+/// The bytes of one piece: hexadecimal digits, or `-` for none.
+fn piece(alloc: Global, word: &[u8]) -> Result<Vec<u8>, Wrong>
+    ensures { Says (λ v. v.items) result (piece word.now) }
+{
+    match word {
+        [] => Err(Wrong::Text),
+        [b'-'] => Ok(Vec::new(alloc)),
+        _ => hex_bytes(alloc, word),
+    }
+}
+
+/// The pieces of several words.
+pub(crate) fn pieces(alloc: Global, words: &[u8]) -> Result<Vec<Bytes>, Wrong>
+    ensures { Says (λ v. v.items) result (each piece (parts 32 words.now)) }
+{
+    let mut pieces = Vec::new(alloc);
+    let mut rest = words;
+    while let Some((word, after)) = cut(rest, b' ') {
+        let bytes = piece(alloc, word)?;
+        pieces.push(Bytes::from(bytes))?;
+        rest = after;
+    }
+    let bytes = piece(alloc, rest)?;
+    pieces.push(Bytes::from(bytes))?;
+    Ok(pieces)
+}

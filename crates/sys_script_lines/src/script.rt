@@ -1,0 +1,58 @@
+//! Whole files.
+
+ghost use Rattle.std.specs.Prelude.{◌≡◌, ◌≤◌, length};
+ghost use Rattle.sys_script_lines.specs.Externals.{named_in};
+ghost use Rattle.sys_script_lines.specs.Says.{Says};
+ghost use Rattle.sys_script_lines.specs.Scripts.{IsRead, after_line, script_of};
+
+use crate::cut::cut;
+use crate::error::{ScriptError, Wrong};
+use crate::externals::Externals;
+use crate::item::item_of;
+use crate::said::Said;
+use std::alloc::Global;
+use system_side::SysFile;
+
+// Takes what one more line says.
+fn take_line(
+    said: &mut Said,
+    alloc: Global,
+    externals: &Externals,
+    line: &[u8],
+) -> Result<(), Wrong>
+    ensures { Says (λ _. said.new) result (after_line (named_in externals.now) said.old line.now) }
+{
+    let item = item_of(alloc, externals, line)?;
+    said.hear(item)
+}
+
+/// The system file whose bytes these are, where these functions have no body.
+///
+/// `Line` is the number of the first line, from 1, that says nothing that it may say there; bytes after the last line end
+/// are such a line.
+pub fn read_lines(
+    alloc: Global,
+    bytes: &[u8],
+    externals: &Externals,
+) -> Result<SysFile, ScriptError>
+    requires { length bytes.now ≤ 1048576 }
+    ensures { IsRead (script_of (named_in externals.now) bytes.now) result }
+{
+    let mut said = Said::new(alloc);
+    let mut rest = bytes;
+    let mut number = 1;
+    while let Some((line, after)) = cut(rest, b'\n') {
+        match take_line(&mut said, alloc, externals, line) {
+            Ok(()) => {
+                rest = after;
+                number += 1;
+            }
+            Err(wrong) => return Err(wrong.at(number)),
+        }
+    }
+    if rest.is_empty() {
+        Ok(said.finish(alloc)?)
+    } else {
+        Err(ScriptError::Line(number))
+    }
+}
