@@ -4,7 +4,8 @@ use Rattle.std.proofs.lemmas.Bool.{and_parts}
 use Rattle.marks.specs.declared.side.Side.{Side}
 use Rattle.marks.specs.declared.side.Side.TheVariants.{Replay, System}
 use Rattle.marks.specs.declared.fault.FaultKind.TheVariants.{StackFull}
-use Rattle.marks.specs.Ranges.{Range, range}
+use Rattle.marks.specs.declared.range.Range.{Range}
+use Rattle.marks.specs.Ranges.{range}
 use Rattle.marks.specs.Marks.{Nowhere, EventKind, Call, Ret, Up, UpRet, Alloc, Free, Stop, Event, Act, Turn, Load, Store, Enter, Leave, Step, Fault, Made, Mark, side_of}
 use Rattle.marks.specs.Opens.{OpenCall, tail, frames_after, frames, calls_after, act_calls, open_calls, ups_after, act_ups, open_ups, is_stop_event, is_stop}
 use Rattle.marks.specs.Wants.{Want, Outside, Turns, Loads, Stores, Enters, Leaves, Allocs, Frees, Calls, Below, Gives, Returns, CallsBack, UpReturns, Steps, Fails, Answer, Go, Value, Frame, CalledBack, Stopped, answer_to, answer_if, stopped_if, event_answer, is_fault_of, is_fault_at_byte, same_numbers}

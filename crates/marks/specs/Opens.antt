@@ -1,6 +1,7 @@
 -- What is open in a thread, as looks back over its marks, the newest first.
 use Rattle.std.specs.Prelude.{ℕ, Bool, true, false, List, [], ◌∷◌, length}
-use Rattle.marks.specs.Ranges.{Range, range, piece_ranges}
+use Rattle.marks.specs.declared.range.Range.{Range}
+use Rattle.marks.specs.Ranges.{range, piece_ranges}
 use Rattle.marks.specs.Marks.{EventKind, Call, Ret, Up, UpRet, Alloc, Free, Stop, Act, Turn, Load, Store, Enter, Leave, Step, Fault, Made, Mark}
 
 abbrev pub tail : {A : Type 0} → List A → List A

@@ -3,7 +3,8 @@ use Rattle.std.proofs.Common.{◌≡◌, ℕ, Bool, true, false, ◌&&◌, ◌||
 use Rattle.std.specs.Prelude.{not}
 use Rattle.std.proofs.lemmas.Bool.Decides.{nat_tests}
 use Rattle.marks.specs.Places.{is_constant}
-use Rattle.marks.specs.Ranges.{Range, Piece, Prepared, range, in_range, any_range, any_piece, any_prepared, piece_ranges, prepared_ranges}
+use Rattle.marks.specs.declared.range.Range.{Range}
+use Rattle.marks.specs.Ranges.{Piece, Prepared, range, in_range, any_range, any_piece, any_prepared, piece_ranges, prepared_ranges}
 use Rattle.marks.specs.Marks.{Access, Nowhere, Reading, Writing, Freeing, EventKind, Call, Ret, Up, UpRet, Alloc, Free, Stop, Act, Turn, Load, Store, Enter, Leave, Step, Fault, Made, released}
 use Rattle.marks.specs.Bytes.{granted, event_reads, event_writes, access_reads, access_writes, reads, writes}
 use Rattle.memory_map.specs.Ranges.{covers}

@@ -4,7 +4,8 @@ use Rattle.run_events.specs.declared.key.Key.{Key}
 use Rattle.run_events.specs.declared.key.KeyMark.{KeyMark}
 use Rattle.causal_order.specs.Order.{Link, OfThread, OfKey, same_key, is_listed}
 use Rattle.marks.specs.Places.{is_constant}
-use Rattle.marks.specs.Ranges.{Range, in_range, any_range}
+use Rattle.marks.specs.declared.range.Range.{Range}
+use Rattle.marks.specs.Ranges.{in_range, any_range}
 use Rattle.marks.specs.Marks.{Event, Act, Turn, Load, Store, Enter, Leave, Step, Fault, Made, Mark, is_event}
 use Rattle.marks.specs.Bytes.{Byte, reads, writes, touches, late, late_event}
 use Rattle.marks.specs.Bytes as bytes

@@ -1,7 +1,8 @@
 -- What a watch is told of a run: of each mark its accesses and its event, in their order.
 use Rattle.std.specs.Prelude.{ℕ, Bool, true, false, cond, List, [], ◌∷◌, ◌++◌, map, length}
 use Rattle.run_events.specs.declared.key.KeyMark.{KeyMark}
-use Rattle.marks.specs.Ranges.{Range, range, piece_ranges, prepared_ranges}
+use Rattle.marks.specs.declared.range.Range.{Range}
+use Rattle.marks.specs.Ranges.{range, piece_ranges, prepared_ranges}
 use Rattle.marks.specs.Marks.{Access, Nowhere, Reading, Writing, Freeing, EventKind, Call, Ret, Up, UpRet, Alloc, Free, Stop, Event, Act, Turn, Load, Store, Enter, Leave, Step, Fault, Made, Mark, released}
 use Rattle.marks.specs.Bytes.{granted, late_event}
 use Rattle.logical_clock.specs.Events.{occurrence}
