@@ -33,7 +33,8 @@ abbrev pub builtin_note : Builtin → FunctionNotes
 builtin_note b = record { in_cut = in_interface b; annots = annots_of (builtin_params b); holds = [] }
 
 abbrev pub builtins_by_number : List Builtin
-builtins_by_number = builtins.Malloc ∷ builtins.Free ∷ builtins.Spawn ∷ builtins.Join ∷ builtins.Lock ∷ builtins.Unlock ∷ builtins.Print ∷ []
+builtins_by_number = builtins.Malloc ∷ builtins.Free ∷ builtins.Spawn ∷ builtins.Join ∷ builtins.Lock ∷
+    builtins.Unlock ∷ builtins.Print ∷ []
 
 -- what is said of them, by number
 abbrev pub builtin_notes : List FunctionNotes

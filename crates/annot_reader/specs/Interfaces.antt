@@ -19,7 +19,8 @@ use Rattle.annot_reader.specs.Reading.{AreMutexes, AreNoted}
 -- what is said of a function; None where no function has the number
 abbrev pub notes_at : Interface → (number : ℕ) → Option FunctionNotes
 notes_at i number =
-    if nat_lt number first_source_function then slice_get builtin_notes number else slice_get i.functions (number - first_source_function)
+    if nat_lt number first_source_function then slice_get builtin_notes number else slice_get i.functions
+    (number - first_source_function)
 
 abbrev pub face_of : FunctionNotes → Option Annots
 face_of v = if v.in_cut then Some v.annots else None
@@ -48,7 +49,8 @@ guard_at i place = option_and_then same_option (slice_get i.guards place)
 -- a builtin is in it as the table says, a function of the source where its first declaration names the cut
 abbrev pub is_face : (cut : List ℕ) → Annotated → (number : ℕ) → Bool
 is_face cut a number =
-    if nat_lt number first_source_function then option_map_or in_interface (slice_get builtins_by_number number) false
+    if nat_lt number first_source_function then option_map_or in_interface
+    (slice_get builtins_by_number number) false
     else option_map_or (in_cut cut) (slice_get a.functions (number - first_source_function)) false
 
 -- the same is said of a function
@@ -63,7 +65,8 @@ pub record IsRead (cut : List ℕ) (a : Annotated) (i : Interface) : Type 0 wher
   pub functions : AreNoted cut a.functions i.functions
   pub guards : AreMutexes a.guards i.guards
 
--- the interface of a cut that a declaration names; that none does; or the rule that is broken, with the offset of its node; of memory
+-- the interface of a cut that a declaration names; that none does; or the rule that is broken, with the
+-- offset of its node; of memory
 -- nothing is said
 abbrev pub IsInterface : (cut : List ℕ) → Checked Annotated → Result Interface InterfaceError → Type 0
 IsInterface cut c (Err Memory) = Unit {0}

@@ -16,9 +16,11 @@ use Rattle.c_types_environment.specs.States.{State}
 use Rattle.annot_reader.specs.declared.error.InterfaceError.{InterfaceError}
 use Rattle.annot_reader.specs.Interface.{Interface}
 
--- the tree is that of a source that keeps all rules of types and exceeds no limit; this is declared at its end, and these are its
+-- the tree is that of a source that keeps all rules of types and exceeds no limit; this is declared at its
+-- end, and these are its
 -- functions, by number less that of the first
-pub record IsTypedSource (N : Nodes) (s : State) (fs : List Function) (ds : Decls) (p : Program) : Type 0 where
+pub record IsTypedSource (N : Nodes) (s : State) (fs : List Function) (ds : Decls) (p : Program) :
+    Type 0 where
   pub holds : Holds N ds
   pub fits : FitsDecls ds
   pub typed : outcome ds ≡ Typed p

@@ -30,7 +30,8 @@ pub fn interface_of(
     cut: &[u8],
 ) -> Result<(Environment, Iface), InterfaceError>
     requires { IsSource tree.now env functions.now }
-    ensures interface { (ds : Decls) (p : Program) → IsTypedSource tree.now env functions.now ds p → IsInterface cut.now (annotations ds p) (interface_in result) }
+    ensures interface { (ds : Decls) (p : Program) → IsTypedSource tree.now env functions.now ds p →
+        IsInterface cut.now (annotations ds p) (interface_in result) }
     ensures kept { IfOk result (λ found. Stays env found.0) }
 {
     let headings = headings_of(alloc, &env, functions)?;

@@ -30,7 +30,10 @@ pub(crate) fn read(
 ) -> Result<Reading, AnnotationError>
     requires ids { AreDecls source.now.tree.now ids.now }
     requires numbers { All (IsHeading (declared_by env.old)) source.now.functions.now }
-    ensures agrees { (ds : Decls) (p : Program) → StandDecls source.now.tree.now ids.now ds → AreHeadings (declared_by env.old) source.now.functions.now p.functions → innermost (declared_by env.old).env.scopes ≡ p.names → Tells (IsReading source.now.cut.now) (all_noted (declared_by env.old).env p ds nothing_read) result }
+    ensures agrees { (ds : Decls) (p : Program) → StandDecls source.now.tree.now ids.now ds →
+        AreHeadings (declared_by env.old) source.now.functions.now p.functions →
+        innermost (declared_by env.old).env.scopes ≡ p.names →
+        Tells (IsReading source.now.cut.now) (all_noted (declared_by env.old).env p ds nothing_read) result }
     ensures kept { OnOk result (Stays (declared_by env.old) (declared_by env.new)) }
 {
     let mut reading = Reading::new(alloc);

@@ -39,7 +39,8 @@ fn heading(alloc: Global, env: &Environment, function: &Function) -> Result<Head
     requires inside { function.now.ty.0 < length env.now.table.types }
     requires ty { IsFunctionType (type_at env.now.table.types function.now.ty) }
     ensures number { IfOk result (IsHeading (declared_by env.now)) }
-    ensures function { IfOk result (λ h. IsHeadingOf (declared_by env.now) h (function_in env.now.table function.now)) }
+    ensures function { IfOk result (λ h. IsHeadingOf (declared_by env.now) h
+        (function_in env.now.table function.now)) }
 {
     let kind = kind_of(function);
     match env.table().types().get(function.ty) {
@@ -60,7 +61,8 @@ pub(crate) fn headings_of(
 ) -> Result<Vec<Heading>, AllocError>
     requires { All (IsTypedFunction env.now.table) functions.now }
     ensures numbers { IfOk result (λ v. All (IsHeading (declared_by env.now)) v.items) }
-    ensures functions { IfOk result (λ v. AreHeadings (declared_by env.now) v.items (map (function_in env.now.table) functions.now)) }
+    ensures functions { IfOk result (λ v. AreHeadings (declared_by env.now) v.items
+        (map (function_in env.now.table) functions.now)) }
 {
     let mut headings = Vec::new(alloc);
     for function in functions {

@@ -50,7 +50,9 @@ pub fn interface(
     source: &Source,
 ) -> Result<Iface, InterfaceError>
     requires { IsSource source.now.tree.now (declared_by env.old) source.now.functions.now }
-    ensures interface { (ds : Decls) (p : Program) → IsTyped source.now.tree.now (declared_by env.old) source.now.functions.now ds p → IsInterface source.now.cut.now (annotations ds p) result }
+    ensures interface { (ds : Decls) (p : Program) →
+        IsTyped source.now.tree.now (declared_by env.old) source.now.functions.now ds p →
+        IsInterface source.now.cut.now (annotations ds p) result }
     ensures kept { OnOk result (Stays (declared_by env.old) (declared_by env.new)) }
 {
     let reading = read(alloc, env, source, source.tree.top())?;

@@ -69,7 +69,12 @@ impl Reading {
     ) -> Result<(), AnnotationError>
         requires id { IsTypeName source.now.tree.now id }
         requires numbers { All (IsHeading (declared_by env.old)) source.now.functions.now }
-        ensures agrees { (d : Declaration) (fs : List Function) (a : Annotated) → StandsDecl source.now.tree.now id d → AreHeadings (declared_by env.old) source.now.functions.now fs → AreRead source.now.cut.now a self.old → Tells (λ b _. AreRead source.now.cut.now b self.new) (noted_function (declared_by env.old).env d place (function_at fs place) a) result }
+        ensures agrees { (d : Declaration) (fs : List Function) (a : Annotated) →
+            StandsDecl source.now.tree.now id d →
+            AreHeadings (declared_by env.old) source.now.functions.now fs →
+            AreRead source.now.cut.now a self.old →
+            Tells (λ b _. AreRead source.now.cut.now b self.new)
+            (noted_function (declared_by env.old).env d place (function_at fs place) a) result }
         ensures kept { OnOk result (Stays (declared_by env.old) (declared_by env.new)) }
     {
         let Some(heading) = source.function(place) else {
@@ -87,7 +92,8 @@ impl Reading {
     // What the declaration of a global says.
     fn global(&mut self, alloc: Global, tree: &Tree, id: DeclId) -> Result<(), AnnotationError>
         requires { IsDecl tree.now id }
-        ensures { (d : Declaration) (cut : List ℕ) (a : Annotated) → StandsDecl tree.now id d → AreRead cut a self.old → Tells (λ b _. AreRead cut b self.new) (noted_global d a) result }
+        ensures { (d : Declaration) (cut : List ℕ) (a : Annotated) → StandsDecl tree.now id d →
+            AreRead cut a self.old → Tells (λ b _. AreRead cut b self.new) (noted_global d a) result }
     {
         let guard = global_notes(alloc, tree, id)?;
         append(&mut self.guards, guard)?;
@@ -105,7 +111,12 @@ impl Reading {
     ) -> Result<(), AnnotationError>
         requires id { IsTypeName source.now.tree.now id }
         requires numbers { All (IsHeading (declared_by env.old)) source.now.functions.now }
-        ensures agrees { (d : Declaration) (p : Program) (m : Option Meaning) (a : Annotated) → StandsDecl source.now.tree.now id d → AreHeadings (declared_by env.old) source.now.functions.now p.functions → number ≡ function_in m → AreRead source.now.cut.now a self.old → Tells (λ b _. AreRead source.now.cut.now b self.new) (noted_name (declared_by env.old).env p d m a) result }
+        ensures agrees { (d : Declaration) (p : Program) (m : Option Meaning) (a : Annotated) →
+            StandsDecl source.now.tree.now id d →
+            AreHeadings (declared_by env.old) source.now.functions.now p.functions →
+            number ≡ function_in m → AreRead source.now.cut.now a self.old →
+            Tells (λ b _. AreRead source.now.cut.now b self.new)
+            (noted_name (declared_by env.old).env p d m a) result }
         ensures kept { OnOk result (Stays (declared_by env.old) (declared_by env.new)) }
     {
         let Some(number) = number else {
@@ -125,7 +136,12 @@ impl Reading {
     ) -> Result<(), AnnotationError>
         requires id { IsTypeName source.now.tree.now id }
         requires numbers { All (IsHeading (declared_by env.old)) source.now.functions.now }
-        ensures agrees { (d : Declaration) (p : Program) (a : Annotated) → StandsDecl source.now.tree.now id d → AreHeadings (declared_by env.old) source.now.functions.now p.functions → innermost (declared_by env.old).env.scopes ≡ p.names → AreRead source.now.cut.now a self.old → Tells (λ b _. AreRead source.now.cut.now b self.new) (noted (declared_by env.old).env p d a) result }
+        ensures agrees { (d : Declaration) (p : Program) (a : Annotated) →
+            StandsDecl source.now.tree.now id d →
+            AreHeadings (declared_by env.old) source.now.functions.now p.functions →
+            innermost (declared_by env.old).env.scopes ≡ p.names → AreRead source.now.cut.now a self.old →
+            Tells (λ b _. AreRead source.now.cut.now b self.new) (noted (declared_by env.old).env p d a)
+            result }
         ensures kept { OnOk result (Stays (declared_by env.old) (declared_by env.new)) }
     {
         let decl = decl_node(source.tree, id);

@@ -36,7 +36,8 @@ AreDecls N is = (ds : Decls) × StandDecls N is ds × FitsDecls ds
 abbrev pub AreTypes : Declared → List TypeId → Type 0
 AreTypes d ids = All (IsBelow (length d.types)) ids
 
--- what is declared is as it was but for the names of the innermost scope, and numbers stand for what they did
+-- what is declared is as it was but for the names of the innermost scope, and numbers stand for what they
+-- did
 pub record StaysAround (old new : Declared) : Type 0 where
   pub tags : new.env.tags ≡ old.env.tags
   pub structs : new.env.structs ≡ old.env.structs

@@ -1,4 +1,5 @@
--- Sorts of types, and parameters with their names and sorts. `structs` has the sizes and alignments of the structs that are defined.
+-- Sorts of types, and parameters with their names and sorts. `structs` has the sizes and alignments of the
+-- structs that are defined.
 use Rattle.std.specs.Prelude.{◌≡◌, ℕ, Bool, true, false, List, [], ◌∷◌, Option, Some, None}
 use Rattle.std.specs.Option.{option_copied, option_map}
 use Rattle.c_types_model.specs.Types.{CType, Integer, PointerTo, FunctionOf}

@@ -13,7 +13,8 @@ abbrev pub cache_word : (from : ℕ) → Items → Notes → Checked Notes
 cache_word from is n = alone from is n.cache >> Fine (record n { cache = true })
 
 -- by its word
-abbrev pub noted_by : Option FunctionWord → (from : ℕ) → Items → Signature → FunctionKind → Notes → Checked Notes
+abbrev pub noted_by : Option FunctionWord → (from : ℕ) → Items → Signature → FunctionKind → Notes →
+    Checked Notes
 noted_by (Some words.Cut) from is s k n = cut_word from is k n
 noted_by (Some words.Sync) from is s k n = sync_word from is s n
 noted_by (Some words.Commit) from is s k n = commit_word from is s n

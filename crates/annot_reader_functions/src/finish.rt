@@ -25,7 +25,8 @@ pub(crate) fn notes_of(
     said: Said,
     params: Vec<Param>,
 ) -> Result<FunctionNotes, AllocError>
-    ensures { (cut : List ℕ) (n : Notes) (ps : List Parameter) → IsSaid cut said n → AreRead ps params.items → IfOk result (IsNoted cut (record n { params = ps })) }
+    ensures { (cut : List ℕ) (n : Notes) (ps : List Parameter) → IsSaid cut said n →
+        AreRead ps params.items → IfOk result (IsNoted cut (record n { params = ps })) }
 {
     let holds = as_ints(alloc, said.holds.as_slice())?;
     Ok(FunctionNotes {

@@ -55,7 +55,9 @@ fn heading(
 ) -> Result<Said, AnnotationError>
     requires few { length subject.now.signature.now.params.items ≤ 256 }
     requires id { IsTypeName tree.now id }
-    ensures agrees { (d : Declaration) (s : Known) → StandsDecl tree.now id d → IsKnown subject.now.signature.now (declared_by env.old).env s → Tells (AreSaid subject.now.cut.now) (heading_of s (kind_in subject.now.kind) d) result }
+    ensures agrees { (d : Declaration) (s : Known) → StandsDecl tree.now id d →
+        IsKnown subject.now.signature.now (declared_by env.old).env s →
+        Tells (AreSaid subject.now.cut.now) (heading_of s (kind_in subject.now.kind) d) result }
     ensures kept { Stays (declared_by env.old) (declared_by env.new) }
 {
     let decl = decl_node(tree, id);
@@ -79,7 +81,10 @@ fn in_scope(
     requires ids { AreDecls tree.now ids.now }
     requires types { AreTypes (declared_by env.old) types.now }
     requires count { length types.now ≤ 256 }
-    ensures agrees { (ds : Decls) (s : Known) → StandDecls tree.now ids.now ds → IsKnown signature.now (declared_by env.old).env s → Tells (λ ps v. AreRead ps v.items) (all_by_rules ds (within s (inner s.env)) 0 (all_at (declared_by env.old).types types.now)) result }
+    ensures agrees { (ds : Decls) (s : Known) → StandDecls tree.now ids.now ds →
+        IsKnown signature.now (declared_by env.old).env s →
+        Tells (λ ps v. AreRead ps v.items) (all_by_rules ds (within s (inner s.env)) 0
+        (all_at (declared_by env.old).types types.now)) result }
     ensures kept { OnOk result (Stays (declared_by env.old) (declared_by env.new)) }
 {
     env.open_scope()?;
@@ -105,7 +110,10 @@ pub fn function_notes(
     requires params { AreTypes (declared_by env.old) prototype.now.params.now }
     // A function has few parameters.
     requires count { length prototype.now.params.now ≤ 256 }
-    ensures agrees { (d : Declaration) → StandsDecl tree.now id d → Tells (IsNoted cut.now) (function_by_rules (declared_by env.old).env (kind_in prototype.now.kind) d (at (declared_by env.old).types prototype.now.result) (all_at (declared_by env.old).types prototype.now.params.now)) result }
+    ensures agrees { (d : Declaration) → StandsDecl tree.now id d →
+        Tells (IsNoted cut.now) (function_by_rules (declared_by env.old).env (kind_in prototype.now.kind) d
+        (at (declared_by env.old).types prototype.now.result)
+        (all_at (declared_by env.old).types prototype.now.params.now)) result }
     ensures kept { OnOk result (Stays (declared_by env.old) (declared_by env.new)) }
 {
     bare_outside(alloc, tree, id)?;

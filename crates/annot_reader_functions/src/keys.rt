@@ -17,7 +17,8 @@ use c_syntax::{Atom, Item};
 /// The place of the parameter that an item names, an integer or a pointer, whose value is a key.
 pub fn key_parameter(signature: &Signature, item: &Item) -> Result<u8, AnnotationError>
     requires few { length signature.now.params.items ≤ 256 }
-    ensures { (N : Nodes) (structs : List Extent) (x : Factors) (s : Known) → StandsItem N item.now x → AreNamed structs signature.now.params.items s.params → Tells IsSame (key_parameter_of s x) result }
+    ensures { (N : Nodes) (structs : List Extent) (x : Factors) (s : Known) → StandsItem N item.now x →
+        AreNamed structs signature.now.params.items s.params → Tells IsSame (key_parameter_of s x) result }
 {
     let (Atom::Name(name), None) = (&item.a, &item.b) else {
         return Err(AnnotationError::Rule(item.from, 7));

@@ -31,7 +31,11 @@ fn note(
 ) -> Result<(), AnnotationError>
     requires few { length subject.now.signature.now.params.items ≤ 256 }
     requires items { AreItems tree.now annot.now.items }
-    ensures agrees { (x : Annotated) (s : Known) (n : Notes) → StandsAnnot tree.now annot.now x → IsKnown subject.now.signature.now (declared_by env.old).env s → IsSaid subject.now.cut.now said.old n → Tells (λ m _. IsSaid subject.now.cut.now said.new m) (noted x s (kind_in subject.now.kind) n) result }
+    ensures agrees { (x : Annotated) (s : Known) (n : Notes) → StandsAnnot tree.now annot.now x →
+        IsKnown subject.now.signature.now (declared_by env.old).env s →
+        IsSaid subject.now.cut.now said.old n →
+        Tells (λ m _. IsSaid subject.now.cut.now said.new m) (noted x s (kind_in subject.now.kind) n)
+        result }
     ensures kept { Stays (declared_by env.old) (declared_by env.new) }
 {
     match FunctionWord::of(annot.name.as_slice()) {
@@ -55,7 +59,9 @@ pub(crate) fn said_of(
 ) -> Result<Said, AnnotationError>
     requires few { length subject.now.signature.now.params.items ≤ 256 }
     requires annots { AreAnnots tree.now annots.now }
-    ensures agrees { (an : Annots) (s : Known) → StandAnnots tree.now annots.now an → IsKnown subject.now.signature.now (declared_by env.old).env s → Tells (AreSaid subject.now.cut.now) (all_noted an s (kind_in subject.now.kind) nothing) result }
+    ensures agrees { (an : Annots) (s : Known) → StandAnnots tree.now annots.now an →
+        IsKnown subject.now.signature.now (declared_by env.old).env s →
+        Tells (AreSaid subject.now.cut.now) (all_noted an s (kind_in subject.now.kind) nothing) result }
     ensures kept { Stays (declared_by env.old) (declared_by env.new) }
 {
     let mut said = Said::nothing(alloc);

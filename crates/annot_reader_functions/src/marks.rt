@@ -24,7 +24,8 @@ pub struct Marks<'a> {
 }
 
 fn with_in<'a>(annot: &'a Annot, marks: Marks<'a>) -> Result<Marks<'a>, AnnotationError>
-    ensures { (N : Nodes) (is : Items) (m : Marked) → StandItems N annot.now.items is → IsMarked N marks.entry m → Tells (AreMarks N) (in_marked annot.now.from is m) result }
+    ensures { (N : Nodes) (is : Items) (m : Marked) → StandItems N annot.now.items is →
+        IsMarked N marks.entry m → Tells (AreMarks N) (in_marked annot.now.from is m) result }
 {
     alone(annot, marks.has_in)?;
     Ok(Marks {
@@ -34,7 +35,8 @@ fn with_in<'a>(annot: &'a Annot, marks: Marks<'a>) -> Result<Marks<'a>, Annotati
 }
 
 fn with_out<'a>(annot: &'a Annot, marks: Marks<'a>) -> Result<Marks<'a>, AnnotationError>
-    ensures { (N : Nodes) (is : Items) (m : Marked) → StandItems N annot.now.items is → IsMarked N marks.entry m → Tells (AreMarks N) (out_marked annot.now.from is m) result }
+    ensures { (N : Nodes) (is : Items) (m : Marked) → StandItems N annot.now.items is →
+        IsMarked N marks.entry m → Tells (AreMarks N) (out_marked annot.now.from is m) result }
 {
     alone(annot, marks.has_out)?;
     Ok(Marks {
@@ -44,7 +46,8 @@ fn with_out<'a>(annot: &'a Annot, marks: Marks<'a>) -> Result<Marks<'a>, Annotat
 }
 
 fn with_callback<'a>(annot: &'a Annot, marks: Marks<'a>) -> Result<Marks<'a>, AnnotationError>
-    ensures { (N : Nodes) (is : Items) (m : Marked) → StandItems N annot.now.items is → IsMarked N marks.entry m → Tells (AreMarks N) (callback_marked annot.now.from is m) result }
+    ensures { (N : Nodes) (is : Items) (m : Marked) → StandItems N annot.now.items is →
+        IsMarked N marks.entry m → Tells (AreMarks N) (callback_marked annot.now.from is m) result }
 {
     alone(annot, marks.callback)?;
     Ok(Marks {
@@ -54,7 +57,8 @@ fn with_callback<'a>(annot: &'a Annot, marks: Marks<'a>) -> Result<Marks<'a>, An
 }
 
 fn with_bsize<'a>(annot: &'a Annot, marks: Marks<'a>) -> Result<Marks<'a>, AnnotationError>
-    ensures { (N : Nodes) (is : Items) (m : Marked) → StandItems N annot.now.items is → IsMarked N marks.entry m → Tells (AreMarks N) (bsize_marked annot.now.from is m) result }
+    ensures { (N : Nodes) (is : Items) (m : Marked) → StandItems N annot.now.items is →
+        IsMarked N marks.entry m → Tells (AreMarks N) (bsize_marked annot.now.from is m) result }
 {
     let item = with_one(annot, marks.bsize)?;
     Ok(Marks {
@@ -64,7 +68,8 @@ fn with_bsize<'a>(annot: &'a Annot, marks: Marks<'a>) -> Result<Marks<'a>, Annot
 }
 
 fn with_cap<'a>(annot: &'a Annot, marks: Marks<'a>) -> Result<Marks<'a>, AnnotationError>
-    ensures { (N : Nodes) (is : Items) (m : Marked) → StandItems N annot.now.items is → IsMarked N marks.entry m → Tells (AreMarks N) (cap_marked annot.now.from is m) result }
+    ensures { (N : Nodes) (is : Items) (m : Marked) → StandItems N annot.now.items is →
+        IsMarked N marks.entry m → Tells (AreMarks N) (cap_marked annot.now.from is m) result }
 {
     let item = with_one(annot, marks.cap)?;
     Ok(Marks {
@@ -74,7 +79,8 @@ fn with_cap<'a>(annot: &'a Annot, marks: Marks<'a>) -> Result<Marks<'a>, Annotat
 }
 
 fn with_prepare<'a>(annot: &'a Annot, marks: Marks<'a>) -> Result<Marks<'a>, AnnotationError>
-    ensures { (N : Nodes) (is : Items) (m : Marked) → StandItems N annot.now.items is → IsMarked N marks.entry m → Tells (AreMarks N) (prepare_marked annot.now.from is m) result }
+    ensures { (N : Nodes) (is : Items) (m : Marked) → StandItems N annot.now.items is →
+        IsMarked N marks.entry m → Tells (AreMarks N) (prepare_marked annot.now.from is m) result }
 {
     let item = with_one(annot, marks.prepare)?;
     Ok(Marks {
@@ -86,7 +92,8 @@ fn with_prepare<'a>(annot: &'a Annot, marks: Marks<'a>) -> Result<Marks<'a>, Ann
 // One annotation more.
 #[tactic(auto, using(crate::proofs::Marking::marked_is))]
 fn mark<'a>(annot: &'a Annot, marks: Marks<'a>) -> Result<Marks<'a>, AnnotationError>
-    ensures { (N : Nodes) (x : Annotated) (m : Marked) → StandsAnnot N annot.now x → IsMarked N marks.entry m → Tells (AreMarks N) (marked x m) result }
+    ensures { (N : Nodes) (x : Annotated) (m : Marked) → StandsAnnot N annot.now x →
+        IsMarked N marks.entry m → Tells (AreMarks N) (marked x m) result }
 {
     match ParameterWord::of(annot.name.as_slice()) {
         Some(ParameterWord::In) => with_in(annot, marks),
@@ -101,7 +108,8 @@ fn mark<'a>(annot: &'a Annot, marks: Marks<'a>) -> Result<Marks<'a>, AnnotationE
 
 /// Which annotations stand at a parameter. `Rule` names the first that has no place there, or stands there again.
 pub fn marks_of(annots: &[Annot]) -> Result<Marks<'_>, AnnotationError>
-    ensures { (N : Nodes) (an : Annots) → StandAnnots N annots.now an → Tells (AreMarks N) (all_marked an unmarked) result }
+    ensures { (N : Nodes) (an : Annots) → StandAnnots N annots.now an →
+        Tells (AreMarks N) (all_marked an unmarked) result }
 {
     let mut marks = Marks {
         has_in: false,

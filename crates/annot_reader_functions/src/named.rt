@@ -37,7 +37,9 @@ fn named<'a>(
 ) -> Result<Vec<Named<'a>>, AllocError>
     requires ids { AreDecls tree.now ids.now }
     requires types { AreTypes (declared_by env.now) types.now }
-    ensures named { (ds : Decls) → StandDecls tree.now ids.now ds → IfOk result (λ v. AreNamed (extents (declared_by env.now).env) v.items (named_parameters ds (all_at (declared_by env.now).types types.now))) }
+    ensures named { (ds : Decls) → StandDecls tree.now ids.now ds →
+        IfOk result (λ v. AreNamed (extents (declared_by env.now).env) v.items
+        (named_parameters ds (all_at (declared_by env.now).types types.now))) }
     ensures few { IfOk result (λ v. length v.items ≤ length types.now) }
 {
     let mut params = Vec::new(alloc);
@@ -63,7 +65,10 @@ pub(crate) fn signature_of<'a>(
     requires own { AreDecls tree.now own.now }
     requires result { prototype.now.result.0 < length (declared_by env.now).types }
     requires params { AreTypes (declared_by env.now) prototype.now.params.now }
-    ensures known { (ds : Decls) → StandDecls tree.now own.now ds → IfOk result (λ g. IsKnown g (declared_by env.now).env (signature_with (declared_by env.now).env ds (at (declared_by env.now).types prototype.now.result) (all_at (declared_by env.now).types prototype.now.params.now))) }
+    ensures known { (ds : Decls) → StandDecls tree.now own.now ds →
+        IfOk result (λ g. IsKnown g (declared_by env.now).env
+        (signature_with (declared_by env.now).env ds (at (declared_by env.now).types prototype.now.result)
+        (all_at (declared_by env.now).types prototype.now.params.now))) }
     ensures few { IfOk result (λ g. length g.params.items ≤ length prototype.now.params.now) }
 {
     let params = named(alloc, env, tree, own, prototype.params)?;

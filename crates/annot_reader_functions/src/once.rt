@@ -14,7 +14,8 @@ use c_syntax::{Annot, Item};
 
 /// The word of the annotation has no items, and didn't stand before.
 pub fn alone(annot: &Annot, before: bool) -> Result<(), AnnotationError>
-    ensures { (N : Nodes) (is : Items) → StandItems N annot.now.items is → Passes (alone_of annot.now.from is before) result }
+    ensures { (N : Nodes) (is : Items) → StandItems N annot.now.items is →
+        Passes (alone_of annot.now.from is before) result }
 {
     if !annot.items.as_slice().is_empty() {
         return Err(AnnotationError::Rule(annot.from, 1));
@@ -27,7 +28,9 @@ pub fn alone(annot: &Annot, before: bool) -> Result<(), AnnotationError>
 
 /// The one item of the annotation, whose word didn't stand before.
 pub fn with_one<'a>(annot: &'a Annot, before: Option<&Item>) -> Result<&'a Item, AnnotationError>
-    ensures { (N : Nodes) (is : Items) (b : Option Factors) → StandItems N annot.now.items is → MaybeStands N (option_copied before.entry) b → Tells (λ x v. StandsItem N v.now x) (with_one_of annot.now.from is b) result }
+    ensures { (N : Nodes) (is : Items) (b : Option Factors) → StandItems N annot.now.items is →
+        MaybeStands N (option_copied before.entry) b →
+        Tells (λ x v. StandsItem N v.now x) (with_one_of annot.now.from is b) result }
 {
     let Some(item) = one_item(annot.items.as_slice()) else {
         return Err(AnnotationError::Rule(annot.from, 1));

@@ -35,7 +35,9 @@ fn declare(
 ) -> Result<(), AnnotationError>
     requires id { IsDecl tree.now id }
     requires ty { ty.0 < length (declared_by env.old).types }
-    ensures { (d : Declaration) → StandsDecl tree.now id d → Tells (λ e _. declared_by env.new ≡ record (declared_by env.old) { env = e }) (parameter_scope d (declared_by env.old).env place (at (declared_by env.old).types ty)) result }
+    ensures { (d : Declaration) → StandsDecl tree.now id d →
+        Tells (λ e _. declared_by env.new ≡ record (declared_by env.old) { env = e })
+        (parameter_scope d (declared_by env.old).env place (at (declared_by env.old).types ty)) result }
 {
     let decl = decl_node(tree, id);
     match &decl.name {
@@ -57,7 +59,10 @@ fn parameter(
     requires few { length signature.now.params.items ≤ 256 }
     requires id { IsTypeName tree.now id }
     requires ty { ty.0 < length (declared_by env.old).types }
-    ensures agrees { (d : Declaration) (s : Known) → StandsDecl tree.now id d → IsKnown signature.now (declared_by env.old).env s → Tells (IsRead (declared_by env.new)) (one_parameter d s place (at (declared_by env.old).types ty)) result }
+    ensures agrees { (d : Declaration) (s : Known) → StandsDecl tree.now id d →
+        IsKnown signature.now (declared_by env.old).env s →
+        Tells (IsRead (declared_by env.new)) (one_parameter d s place (at (declared_by env.old).types ty))
+        result }
     ensures around { OnOk result (StaysAround (declared_by env.old) (declared_by env.new)) }
 {
     bare_around(alloc, tree, decl_node(tree, id))?;
@@ -88,7 +93,10 @@ pub(crate) fn parameters(
     requires ids { AreDecls tree.now ids.now }
     requires types { AreTypes (declared_by env.old) types.now }
     requires count { length types.now ≤ 256 }
-    ensures agrees { (ds : Decls) (s : Known) → StandDecls tree.now ids.now ds → IsKnown signature.now (declared_by env.old).env s → Tells (λ ps v. AreRead ps v.items) (all_by_rules ds s 0 (all_at (declared_by env.old).types types.now)) result }
+    ensures agrees { (ds : Decls) (s : Known) → StandDecls tree.now ids.now ds →
+        IsKnown signature.now (declared_by env.old).env s →
+        Tells (λ ps v. AreRead ps v.items) (all_by_rules ds s 0
+        (all_at (declared_by env.old).types types.now)) result }
     ensures around { OnOk result (StaysAround (declared_by env.old) (declared_by env.new)) }
 {
     let mut params = Vec::new(alloc);

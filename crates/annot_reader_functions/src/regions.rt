@@ -32,7 +32,9 @@ use stub_core::Size;
 
 // The first item, or where that isn't there the second.
 fn first_of<'a>(first: Option<&'a Item>, second: Option<&'a Item>) -> Option<&'a Item>
-    ensures { (N : Nodes) (a : Option Factors) (b : Option Factors) → MaybeStands N (option_copied first.entry) a → MaybeStands N (option_copied second.entry) b → MaybeStands N (option_copied result) (first_by_rules a b) }
+    ensures { (N : Nodes) (a : Option Factors) (b : Option Factors) →
+        MaybeStands N (option_copied first.entry) a → MaybeStands N (option_copied second.entry) b →
+        MaybeStands N (option_copied result) (first_by_rules a b) }
 {
     match first {
         Some(item) => Some(item),
@@ -42,7 +44,8 @@ fn first_of<'a>(first: Option<&'a Item>, second: Option<&'a Item>) -> Option<&'a
 
 // The item that says how many bytes `in` reads: with `out` the capacity.
 fn read_item<'a>(marks: &Marks<'a>) -> Option<&'a Item>
-    ensures { (N : Nodes) (m : Marked) → IsMarked N marks.now m → MaybeStands N (option_copied result) (read_item_by_rules m) }
+    ensures { (N : Nodes) (m : Marked) → IsMarked N marks.now m →
+        MaybeStands N (option_copied result) (read_item_by_rules m) }
 {
     if marks.has_out {
         first_of(marks.cap, marks.bsize)
@@ -61,7 +64,9 @@ fn reads_of(
 ) -> Result<Option<Size>, AnnotationError>
     requires few { length signature.now.params.items ≤ 256 }
     requires items { HasItems tree.now marks.now }
-    ensures agrees { (m : Marked) (s : Known) (t : CType) → IsMarked tree.now marks.now m → IsKnown signature.now (declared_by env.old).env s → IsTarget target (declared_by env.old).env t → Tells IsSame (reads_by_rules s target.from t m) result }
+    ensures agrees { (m : Marked) (s : Known) (t : CType) → IsMarked tree.now marks.now m →
+        IsKnown signature.now (declared_by env.old).env s → IsTarget target (declared_by env.old).env t →
+        Tells IsSame (reads_by_rules s target.from t m) result }
     ensures kept { Stays (declared_by env.old) (declared_by env.new) }
 {
     if !marks.has_in {
@@ -81,7 +86,9 @@ fn writes_of(
 ) -> Result<Option<(Size, Size)>, AnnotationError>
     requires few { length signature.now.params.items ≤ 256 }
     requires items { HasItems tree.now marks.now }
-    ensures agrees { (m : Marked) (s : Known) (t : CType) → IsMarked tree.now marks.now m → IsKnown signature.now (declared_by env.old).env s → IsTarget target (declared_by env.old).env t → Tells IsSame (writes_by_rules s target.from t m) result }
+    ensures agrees { (m : Marked) (s : Known) (t : CType) → IsMarked tree.now marks.now m →
+        IsKnown signature.now (declared_by env.old).env s → IsTarget target (declared_by env.old).env t →
+        Tells IsSame (writes_by_rules s target.from t m) result }
     ensures kept { Stays (declared_by env.old) (declared_by env.new) }
 {
     if !marks.has_out {
@@ -104,7 +111,9 @@ fn prepares_of(
 ) -> Result<Option<(u8, Size)>, AnnotationError>
     requires few { length signature.now.params.items ≤ 256 }
     requires items { HasItems tree.now marks.now }
-    ensures agrees { (m : Marked) (s : Known) (t : CType) → IsMarked tree.now marks.now m → IsKnown signature.now (declared_by env.old).env s → IsTarget target (declared_by env.old).env t → Tells IsSame (prepares_by_rules s target.from t m m.prepare) result }
+    ensures agrees { (m : Marked) (s : Known) (t : CType) → IsMarked tree.now marks.now m →
+        IsKnown signature.now (declared_by env.old).env s → IsTarget target (declared_by env.old).env t →
+        Tells IsSame (prepares_by_rules s target.from t m m.prepare) result }
     ensures kept { Stays (declared_by env.old) (declared_by env.new) }
 {
     let Some(item) = marks.prepare else {
@@ -125,7 +134,9 @@ fn regions_of(
 ) -> Result<Param, AnnotationError>
     requires few { length signature.now.params.items ≤ 256 }
     requires items { HasItems tree.now marks.now }
-    ensures agrees { (m : Marked) (s : Known) (t : CType) → IsMarked tree.now marks.now m → IsKnown signature.now (declared_by env.old).env s → IsTarget target (declared_by env.old).env t → Tells IsParameter (regions_by_rules s target.from t m) result }
+    ensures agrees { (m : Marked) (s : Known) (t : CType) → IsMarked tree.now marks.now m →
+        IsKnown signature.now (declared_by env.old).env s → IsTarget target (declared_by env.old).env t →
+        Tells IsParameter (regions_by_rules s target.from t m) result }
     ensures kept { Stays (declared_by env.old) (declared_by env.new) }
 {
     let reads = reads_of(env, tree, signature, target, marks)?;
@@ -141,7 +152,8 @@ fn regions_of(
 
 // The annotations may stand together at the parameter of this sort that is declared at this offset.
 fn may_stand(from: u32, sort: Sort, marks: &Marks) -> Result<(), AnnotationError>
-    ensures { (N : Nodes) (m : Marked) (structs : List Extent) (t : CType) → IsMarked N marks.now m → sort ≡ sort_of structs t → Passes (may_stand_by_rules from t m) result }
+    ensures { (N : Nodes) (m : Marked) (structs : List Extent) (t : CType) → IsMarked N marks.now m →
+        sort ≡ sort_of structs t → Passes (may_stand_by_rules from t m) result }
 {
     if has_region(marks) && !sort.is_object_pointer() {
         return Err(AnnotationError::Rule(from, 3));
@@ -168,7 +180,10 @@ pub fn parameter_notes(
 ) -> Result<Param, AnnotationError>
     requires few { length signature.now.params.items ≤ 256 }
     requires id { IsTypeName tree.now id }
-    ensures agrees { (d : Decl) (s : Known) (t : CType) → StandsDecl tree.now id d → IsKnown signature.now (declared_by env.old).env s → sort ≡ sort_of (extents (declared_by env.old).env) t → Tells IsParameter (parameter_by_rules s d t) result }
+    ensures agrees { (d : Decl) (s : Known) (t : CType) → StandsDecl tree.now id d →
+        IsKnown signature.now (declared_by env.old).env s →
+        sort ≡ sort_of (extents (declared_by env.old).env) t →
+        Tells IsParameter (parameter_by_rules s d t) result }
     ensures kept { Stays (declared_by env.old) (declared_by env.new) }
 {
     let decl = decl_node(tree, id);

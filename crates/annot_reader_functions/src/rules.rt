@@ -31,7 +31,8 @@ pub(crate) fn size_of_name(
     id: DeclId,
 ) -> Result<u64, AnnotationError>
     requires { IsTypeName tree.now id }
-    ensures agrees { (d : Decl) → StandsDecl tree.now id d → Tells IsSame (size_named env.old.env d) result }
+    ensures agrees { (d : Decl) → StandsDecl tree.now id d →
+        Tells IsSame (size_named env.old.env d) result }
     ensures kept { Stays (declared_by env.old) (declared_by env.new) }
 {
     match declared_type(env, tree, id) {
@@ -87,7 +88,8 @@ pub(crate) fn declare_parameter(
     ty: TypeId,
 ) -> Result<(), AnnotationError>
     requires { ty.0 < length (declared_by env.old).types }
-    ensures { Tells (λ e _. declared_by env.new ≡ record (declared_by env.old) { env = e }) (with_parameter env.old.env from place (Some name.now) (at (declared_by env.old).types ty)) result }
+    ensures { Tells (λ e _. declared_by env.new ≡ record (declared_by env.old) { env = e })
+        (with_parameter env.old.env from place (Some name.now) (at (declared_by env.old).types ty)) result }
 {
     match env.declare(from, name, Meaning::Local(place, ty)) {
         Ok(()) => Ok(()),

@@ -39,7 +39,8 @@ impl Signature<'_> {
     /// The place, from 0, and the sort of the first parameter of this name; `None` where none has it.
     pub fn find(&self, name: &[u8]) -> Option<(u8, Sort)>
         requires few { length self.now.params.items ≤ 256 }
-        ensures { (structs : List Extent) (ps : List (Option (List ℕ) × CType)) → AreNamed structs self.now.params.items ps → IsPlaced structs result (place_from 0 name.now ps) }
+        ensures { (structs : List Extent) (ps : List (Option (List ℕ) × CType)) →
+            AreNamed structs self.now.params.items ps → IsPlaced structs result (place_from 0 name.now ps) }
     {
         for (place, param) in self.params.iter().enumerate() {
             if is_named(param, name) {

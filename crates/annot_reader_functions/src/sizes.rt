@@ -26,7 +26,8 @@ use stub_core::{Size, Term};
 // A factor that is the parameter of this name, an integer.
 fn named_term(signature: &Signature, from: u32, name: &[u8]) -> Result<Term, AnnotationError>
     requires few { length signature.now.params.items ≤ 256 }
-    ensures { (env : Declared) (s : Known) (known : Bool) → IsKnown signature.now env s → Tells IsSame (term_of s from known (NameAtom name.now)) result }
+    ensures { (env : Declared) (s : Known) (known : Bool) → IsKnown signature.now env s →
+        Tells IsSame (term_of s from known (NameAtom name.now)) result }
 {
     let Some((place, sort)) = signature.find(name) else {
         return Err(AnnotationError::Rule(from, 4));
@@ -39,7 +40,8 @@ fn named_term(signature: &Signature, from: u32, name: &[u8]) -> Result<Term, Ann
 
 // A factor that is the result of the call, an integer, where that is known.
 fn result_term(signature: &Signature, from: u32, known: bool) -> Result<Term, AnnotationError>
-    ensures { (env : Declared) (s : Known) → IsKnown signature.now env s → Tells IsSame (term_of s from known ReturnAtom) result }
+    ensures { (env : Declared) (s : Known) → IsKnown signature.now env s →
+        Tells IsSame (term_of s from known ReturnAtom) result }
 {
     if known && signature.gives_integer {
         Ok(Term::Return)
@@ -59,7 +61,8 @@ fn term(
 ) -> Result<Term, AnnotationError>
     requires few { length signature.now.params.items ≤ 256 }
     requires factor { IsFactor tree.now atom.now }
-    ensures agrees { (a : Factor) (s : Known) → StandsAtom tree.now atom.now a → IsKnown signature.now (declared_by env.old).env s → Tells IsSame (term_of s from known a) result }
+    ensures agrees { (a : Factor) (s : Known) → StandsAtom tree.now atom.now a →
+        IsKnown signature.now (declared_by env.old).env s → Tells IsSame (term_of s from known a) result }
     ensures kept { Stays (declared_by env.old) (declared_by env.new) }
 {
     match atom {
@@ -82,7 +85,8 @@ pub fn size(
 ) -> Result<Size, AnnotationError>
     requires few { length signature.now.params.items ≤ 256 }
     requires item { IsItem tree.now item.now }
-    ensures agrees { (x : Factors) (s : Known) → StandsItem tree.now item.now x → IsKnown signature.now (declared_by env.old).env s → Tells IsSame (size_by_rules s known x) result }
+    ensures agrees { (x : Factors) (s : Known) → StandsItem tree.now item.now x →
+        IsKnown signature.now (declared_by env.old).env s → Tells IsSame (size_by_rules s known x) result }
     ensures kept { Stays (declared_by env.old) (declared_by env.new) }
 {
     let a = term(env, tree, signature, item.from, known, &item.a)?;
@@ -95,7 +99,8 @@ pub fn size(
 
 // The size of what a parameter points to, which has to be known.
 fn own_size(target: Target) -> Result<Size, AnnotationError>
-    ensures { (env : Declared) (s : Known) (t : CType) → s.env ≡ env → IsTarget target env t → Tells IsSame (own_size_of s target.from t) result }
+    ensures { (env : Declared) (s : Known) (t : CType) → s.env ≡ env → IsTarget target env t →
+        Tells IsSame (own_size_of s target.from t) result }
 {
     match target.size {
         Some(size) => Ok(Size {
@@ -117,7 +122,10 @@ pub(crate) fn size_or_own(
 ) -> Result<Size, AnnotationError>
     requires few { length signature.now.params.items ≤ 256 }
     requires item { IsMaybeItem tree.now (option_copied item) }
-    ensures agrees { (o : Option Factors) (s : Known) (t : CType) → MaybeStands tree.now (option_copied item.entry) o → IsKnown signature.now (declared_by env.old).env s → IsTarget target (declared_by env.old).env t → Tells IsSame (size_or_own_of s target.from known t o) result }
+    ensures agrees { (o : Option Factors) (s : Known) (t : CType) →
+        MaybeStands tree.now (option_copied item.entry) o →
+        IsKnown signature.now (declared_by env.old).env s → IsTarget target (declared_by env.old).env t →
+        Tells IsSame (size_or_own_of s target.from known t o) result }
     ensures kept { Stays (declared_by env.old) (declared_by env.new) }
 {
     match item {

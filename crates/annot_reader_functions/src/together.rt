@@ -20,7 +20,8 @@ fn is_return(atom: &Atom) -> bool
 
 // The result of the function is a factor of the size.
 fn needs_result(size: Option<&Item>) -> bool
-    ensures { (N : Nodes) (o : Option Factors) → MaybeStands N (option_copied size.entry) o → result ≡ needs_result_of o }
+    ensures { (N : Nodes) (o : Option Factors) → MaybeStands N (option_copied size.entry) o →
+        result ≡ needs_result_of o }
 {
     let Some(size) = size else {
         return false;

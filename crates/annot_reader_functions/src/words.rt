@@ -34,7 +34,9 @@ pub(crate) fn cut_word(
     cut: &[u8],
     said: &mut Said,
 ) -> Result<(), AnnotationError>
-    ensures { (N : Nodes) (is : Items) (n : Notes) → StandItems N annot.now.items is → IsSaid cut.now said.old n → Tells (λ m _. IsSaid cut.now said.new m) (cut_word_of annot.now.from is (kind_in kind) n) result }
+    ensures { (N : Nodes) (is : Items) (n : Notes) → StandItems N annot.now.items is →
+        IsSaid cut.now said.old n → Tells (λ m _. IsSaid cut.now said.new m)
+        (cut_word_of annot.now.from is (kind_in kind) n) result }
 {
     let items = annot.items.as_slice();
     if items.is_empty() {
@@ -65,7 +67,10 @@ pub(crate) fn sync_word(
     said: &mut Said,
 ) -> Result<(), AnnotationError>
     requires few { length signature.now.params.items ≤ 256 }
-    ensures { (N : Nodes) (is : Items) (structs : List Extent) (s : Known) (cut : List ℕ) (n : Notes) → StandItems N annot.now.items is → AreNamed structs signature.now.params.items s.params → IsSaid cut said.old n → Tells (λ m _. IsSaid cut said.new m) (sync_word_of annot.now.from is s n) result }
+    ensures { (N : Nodes) (is : Items) (structs : List Extent) (s : Known) (cut : List ℕ) (n : Notes) →
+        StandItems N annot.now.items is → AreNamed structs signature.now.params.items s.params →
+        IsSaid cut said.old n → Tells (λ m _. IsSaid cut said.new m) (sync_word_of annot.now.from is s n)
+        result }
 {
     let Some(item) = one_item(annot.items.as_slice()) else {
         return Err(AnnotationError::Rule(annot.from, 1));
@@ -88,7 +93,10 @@ pub(crate) fn commit_word(
 ) -> Result<(), AnnotationError>
     requires few { length signature.now.params.items ≤ 256 }
     requires items { AreItems tree.now annot.now.items }
-    ensures agrees { (is : Items) (s : Known) (cut : List ℕ) (n : Notes) → StandItems tree.now annot.now.items is → IsKnown signature.now (declared_by env.old).env s → IsSaid cut said.old n → Tells (λ m _. IsSaid cut said.new m) (commit_word_of annot.now.from is s n) result }
+    ensures agrees { (is : Items) (s : Known) (cut : List ℕ) (n : Notes) →
+        StandItems tree.now annot.now.items is → IsKnown signature.now (declared_by env.old).env s →
+        IsSaid cut said.old n → Tells (λ m _. IsSaid cut said.new m) (commit_word_of annot.now.from is s n)
+        result }
     ensures kept { Stays (declared_by env.old) (declared_by env.new) }
 {
     let [key, used] = annot.items.as_slice() else {
@@ -105,7 +113,9 @@ pub(crate) fn commit_word(
 
 /// `cache`: equal results are written once.
 pub(crate) fn cache_word(annot: &Annot, said: &mut Said) -> Result<(), AnnotationError>
-    ensures { (N : Nodes) (is : Items) (cut : List ℕ) (n : Notes) → StandItems N annot.now.items is → IsSaid cut said.old n → Tells (λ m _. IsSaid cut said.new m) (cache_word_of annot.now.from is n) result }
+    ensures { (N : Nodes) (is : Items) (cut : List ℕ) (n : Notes) → StandItems N annot.now.items is →
+        IsSaid cut said.old n → Tells (λ m _. IsSaid cut said.new m) (cache_word_of annot.now.from is n)
+        result }
 {
     alone(annot, said.cache)?;
     said.cache = true;
@@ -119,7 +129,9 @@ pub(crate) fn holds_word(
     kind: FunctionKind,
     said: &mut Said,
 ) -> Result<(), AnnotationError>
-    ensures { (N : Nodes) (is : Items) (cut : List ℕ) (n : Notes) → StandItems N annot.now.items is → IsSaid cut said.old n → Tells (λ m _. IsSaid cut said.new m) (holds_word_of annot.now.from is (kind_in kind) n) result }
+    ensures { (N : Nodes) (is : Items) (cut : List ℕ) (n : Notes) → StandItems N annot.now.items is →
+        IsSaid cut said.old n → Tells (λ m _. IsSaid cut said.new m)
+        (holds_word_of annot.now.from is (kind_in kind) n) result }
 {
     let Some(item) = one_item(annot.items.as_slice()) else {
         return Err(AnnotationError::Rule(annot.from, 1));

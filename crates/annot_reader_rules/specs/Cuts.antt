@@ -26,13 +26,17 @@ noted_as env d f (FunctionOf r ts) a = do
   Fine (record a { functions = a.functions ++ n ∷ [] })
 noted_as env d f t a = Fine a
 
--- functions have their numbers by their first declarations: the next one is declared for the first time here
-abbrev pub noted_function : Environment → Decl → (place : ℕ) → Option Function → Annotated → Checked Annotated
+-- functions have their numbers by their first declarations: the next one is declared for the first time
+-- here
+abbrev pub noted_function : Environment → Decl → (place : ℕ) → Option Function → Annotated →
+    Checked Annotated
 noted_function env d place None a = Fine a
-noted_function env d place (Some f) a = if nat_lt place (length a.functions) then (declared_later d >> Fine a) else noted_as env d f f.type a
+noted_function env d place (Some f) a = if nat_lt place (length a.functions) then
+    (declared_later d >> Fine a) else noted_as env d f f.type a
 
 abbrev pub noted_name : Environment → Program → Decl → Option Meaning → Annotated → Checked Annotated
-noted_name env p d (Some (FunctionNamed number t)) a = noted_function env d (number - 16) (function_at p.functions (number - 16)) a
+noted_name env p d (Some (FunctionNamed number t)) a =
+    noted_function env d (number - 16) (function_at p.functions (number - 16)) a
 noted_name env p d m a = do
   g ← global_notes d
   Fine (record a { guards = a.guards ++ g ∷ [] })
@@ -40,7 +44,8 @@ noted_name env p d m a = do
 -- one declaration more
 abbrev pub noted : Environment → Program → Decl → Annotated → Checked Annotated
 noted env p (Declare from an b ps n (Members ds)) a = bare_decls ds >> Fine a
-noted env p (Declare from an b ps n r) a = noted_name env p (Declare from an b ps n r) (meaning_in (declared_name n) p.names) a
+noted env p (Declare from an b ps n r) a = noted_name env p (Declare from an b ps n r)
+    (meaning_in (declared_name n) p.names) a
 
 abbrev pub all_noted : Environment → Program → Decls → Annotated → Checked Annotated
 all_noted env p NoDecls a = Fine a

@@ -119,7 +119,8 @@ result_parts (Params from ds ps) = Params from ds (result_parts ps)
 abbrev pub named_parameters : Decls → CTypes → List (Option (List ℕ) × CType)
 named_parameters NoDecls ts = []
 named_parameters (MoreDecls d ds) NoTypes = []
-named_parameters (MoreDecls (Declare from an b ps n r) ds) (MoreTypes t ts) = (n, t) ∷ named_parameters ds ts
+named_parameters (MoreDecls (Declare from an b ps n r) ds) (MoreTypes t ts) =
+    (n, t) ∷ named_parameters ds ts
 
 -- annotations in a parameter's own declarator are out of place
 abbrev pub bare_within : Decl → Checked (Unit {0})
@@ -152,7 +153,12 @@ function_notes env k (Declare from an b ps n r) t ts = do
   bare_annots an
   bare_parts (result_parts ps)
   bare_rest r
-  let signature : Signature = record { params = named_parameters (own_parameters ps) ts; result = t; env = env }
+  let signature : Signature = record {
+    params = named_parameters (own_parameters ps) ts;
+    result = t;
+    env =
+        env;
+  }
   m ← all_noted an signature k nothing
   keep from 8 (no_holds m.holds || is_empty m.cuts)
   params ← all_parameters (own_parameters ps) (within signature (inner env)) 0 ts
@@ -166,11 +172,13 @@ nothing_again (MoreAnnots (Annotate from word is) xs) = Broken from 2
 
 abbrev pub none_again : Decls → Checked (Unit {0})
 none_again NoDecls = Fine tt
-none_again (MoreDecls (Declare from an b ps n r) ds) = nothing_again an >> bare_parts ps >> bare_rest r >> none_again ds
+none_again (MoreDecls (Declare from an b ps n r) ds) =
+    nothing_again an >> bare_parts ps >> bare_rest r >> none_again ds
 
 -- a later declaration has no annotations, nor have its parameters
 abbrev pub declared_later : Decl → Checked (Unit {0})
-declared_later (Declare from an b ps n r) = nothing_again an >> none_again (own_parameters ps) >> bare_parts (result_parts ps) >> bare_rest r
+declared_later (Declare from an b ps n r) = nothing_again an >> none_again (own_parameters ps) >>
+    bare_parts (result_parts ps) >> bare_rest r
 
 abbrev pub guard_word : (from : ℕ) → (word : List ℕ) → Items → Option ℕ → Checked (Option ℕ)
 guard_word from word is before = do

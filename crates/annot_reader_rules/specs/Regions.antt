@@ -1,4 +1,5 @@
--- Annotations of parameters: regions, their sizes, and functions that are called back. `from` is the offset of the node.
+-- Annotations of parameters: regions, their sizes, and functions that are called back. `from` is the offset
+-- of the node.
 use Rattle.std.specs.Prelude.{ℕ, suc, ◌+◌, Bool, true, false, not, ◌&&◌, ◌||◌, if◌then◌else◌, List, [], ◌∷◌, ◌++◌, codes, is_some, is_none, Option, Some, None}
 use Rattle.c_syntax.specs.Syntax.{Decl, Annots, Annot, Items, Item, Atom, Declare, NoAnnots, MoreAnnots, Annotate, NoItems, MoreItems, OneFactor, TwoFactors, NameAtom, NumberAtom, ReturnAtom, SizeofAtom}
 use Rattle.c_types_model.specs.Types.{CType, CTypes, Void, PointerTo, NoTypes, MoreTypes}
@@ -13,7 +14,8 @@ use Rattle.c_types_rules.specs.Environment.{Environment, extents}
 use Rattle.c_types_rules.specs.Expressions.{declared_type}
 use Rattle.annot_reader_rules.specs.Notes.{Parameter}
 
--- what an annotation of a function may speak of: its parameters by name, with their types, its result, and what is declared where it stands
+-- what an annotation of a function may speak of: its parameters by name, with their types, its result, and
+-- what is declared where it stands
 pub record Signature : Type 0 where
   pub params : List (Option (List ℕ) × CType)
   pub result : CType
@@ -27,7 +29,10 @@ is_called name None = false
 
 abbrev pub place_from : ℕ → List ℕ → List (Option (List ℕ) × CType) → Option (ℕ × CType)
 place_from at name [] = None
-place_from at name ((other, t) ∷ ps) = if is_called name other then Some (at, t) else place_from (suc at) name ps
+place_from at name ((other, t) ∷ ps) = if is_called name other then Some (
+  at,
+  t,
+) else place_from (suc at) name ps
 
 -- the place and the type of the parameter of this name
 abbrev pub parameter_named : Signature → List ℕ → Option (ℕ × CType)
@@ -44,7 +49,8 @@ key_parameter s (TwoFactors from a b) = Broken from 7
 
 -- ---- sizes, in bytes
 
--- a factor of a size: an integer parameter, a number, the size of a type, or the integer result where that is known
+-- a factor of a size: an integer parameter, a number, the size of a type, or the integer result where that
+-- is known
 abbrev pub term : Signature → (from : ℕ) → (known : Bool) → Atom → Checked Term
 term s from known (NameAtom name) = do
   p ← need from 4 (parameter_named s name)
@@ -88,7 +94,15 @@ pub record Marked : Type 0 where
   pub prepare : Option Item
 
 abbrev pub unmarked : Marked
-unmarked = record { has_in = false; has_out = false; callback = false; bsize = None; cap = None; prepare = None }
+unmarked = record {
+  has_in = false;
+  has_out = false;
+  callback = false;
+  bsize = None;
+  cap = None;
+  prepare =
+      None;
+}
 
 abbrev pub no_items : Items → Bool
 no_items NoItems = true
@@ -116,10 +130,14 @@ abbrev pub marked : Annot → Marked → Checked Marked
 marked (Annotate from word is) m =
     if same_name word (codes "in") then alone from is m.has_in >> Fine (record m { has_in = true })
     else if same_name word (codes "out") then alone from is m.has_out >> Fine (record m { has_out = true })
-    else if same_name word (codes "callback") then alone from is m.callback >> Fine (record m { callback = true })
-    else if same_name word (codes "bsize") then (with_one from is m.bsize >>= λ x. Fine (record m { bsize = Some x }))
-    else if same_name word (codes "cap") then (with_one from is m.cap >>= λ x. Fine (record m { cap = Some x }))
-    else if same_name word (codes "prepare") then (with_one from is m.prepare >>= λ x. Fine (record m { prepare = Some x }))
+    else if same_name word (codes "callback") then alone from is m.callback >> Fine
+    (record m { callback = true })
+    else if same_name word (codes "bsize") then (with_one from is m.bsize >>= λ x.
+    Fine (record m { bsize = Some x }))
+    else if same_name word (codes "cap") then (with_one from is m.cap >>= λ x.
+    Fine (record m { cap = Some x }))
+    else if same_name word (codes "prepare") then (with_one from is m.prepare >>= λ x.
+    Fine (record m { prepare = Some x }))
     else Broken from 1
 
 abbrev pub all_marked : Annots → Marked → Checked Marked
@@ -143,7 +161,8 @@ abbrev pub target : CType → CType
 target (PointerTo t) = t
 target t = Void
 
--- `prepare` stands without `in` and `out`, `bsize` with one of them, `cap` with `out` or `prepare`, and a `bsize` with the result has a `cap`
+-- `prepare` stands without `in` and `out`, `bsize` with one of them, `cap` with `out` or `prepare`, and a
+-- `bsize` with the result has a `cap`
 abbrev pub go_together : Marked → Bool
 go_together m =
     (is_none m.prepare || not (m.has_in || m.has_out)) &&
@@ -169,7 +188,8 @@ size_or_own s from known t None = own_size s from t
 abbrev pub reads_of : Signature → (from : ℕ) → CType → Marked → Checked (Option Size)
 reads_of s from t m =
     if not m.has_in then Fine None
-    else (size_or_own s from false t (if m.has_out then first_of m.cap m.bsize else m.bsize) >>= λ z. Fine (Some z))
+    else (size_or_own s from false t (if m.has_out then first_of m.cap m.bsize else m.bsize) >>= λ z.
+    Fine (Some z))
 
 -- `out` with one of the two sizes has it for both
 abbrev pub writes_of : Signature → (from : ℕ) → CType → Marked → Checked (Option (Size × Size))

@@ -4,7 +4,8 @@ use Rattle.c_types_rules.specs.Checked.{Checked, Fine, Large, Broken}
 use Rattle.annot_reader_words.specs.declared.error.AnnotationError.{AnnotationError}
 use Rattle.annot_reader_words.specs.declared.error.AnnotationError.TheVariants.{Rule, Memory}
 
--- what is said is there, or the rule that is broken is named, with the offset of its node; of memory nothing is said
+-- what is said is there, or the rule that is broken is named, with the offset of its node; of memory
+-- nothing is said
 abbrev pub Tells : {A B : Type 0} → (A → B → Type 0) → Checked A → Result B AnnotationError → Type 0
 Tells is c (Err Memory) = Unit {0}
 Tells is (Fine x) (Ok y) = is x y

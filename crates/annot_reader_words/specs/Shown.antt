@@ -12,7 +12,8 @@ IsDecl N i = (d : Decl) × StandsDecl N i d
 
 -- the node is that of this declaration
 abbrev pub Shows : Nodes → DeclNode → Decl → Type 0
-Shows N v (Declare from an b ps n r) = (v.from ≡ from) × StandAnnots N v.annots an × (v.base ≡ b) × StandParts N v.parts ps × (v.name ≡ n) × StandsRest N v.rest r
+Shows N v (Declare from an b ps n r) = (v.from ≡ from) × StandAnnots N v.annots an × (v.base ≡ b) ×
+    StandParts N v.parts ps × (v.name ≡ n) × StandsRest N v.rest r
 
 -- the node is that of a declaration
 abbrev pub IsShown : Nodes → DeclNode → Type 0

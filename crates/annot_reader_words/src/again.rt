@@ -20,7 +20,8 @@ use std::alloc::Global;
 
 // Nothing is said again.
 fn nothing_again(annots: &[Annot]) -> Result<(), AnnotationError>
-    ensures { (N : Nodes) (an : Annots) → StandAnnots N annots.now an → Passes (nothing_again_of an) result }
+    ensures { (N : Nodes) (an : Annots) → StandAnnots N annots.now an →
+        Passes (nothing_again_of an) result }
 {
     match annots {
         [] => Ok(()),

@@ -16,7 +16,8 @@ use c_syntax::{Atom, Item};
 
 // The name that an item of the annotation at `from` is.
 fn name(item: &Item, from: u32) -> Result<&Text, AnnotationError>
-    ensures { (N : Nodes) (x : Factors) → StandsItem N item.now x → Tells (λ n t. t.now ≡ n) (name_in from x) result }
+    ensures { (N : Nodes) (x : Factors) → StandsItem N item.now x →
+        Tells (λ n t. t.now ≡ n) (name_in from x) result }
 {
     match (&item.a, &item.b) {
         (Atom::Name(name), None) => Ok(name),
@@ -26,7 +27,8 @@ fn name(item: &Item, from: u32) -> Result<&Text, AnnotationError>
 
 // Whether the item is the name of the cut.
 fn is_cut(item: &Item, from: u32, cut: &[u8]) -> Result<bool, AnnotationError>
-    ensures { (N : Nodes) (x : Factors) → StandsItem N item.now x → Tells (λ n is. is ≡ same_name cut.now n) (name_in from x) result }
+    ensures { (N : Nodes) (x : Factors) → StandsItem N item.now x →
+        Tells (λ n is. is ≡ same_name cut.now n) (name_in from x) result }
 {
     let name = name(item, from)?;
     Ok(cut == name.as_slice())
@@ -34,7 +36,8 @@ fn is_cut(item: &Item, from: u32, cut: &[u8]) -> Result<bool, AnnotationError>
 
 /// Whether a cut is among the names in the items of the annotation at `from`. `Rule` where an item is no name.
 pub fn names_cut(items: &[Item], from: u32, cut: &[u8]) -> Result<bool, AnnotationError>
-    ensures { (N : Nodes) (is : Items) → StandItems N items.now is → Tells (NamesCut cut.now) (names_in from is) result }
+    ensures { (N : Nodes) (is : Items) → StandItems N items.now is →
+        Tells (NamesCut cut.now) (names_in from is) result }
 {
     let mut found = false;
     for item in items {

@@ -21,7 +21,8 @@ use std::alloc::Global;
 
 // The mutex that guards a global, where one annotation more says it.
 fn guard_word(annot: &Annot, before: Option<u32>) -> Result<Option<u32>, AnnotationError>
-    ensures { (N : Nodes) (x : Annotated) → StandsAnnot N annot.now x → Tells IsSame (guard_step x before) result }
+    ensures { (N : Nodes) (x : Annotated) → StandsAnnot N annot.now x →
+        Tells IsSame (guard_step x before) result }
 {
     if !is_guarded_by(annot.name.as_slice()) {
         return Err(AnnotationError::Rule(annot.from, 1));
@@ -37,7 +38,8 @@ fn guard_word(annot: &Annot, before: Option<u32>) -> Result<Option<u32>, Annotat
 
 // The mutex that guards a global, if its annotations say one.
 fn guard(annots: &[Annot]) -> Result<Option<u32>, AnnotationError>
-    ensures { (N : Nodes) (an : Annots) → StandAnnots N annots.now an → Tells IsSame (guards_of an None) result }
+    ensures { (N : Nodes) (an : Annots) → StandAnnots N annots.now an →
+        Tells IsSame (guards_of an None) result }
 {
     let mut guard = None;
     for annot in annots {

@@ -12,7 +12,8 @@ use c_syntax::Item;
 
 /// The item of an annotation that has one; `None` of any other number of items.
 pub fn one_item(items: &[Item]) -> Option<&Item>
-    ensures { (N : Nodes) (is : Items) → StandItems N items.now is → MaybeStands N (option_copied result) (one_item_of is) }
+    ensures { (N : Nodes) (is : Items) → StandItems N items.now is →
+        MaybeStands N (option_copied result) (one_item_of is) }
 {
     match items {
         [item] => Some(item),

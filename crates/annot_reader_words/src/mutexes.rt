@@ -13,7 +13,8 @@ use c_syntax::{Atom, Item};
 
 /// The mutex that an item is: a number in the range of int.
 pub fn mutex(item: &Item) -> Result<u32, AnnotationError>
-    ensures agrees { (N : Nodes) (x : Factors) → StandsItem N item.now x → Tells IsSame (mutex_of x) result }
+    ensures agrees { (N : Nodes) (x : Factors) → StandsItem N item.now x →
+        Tells IsSame (mutex_of x) result }
     ensures range { IfOk result (λ m. m < 2 ^ 31) }
 {
     let (Atom::Number(number), None) = (&item.a, &item.b) else {

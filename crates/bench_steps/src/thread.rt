@@ -140,7 +140,8 @@ fn begun(
 
 /// Whether one more function may begin, on either side.
 fn has_room(thread: &Thread) -> bool
-    ensures { IsTrue result → (open_on Replay thread.now.config < thread.now.depth) × (open_on System thread.now.config < thread.now.depth) }
+    ensures { IsTrue result → (open_on Replay thread.now.config < thread.now.depth) ×
+        (open_on System thread.now.config < thread.now.depth) }
 {
     let depth = thread.depth() as usize;
     thread.open(Side::Replay) < depth && thread.open(Side::System) < depth

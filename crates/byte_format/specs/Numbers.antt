@@ -1,4 +1,5 @@
--- How a format reads and spells its numbers: a format takes both as an argument, so that its versions differ here alone.
+-- How a format reads and spells its numbers: a format takes both as an argument, so that its versions
+-- differ here alone.
 use Rattle.std.specs.Prelude.{ℕ, ◌+◌, ◌*◌, ◌/◌, true, false, List}
 use Rattle.std.specs.Int.{Width, byte_len, to_be_bytes}
 use Rattle.byte_format.specs.Spelling.{varint_text}
@@ -23,4 +24,9 @@ groups w = (8 * byte_len w + 6) / 7
 
 -- numbers in groups of seven bits, the low group first, no longer than they must be
 abbrev pub grouped : Numbers
-grouped = record { text = λ w n. varint_text (groups w) n; at = λ w. varint_at (groups w) (8 * byte_len w) true; some_at = varint_at 3 16 false }
+grouped = record {
+  text = λ w n. varint_text (groups w) n;
+  at =
+      λ w. varint_at (groups w) (8 * byte_len w) true;
+  some_at = varint_at 3 16 false;
+}

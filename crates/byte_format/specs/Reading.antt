@@ -1,10 +1,12 @@
--- Reading bytes from left to right. What a format is stands in its spelling; this says what its readers answer.
+-- Reading bytes from left to right. What a format is stands in its spelling; this says what its readers
+-- answer.
 use Rattle.std.specs.Prelude.{◌≡◌, ℕ, zero, suc, ◌+◌, ◌*◌, Bool, true, false, nat_lt, nat_le, ◌==◌, ◌&&◌, if◌then◌else◌, List, [], ◌∷◌, ◌++◌, length, take, drop, Option, Some, None, Result, Ok, Err}
 use Rattle.std.specs.Int.{Width, byte_len, from_be_bytes}
 use Rattle.byte_format.specs.declared.stop.Stop.{Stop}
 use Rattle.byte_format.specs.declared.stop.Stop.TheVariants as stop
 
--- a value and the bytes after it; or the bytes end in the middle of a value; or how many bytes are left from the first wrong one on
+-- a value and the bytes after it; or the bytes end in the middle of a value; or how many bytes are left
+-- from the first wrong one on
 pub data Reading (A : Type 0) : Type 0 where
   Done : A × List ℕ → Reading A
   Short : Reading A
@@ -30,7 +32,8 @@ abbrev pub Gives : {X Y : Type 0} → (X → Y × List ℕ) → Result X Stop �
 Gives view (Ok x) reading = reading ≡ Done (view x)
 Gives view (Err e) reading = Stops e reading
 
--- the same of a function that adds items to a list: where the bytes end it has added those that were read before
+-- the same of a function that adds items to a list: where the bytes end it has added those that were read
+-- before
 abbrev pub StopsAfter : {A Y : Type 0} → List A → List A → Stop → Reading Y → List A → Type 0
 StopsAfter old new stop.Memory reading read = Unit {0}
 StopsAfter old new stop.Short reading read = (reading ≡ Short) × (new ≡ old ++ read)
@@ -41,7 +44,8 @@ with_prefix prefix (Done x) = Done (prefix ++ x.0, x.1)
 with_prefix prefix Short = Short
 with_prefix prefix (Wrong n) = Wrong n
 
-abbrev pub Adds : {A X : Type 0} → (X → List ℕ) → List A → List A → Result X Stop → Reading (List A) → List A → Type 0
+abbrev pub Adds : {A X : Type 0} → (X → List ℕ) → List A → List A → Result X Stop → Reading (List A) →
+    List A → Type 0
 Adds view old new (Ok rest) reading read = with_prefix old reading ≡ Done (new, view rest)
 Adds view old new (Err e) reading read = StopsAfter old new e reading read
 
@@ -49,7 +53,8 @@ Adds view old new (Err e) reading read = StopsAfter old new e reading read
 
 -- a number of fixed width, the high byte first
 abbrev pub number_at : Width → List ℕ → Reading ℕ
-number_at w bytes = if nat_lt (length bytes) (byte_len w) then Short else Done (from_be_bytes w (take (byte_len w) bytes), drop (byte_len w) bytes)
+number_at w bytes = if nat_lt (length bytes) (byte_len w) then Short else Done
+    (from_be_bytes w (take (byte_len w) bytes), drop (byte_len w) bytes)
 
 -- this many bytes
 abbrev pub chars_at : ℕ → List ℕ → Reading (List ℕ)

@@ -2,7 +2,8 @@
 use Rattle.std.specs.Prelude.{◌≡◌, ℕ, zero, suc, ◌+◌, ◌*◌, ◌-◌, ◌^◌, ◌<◌, Bool, true, false, cond, ltb, eqb, ◌&&◌, ◌||◌, not, List, Option, Some, None}
 use Rattle.byte_format.specs.Reading.{Reading, Done, Short, ◌>>=◌, coded_at}
 
--- a group where so many bits are left: the last, which is 0 only where it is the only one, or one with another after it
+-- a group where so many bits are left: the last, which is 0 only where it is the only one, or one with
+-- another after it
 abbrev pub last_from : ℕ → Bool → ℕ → Option ℕ
 last_from bits only b = cond (ltb b (2 ^ bits) && (only || not (eqb b 0))) (Some b) None
 
@@ -18,7 +19,8 @@ after false b more bytes = more bytes >>= λ high. Done (b - 128 + 128 * high.0,
 
 unfoldable pub varint_at : ℕ → ℕ → Bool → List ℕ → Reading ℕ
 varint_at zero bits only bytes = Short
-varint_at (suc groups) bits only bytes = coded_at (group_from bits only) bytes >>= λ b. after (ltb b.0 128) b.0 (varint_at groups (bits - 7) false) b.1
+varint_at (suc groups) bits only bytes = coded_at (group_from bits only) bytes >>= λ b.
+    after (ltb b.0 128) b.0 (varint_at groups (bits - 7) false) b.1
 
 abbrev pub IsNumber : ℕ → Bool → ℕ → Type 0
 IsNumber bits only n = (n < 2 ^ bits) × (only ≡ false → 0 < n)

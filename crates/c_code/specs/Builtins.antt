@@ -1,4 +1,5 @@
--- What code knows of the builtins: the types of their parameters and results, as far as code tells types apart.
+-- What code knows of the builtins: the types of their parameters and results, as far as code tells types
+-- apart.
 use Rattle.std.specs.Prelude.{◌≡◌, List, [], ◌∷◌, None}
 use Rattle.r2_num.specs.declared.kinds.IntKind.TheVariants.{I32, U64}
 use Rattle.c_code.specs.declared.shape.Shape.{Shape}

@@ -21,7 +21,8 @@ pub record CallBelow : Type 0 where
   pub func : ℕ
   pub args : List ℕ
 
--- the frames of replay code and those of system code, the calls below the cut, and the functions that were called back; of
+-- the frames of replay code and those of system code, the calls below the cut, and the functions that were
+-- called back; of
 -- each the innermost first
 pub record Opens : Type 0 where
   pub above : List Range
@@ -53,7 +54,12 @@ opens_by past = record {
 
 -- of one all of whose marks are above the cut
 abbrev pub opens_above : List Mark → Opens
-opens_above past = record { above = frames past; below = []; calls = map call_below (open_calls past); ups = open_ups past }
+opens_above past = record {
+  above = frames past;
+  below = [];
+  calls = map call_below (open_calls past);
+  ups = open_ups past;
+}
 
 -- ---- as the place in the code says
 
@@ -61,10 +67,21 @@ abbrev pub added : Side → Side → Range → List Range → List Range
 added side on r rs = cond (same_side on side) (r ∷ rs) rs
 
 abbrev pub with_frame : Side → Range → Opens → Opens
-with_frame side r o = record { above = added Replay side r o.above; below = added System side r o.below; calls = o.calls; ups = o.ups }
+with_frame side r o = record {
+  above = added Replay side r o.above;
+  below = added System side r o.below;
+  calls = o.calls;
+  ups = o.ups;
+}
 
 abbrev pub with_call : ℕ → List ℕ → Opens → Opens
-with_call f args o = record { above = o.above; below = o.below; calls = record { func = f; args = args } ∷ o.calls; ups = o.ups }
+with_call f args o = record {
+  above = o.above;
+  below = o.below;
+  calls =
+      record { func = f; args = args } ∷ o.calls;
+  ups = o.ups;
+}
 
 abbrev pub with_up : ℕ → Opens → Opens
 with_up f o = record { above = o.above; below = o.below; calls = o.calls; ups = f ∷ o.ups }
@@ -81,14 +98,21 @@ taken None = []
 abbrev pub topmost : ℕ → List ℕ → List ℕ
 topmost n values = taken (take_args n [] values)
 
--- of what waits, and the values that are kept for it, where `height` has the depth of the evaluation stack before each
+-- of what waits, and the values that are kept for it, where `height` has the depth of the evaluation stack
+-- before each
 -- instruction
 abbrev pub opens_waiting : (ℕ → ℕ) → List Waiting → List ℕ → Opens
 opens_waiting height [] vs = nothing
-opens_waiting height (ForValue a ∷ ws) vs = in_function a (opens_waiting height ws (drop (height a.at - 1) vs))
-opens_waiting height (ForRet call ∷ ws) vs = in_function call.then (with_call call.func (topmost call.args vs) (opens_waiting height ws (drop (height call.then.at - 1 + held_by call) vs)))
-opens_waiting height (ForUpRet a f ∷ ws) vs = with_up f (in_function a (opens_waiting height ws (drop (height a.at - 1) vs)))
-opens_waiting height (ForBelow call f ∷ ws) vs = with_up f (in_function call.then (with_call call.func (topmost call.args vs) (opens_waiting height ws (drop (height call.then.at - 1 + held_by call) vs))))
+opens_waiting height (ForValue a ∷ ws) vs = in_function a
+    (opens_waiting height ws (drop (height a.at - 1) vs))
+opens_waiting height (ForRet call ∷ ws) vs = in_function call.then
+    (with_call call.func (topmost call.args vs)
+    (opens_waiting height ws (drop (height call.then.at - 1 + held_by call) vs)))
+opens_waiting height (ForUpRet a f ∷ ws) vs =
+    with_up f (in_function a (opens_waiting height ws (drop (height a.at - 1) vs)))
+opens_waiting height (ForBelow call f ∷ ws) vs =
+    with_up f (in_function call.then (with_call call.func (topmost call.args vs)
+    (opens_waiting height ws (drop (height call.then.at - 1 + held_by call) vs))))
 opens_waiting height (ForOutside f ∷ ws) vs = with_up f (opens_waiting height ws vs)
 
 -- of a thread that stands here; below a call it waits as for the call's return
@@ -123,11 +147,14 @@ Begins Above Lost = ⊥
 -- each mark answers what is wanted after those before it, or is a Stop
 abbrev pub AreAnswers : Reading → Laid → Config → List Mark → Type 0
 AreAnswers r l c [] = Unit {0}
-AreAnswers r l c (m ∷ past) = (IsWanted (step r l (state r l c past)) m ⊎ (is_stop m.act ≡ true)) × AreAnswers r l c past
+AreAnswers r l c (m ∷ past) = (IsWanted (step r l (state r l c past)) m ⊎ (is_stop m.act ≡ true)) ×
+    AreAnswers r l c past
 
 -- what is open where a thread stands is what is open by the marks that led it there
 abbrev pub MarksAreOpen : Reading → Laid → Type 0
-MarksAreOpen r l = (valid : IsValid l.code) (c : Config) (past : List Mark) → Begins r c → AreAnswers r l c past → state r l c past ≢ Lost → opens_in valid.height (state r l c past) ≡ opens_by past
+MarksAreOpen r l = (valid : IsValid l.code) (c : Config) (past : List Mark) → Begins r c →
+    AreAnswers r l c past → state r l c past ≢ Lost → opens_in valid.height (state r l c past) ≡
+    opens_by past
 
 abbrev pub IsFirst : {A : Type 0} → A → List A → Type 0
 IsFirst x [] = ⊥
@@ -137,7 +164,8 @@ abbrev pub frames_on : Side → Opens → List Range
 frames_on Replay o = o.above
 frames_on System o = o.below
 
--- what is wanted ends the innermost frame of its side, is below the innermost call, or ends the innermost call back
+-- what is wanted ends the innermost frame of its side, is below the innermost call, or ends the innermost
+-- call back
 abbrev pub EndsInnermost : Side → Want → Opens → Type 0
 EndsInnermost side Outside o = Unit {0}
 EndsInnermost side Turns o = Unit {0}
@@ -157,12 +185,16 @@ EndsInnermost side (Steps indirect f args) o = Unit {0}
 EndsInnermost side (Fails kind) o = Unit {0}
 
 abbrev pub WantsEndInnermost : Reading → Laid → Type 0
-WantsEndInnermost r l = IsValid l.code → (c : Config) (past : List Mark) (side : Side) (want : Want) (to : Answer → Config) → Begins r c → AreAnswers r l c past → step r l (state r l c past) ≡ Wants side want to → EndsInnermost side want (opens_by past)
+WantsEndInnermost r l = IsValid l.code → (c : Config) (past : List Mark) (side : Side) (want : Want) (to :
+    Answer → Config) → Begins r c → AreAnswers r l c past →
+    step r l (state r l c past) ≡ Wants side want to → EndsInnermost side want (opens_by past)
 
 -- the same of marks above the cut, each of which answers what is wanted there after those before it
 abbrev pub AnswerAbove : Laid → List Mark → Type 0
 AnswerAbove l [] = Unit {0}
-AnswerAbove l (m ∷ past) = (m.side ≡ Replay) × ((is_some (answer_to (want_above l past) m.act) ≡ true) ⊎ (is_stop m.act ≡ true)) × AnswerAbove l past
+AnswerAbove l (m ∷ past) = (m.side ≡ Replay) ×
+    ((is_some (answer_to (want_above l past) m.act) ≡ true) ⊎ (is_stop m.act ≡ true)) × AnswerAbove l past
 
 abbrev pub WantsAboveEndInnermost : Laid → Type 0
-WantsAboveEndInnermost l = IsValid l.code → (past : List Mark) → AnswerAbove l past → EndsInnermost Replay (want_above l past) (opens_above past)
+WantsAboveEndInnermost l = IsValid l.code → (past : List Mark) → AnswerAbove l past →
+    EndsInnermost Replay (want_above l past) (opens_above past)

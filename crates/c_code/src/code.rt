@@ -39,9 +39,18 @@ impl Model for Code {
 
     ghost Value = { Flat };
 
-    ghost view = { λ c. record { builtins = c.builtins.items; sources = c.sources.items; instrs = c.instrs.items } };
+    ghost view = { λ c. record {
+      builtins = c.builtins.items;
+      sources = c.sources.items;
+      instrs =
+          c.instrs.items;
+    } };
 
-    ghost invariant = { λ c. IsValid record { builtins = c.builtins.items; sources = c.sources.items; instrs = c.instrs.items } };
+    ghost invariant = { λ c. IsValid record {
+      builtins = c.builtins.items;
+      sources = c.sources.items;
+      instrs = c.instrs.items;
+    } };
 }
 
 impl Code {

@@ -25,7 +25,8 @@ is_line_byte b = not (b == 10)
 
 -- the value of a digit of any base up to 16, and 16 for what is none (C11 6.4.4.1)
 unfoldable pub digit_of : ℕ → ℕ
-digit_of b = if is_digit b then b - 48 else (if nat_le 97 b && nat_le b 102 then b - 87 else (if nat_le 65 b && nat_le b 70 then b - 55 else 16))
+digit_of b = if is_digit b then b - 48 else (if nat_le 97 b &&
+    nat_le b 102 then b - 87 else (if nat_le 65 b && nat_le b 70 then b - 55 else 16))
 
 -- a digit of the base
 unfoldable pub is_digit_in : ℕ → ℕ → Bool

@@ -14,7 +14,8 @@ further (Some n) = Some (n + 1)
 -- how many bytes there are up to the first `*/`, with it
 abbrev pub comment_length : List ℕ → Option ℕ
 comment_length [] = None
-comment_length (b ∷ bs) = if starts_with nat_eq (b ∷ bs) (codes "*/") then Some 2 else further (comment_length bs)
+comment_length (b ∷ bs) = if starts_with nat_eq (b ∷ bs) (codes "*/") then Some 2 else further
+    (comment_length bs)
 
 abbrev pub comment : Option ℕ → Item
 comment None = items.Fault OpenText 0
@@ -38,7 +39,8 @@ begins p bs = not (run p bs == 0)
 
 -- nothing, or blanks and what begins with `"`
 unfoldable pub is_marker_end : List ℕ → Bool
-is_marker_end line = is_empty line || (begins is_blank line && starts_with nat_eq (after is_blank line) (codes "\""))
+is_marker_end line = is_empty line || (begins is_blank line &&
+    starts_with nat_eq (after is_blank line) (codes "\""))
 
 -- digits, and then such an end
 unfoldable pub is_marker_number : List ℕ → Bool
@@ -54,4 +56,5 @@ line_of bs = take (run is_line_byte bs) bs
 
 -- the line that begins with the `#` at the prefix
 unfoldable pub marker_at : List ℕ → Item
-marker_at bs = if is_marker (line_of (drop 1 bs)) then items.Skip (run is_line_byte (drop 1 bs) + 1) false else items.Fault Directive 0
+marker_at bs = if is_marker (line_of (drop 1 bs)) then items.Skip (run is_line_byte (drop 1 bs) + 1) false
+    else items.Fault Directive 0

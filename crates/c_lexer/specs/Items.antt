@@ -32,7 +32,8 @@ abbrev pub number : ℕ → Result Kind Fault → Item
 number n (Ok kind) = items.Token n kind
 number n (Err fault) = items.Fault fault 0
 
--- a number is the longest run of letters, digits and `_` that begins with a digit, all of which must spell it (6.4.8, 6.4.4.1)
+-- a number is the longest run of letters, digits and `_` that begins with a digit, all of which must spell
+-- it (6.4.8, 6.4.4.1)
 unfoldable pub number_at : List ℕ → Item
 number_at bs = number (run is_name_byte bs) (number_of (word_of bs))
 
@@ -49,7 +50,8 @@ token_at b bs =
     else (if b == 34 then string_at (drop 1 bs)
     else sign (sign_at bs))))
 
--- what begins with this byte, where `fresh` says that only blanks of a line that begins outside a comment stand before it
+-- what begins with this byte, where `fresh` says that only blanks of a line that begins outside a comment
+-- stand before it
 unfoldable pub item_of : Bool → ℕ → List ℕ → Item
 item_of fresh b bs =
     if is_blank b then items.Skip 1 fresh

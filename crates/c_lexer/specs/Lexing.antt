@@ -23,12 +23,16 @@ pub data End : Type 0 where
 
 -- the bytes from an offset on, with `fresh` as in item_at, are these tokens up to this end
 pub data Reads : Bool → ℕ → List ℕ → List Token → End → Type 0 where
-  finished : {fresh : Bool} {at : ℕ} {bs : List ℕ} → item_at fresh bs ≡ items.Finished → Reads fresh at bs [] Whole
-  stopped : {fresh : Bool} {at n : ℕ} {bs : List ℕ} {fault : Fault} → item_at fresh bs ≡ items.Fault fault n → Reads fresh at bs [] (Stopped (error_at fault (at + n)))
+  finished : {fresh : Bool} {at : ℕ} {bs : List ℕ} → item_at fresh bs ≡ items.Finished →
+      Reads fresh at bs [] Whole
+  stopped : {fresh : Bool} {at n : ℕ} {bs : List ℕ} {fault : Fault} →
+      item_at fresh bs ≡ items.Fault fault n → Reads fresh at bs [] (Stopped (error_at fault (at + n)))
   skipped : {fresh line : Bool} {at n : ℕ} {bs : List ℕ} {ts : List Token} {end : End} →
-      item_at fresh bs ≡ items.Skip n line → Reads line (at + n) (drop n bs) ts end → Reads fresh at bs ts end
+      item_at fresh bs ≡ items.Skip n line → Reads line (at + n) (drop n bs) ts end →
+      Reads fresh at bs ts end
   token : {fresh : Bool} {at n : ℕ} {bs : List ℕ} {k : Kind} {ts : List Token} {end : End} →
-      item_at fresh bs ≡ items.Token n k → Reads false (at + n) (drop n bs) ts end → Reads fresh at bs (record { kind = k; from = at; to = at + n } ∷ ts) end
+      item_at fresh bs ≡ items.Token n k → Reads false (at + n) (drop n bs) ts end →
+      Reads fresh at bs (record { kind = k; from = at; to = at + n } ∷ ts) end
 
 -- the source is these tokens
 abbrev pub IsTokens : List ℕ → List Token → Type 0
@@ -49,7 +53,8 @@ HasReading source = (ts : List Token) × (end : End) × Reads true 0 source ts e
 
 -- what a reading makes of bytes is determined
 abbrev pub OneReading : Type 0
-OneReading = (fresh : Bool) (at : ℕ) (bs : List ℕ) (ts us : List Token) (d e : End) → Reads fresh at bs ts d → Reads fresh at bs us e → (ts ≡ us) × (d ≡ e)
+OneReading = (fresh : Bool) (at : ℕ) (bs : List ℕ) (ts us : List Token) (d e : End) →
+    Reads fresh at bs ts d → Reads fresh at bs us e → (ts ≡ us) × (d ≡ e)
 
 -- what an error says of a source; out of memory says nothing
 abbrev pub Refuses : List ℕ → LexError → Type 0

@@ -17,7 +17,11 @@ number_from base n (d ∷ ds) = number_from base (n * base + digit_of d) ds
 
 -- the suffixes, in either case and order
 abbrev pub suffix_texts : List (List ℕ × Suffix)
-suffix_texts = ([], suffixes.Plain) ∷ (codes "u", suffixes.U) ∷ (codes "U", suffixes.U) ∷ (codes "l", suffixes.L) ∷ (codes "L", suffixes.L) ∷ (codes "ul", suffixes.UL) ∷ (codes "uL", suffixes.UL) ∷ (codes "Ul", suffixes.UL) ∷ (codes "UL", suffixes.UL) ∷ (codes "lu", suffixes.UL) ∷ (codes "lU", suffixes.UL) ∷ (codes "Lu", suffixes.UL) ∷ (codes "LU", suffixes.UL) ∷ []
+suffix_texts = ([], suffixes.Plain) ∷ (codes "u", suffixes.U) ∷ (codes "U", suffixes.U) ∷
+    (codes "l", suffixes.L) ∷ (codes "L", suffixes.L) ∷ (codes "ul", suffixes.UL) ∷
+    (codes "uL", suffixes.UL) ∷ (codes "Ul", suffixes.UL) ∷ (codes "UL", suffixes.UL) ∷
+    (codes "lu", suffixes.UL) ∷ (codes "lU", suffixes.UL) ∷ (codes "Lu", suffixes.UL) ∷
+    (codes "LU", suffixes.UL) ∷ []
 
 abbrev pub first_suffix : List (List ℕ × Suffix) → List ℕ → Option Suffix
 first_suffix [] text = None
@@ -36,7 +40,8 @@ limit suffixes.UL decimal = 2 ^ 64
 
 -- a number that has a type
 unfoldable pub typed : Bool → ℕ → Suffix → Result Kind Fault
-typed decimal n suffix = if nat_lt n (limit suffix decimal) then Ok (kinds.Number n suffix decimal) else Err BigNumber
+typed decimal n suffix = if nat_lt n (limit suffix decimal) then Ok (kinds.Number n suffix decimal) else
+    Err BigNumber
 
 unfoldable pub suffixed : Bool → ℕ → Option Suffix → Result Kind Fault
 suffixed decimal n None = Err BadByte
@@ -44,11 +49,13 @@ suffixed decimal n (Some suffix) = typed decimal n suffix
 
 -- digits of the base, of which there are `count`, and a suffix
 unfoldable pub digits_and_suffix : ℕ → Bool → ℕ → List ℕ → Result Kind Fault
-digits_and_suffix base decimal count text = if count == 0 then Err BadByte else suffixed decimal (number_from base 0 (take count text)) (suffix_of (drop count text))
+digits_and_suffix base decimal count text = if count == 0 then Err BadByte else suffixed decimal
+    (number_from base 0 (take count text)) (suffix_of (drop count text))
 
 unfoldable pub based : ℕ → Bool → List ℕ → Result Kind Fault
 based base decimal text = digits_and_suffix base decimal (run (is_digit_in base) text) text
 
 -- the number that is spelled so: hexadecimal after `0x`, octal after `0`, else decimal
 unfoldable pub number_of : List ℕ → Result Kind Fault
-number_of text = if starts_with nat_eq text (codes "0x") then based 16 false (drop 2 text) else (if starts_with nat_eq text (codes "0") then based 8 false text else based 10 true text)
+number_of text = if starts_with nat_eq text (codes "0x") then based 16 false (drop 2 text) else
+    (if starts_with nat_eq text (codes "0") then based 8 false text else based 10 true text)

@@ -54,7 +54,15 @@ sign_text signs.Comma = codes ","
 
 -- every sign, those of more bytes first
 abbrev pub all_signs : List Sign
-all_signs = signs.ShiftLeftAssign ∷ signs.ShiftRightAssign ∷ signs.Arrow ∷ signs.Increment ∷ signs.Decrement ∷ signs.ShiftLeft ∷ signs.ShiftRight ∷ signs.LessEqual ∷ signs.GreaterEqual ∷ signs.Equal ∷ signs.NotEqual ∷ signs.AndAnd ∷ signs.OrOr ∷ signs.StarAssign ∷ signs.SlashAssign ∷ signs.PercentAssign ∷ signs.PlusAssign ∷ signs.MinusAssign ∷ signs.AmpersandAssign ∷ signs.CaretAssign ∷ signs.BarAssign ∷ signs.OpenBracket ∷ signs.CloseBracket ∷ signs.OpenParenthesis ∷ signs.CloseParenthesis ∷ signs.OpenBrace ∷ signs.CloseBrace ∷ signs.Dot ∷ signs.Ampersand ∷ signs.Star ∷ signs.Plus ∷ signs.Minus ∷ signs.Tilde ∷ signs.Exclamation ∷ signs.Slash ∷ signs.Percent ∷ signs.Less ∷ signs.Greater ∷ signs.Caret ∷ signs.Bar ∷ signs.Question ∷ signs.Colon ∷ signs.Semicolon ∷ signs.Assign ∷ signs.Comma ∷ []
+all_signs = signs.ShiftLeftAssign ∷ signs.ShiftRightAssign ∷ signs.Arrow ∷ signs.Increment ∷
+    signs.Decrement ∷ signs.ShiftLeft ∷ signs.ShiftRight ∷ signs.LessEqual ∷ signs.GreaterEqual ∷
+    signs.Equal ∷ signs.NotEqual ∷ signs.AndAnd ∷ signs.OrOr ∷ signs.StarAssign ∷ signs.SlashAssign ∷
+    signs.PercentAssign ∷ signs.PlusAssign ∷ signs.MinusAssign ∷ signs.AmpersandAssign ∷
+    signs.CaretAssign ∷ signs.BarAssign ∷ signs.OpenBracket ∷ signs.CloseBracket ∷ signs.OpenParenthesis ∷
+    signs.CloseParenthesis ∷ signs.OpenBrace ∷ signs.CloseBrace ∷ signs.Dot ∷ signs.Ampersand ∷
+    signs.Star ∷ signs.Plus ∷ signs.Minus ∷ signs.Tilde ∷ signs.Exclamation ∷ signs.Slash ∷ signs.Percent ∷
+    signs.Less ∷ signs.Greater ∷ signs.Caret ∷ signs.Bar ∷ signs.Question ∷ signs.Colon ∷ signs.Semicolon ∷
+    signs.Assign ∷ signs.Comma ∷ []
 
 -- the bytes begin with the sign
 abbrev pub begins_with : List ℕ → Sign → Bool
@@ -66,4 +74,5 @@ sign_at bytes = find (λ s. begins_with bytes s) all_signs
 
 -- the bytes begin with this sign and with no longer one (6.4, paragraph 4)
 abbrev pub IsLongest : List ℕ → Sign → Type 0
-IsLongest bytes s = (begins_with bytes s ≡ true) × ((z : Sign) → begins_with bytes z ≡ true → length (sign_text z) ≤ length (sign_text s))
+IsLongest bytes s = (begins_with bytes s ≡ true) ×
+    ((z : Sign) → begins_with bytes z ≡ true → length (sign_text z) ≤ length (sign_text s))

@@ -9,13 +9,17 @@ use Rattle.c_lexer.specs.declared.text_part.Part.{Part}
 use Rattle.c_lexer.specs.declared.text_part.Part.TheVariants.{Close, Byte, Open, Bad}
 use Rattle.c_lexer.specs.Bytes.{digit_of, is_digit_in}
 
--- the byte that a `\` and this letter stand for (6.4.4.4, simple-escape-sequence): n, t, r, 0 and what stands for itself
+-- the byte that a `\` and this letter stand for (6.4.4.4, simple-escape-sequence): n, t, r, 0 and what
+-- stands for itself
 unfoldable pub escaped : ℕ → Option ℕ
-escaped b = if b == 110 then Some 10 else (if b == 116 then Some 9 else (if b == 114 then Some 13 else (if b == 48 then Some 0 else (if (b == 92) || (b == 39) || (b == 34) then Some b else None))))
+escaped b = if b == 110 then Some 10 else (if b == 116 then Some 9 else
+    (if b == 114 then Some 13 else (if b == 48 then Some 0 else (if (b == 92) || (b == 39) ||
+    (b == 34) then Some b else None))))
 
 -- the byte that `\x` and exactly two digits stand for
 unfoldable pub hex_escape : List ℕ → Part
-hex_escape (h ∷ l ∷ bs) = if is_digit_in 16 h && is_digit_in 16 l then Byte (digit_of h * 16 + digit_of l) 4 else Bad
+hex_escape (h ∷ l ∷ bs) = if is_digit_in 16 h &&
+    is_digit_in 16 l then Byte (digit_of h * 16 + digit_of l) 4 else Bad
 hex_escape bs = Bad
 
 abbrev pub simple_escape : Option ℕ → Part
@@ -31,10 +35,13 @@ escape (b ∷ bs) = if b == 120 then hex_escape bs else simple_escape (escaped b
 unfoldable pub is_plain : ℕ → ℕ → Bool
 is_plain quote b = (nat_le 32 b && nat_le b 126) || ((quote == 34) && nat_le 128 b)
 
--- what stands between quotes: the closing one, a byte and how many bytes spell it, an end of the line or source, or what can't stand there
+-- what stands between quotes: the closing one, a byte and how many bytes spell it, an end of the line or
+-- source, or what can't stand there
 unfoldable pub part_at : ℕ → List ℕ → Part
 part_at quote [] = Open
-part_at quote (b ∷ bs) = if b == quote then Close else (if b == 10 then Open else (if b == 92 then escape bs else (if is_plain quote b then Byte b 1 else Bad)))
+part_at quote (b ∷ bs) = if b == quote then Close else
+    (if b == 10 then Open else (if b == 92 then escape bs else
+    (if is_plain quote b then Byte b 1 else Bad)))
 
 -- the value of a byte as a signed char
 abbrev pub signed_char : ℕ → ℤ
@@ -45,13 +52,15 @@ unfoldable pub character : Part → List ℕ → Item
 character Close bs = items.Fault BadByte 1
 character Open bs = items.Fault OpenText 0
 character Bad bs = items.Fault BadByte 1
-character (Byte b n) bs = if starts_with nat_eq (drop n bs) (codes "'") then items.Token (n + 2) (kinds.Char (signed_char b)) else items.Fault OpenText 0
+character (Byte b n) bs = if starts_with nat_eq (drop n bs) (codes "'") then items.Token (n + 2)
+    (kinds.Char (signed_char b)) else items.Fault OpenText 0
 
 -- the character whose opening quote the bytes follow
 unfoldable pub character_at : List ℕ → Item
 character_at bs = character (part_at 39 bs) bs
 
--- how a string goes on: up to its closing quote, of so many bytes with it, with these values; to no closing quote; or to a byte that can't stand in it
+-- how a string goes on: up to its closing quote, of so many bytes with it, with these values; to no closing
+-- quote; or to a byte that can't stand in it
 pub data Quoted : Type 0 where
   Closed : ℕ → List ℕ → Quoted
   NeverClosed : Quoted

@@ -44,7 +44,12 @@ word_text words.Auto = codes "auto"
 
 -- every keyword
 abbrev pub all_words : List Word
-all_words = words.Void ∷ words.Char ∷ words.Short ∷ words.Int ∷ words.Long ∷ words.Signed ∷ words.Unsigned ∷ words.Struct ∷ words.Const ∷ words.Extern ∷ words.Static ∷ words.If ∷ words.Else ∷ words.While ∷ words.For ∷ words.Do ∷ words.Break ∷ words.Continue ∷ words.Return ∷ words.Sizeof ∷ words.Typedef ∷ words.Enum ∷ words.Union ∷ words.Switch ∷ words.Case ∷ words.Default ∷ words.Goto ∷ words.Float ∷ words.Double ∷ words.Volatile ∷ words.Register ∷ words.Inline ∷ words.Restrict ∷ words.Auto ∷ []
+all_words = words.Void ∷ words.Char ∷ words.Short ∷ words.Int ∷ words.Long ∷ words.Signed ∷
+    words.Unsigned ∷ words.Struct ∷ words.Const ∷ words.Extern ∷ words.Static ∷ words.If ∷ words.Else ∷
+    words.While ∷ words.For ∷ words.Do ∷ words.Break ∷ words.Continue ∷ words.Return ∷ words.Sizeof ∷
+    words.Typedef ∷ words.Enum ∷ words.Union ∷ words.Switch ∷ words.Case ∷ words.Default ∷ words.Goto ∷
+    words.Float ∷ words.Double ∷ words.Volatile ∷ words.Register ∷ words.Inline ∷ words.Restrict ∷
+    words.Auto ∷ []
 
 -- the keyword that is spelled so, if any
 unfoldable pub keyword : List ℕ → Option Word

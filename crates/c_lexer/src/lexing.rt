@@ -59,11 +59,16 @@ pub fn lex(alloc: Global, source: &[u8]) -> Result<Vec<Token>, LexError>
     requires { length source.now ≤ 1048576 }
     ensures tokens { IfOk result (λ v. IsTokens source.now v.items) }
     ensures places { IfOk result (λ v. InOrder 0 v.items (length source.now)) }
-    ensures ok { result ≢ Err LexError.Memory → (IsOk result ↔ ((ts : List Token) × IsTokens source.now ts)) }
-    ensures bad_byte { (at : ℕ) → result ≢ Err LexError.Memory → (IsErrOf result (LexError.BadByte at) ↔ IsLexError source.now (LexError.BadByte at)) }
-    ensures open_text { (at : ℕ) → result ≢ Err LexError.Memory → (IsErrOf result (LexError.OpenText at) ↔ IsLexError source.now (LexError.OpenText at)) }
-    ensures big_number { (at : ℕ) → result ≢ Err LexError.Memory → (IsErrOf result (LexError.BigNumber at) ↔ IsLexError source.now (LexError.BigNumber at)) }
-    ensures directive { (at : ℕ) → result ≢ Err LexError.Memory → (IsErrOf result (LexError.Directive at) ↔ IsLexError source.now (LexError.Directive at)) }
+    ensures ok { result ≢ Err LexError.Memory →
+        (IsOk result ↔ ((ts : List Token) × IsTokens source.now ts)) }
+    ensures bad_byte { (at : ℕ) → result ≢ Err LexError.Memory →
+        (IsErrOf result (LexError.BadByte at) ↔ IsLexError source.now (LexError.BadByte at)) }
+    ensures open_text { (at : ℕ) → result ≢ Err LexError.Memory →
+        (IsErrOf result (LexError.OpenText at) ↔ IsLexError source.now (LexError.OpenText at)) }
+    ensures big_number { (at : ℕ) → result ≢ Err LexError.Memory →
+        (IsErrOf result (LexError.BigNumber at) ↔ IsLexError source.now (LexError.BigNumber at)) }
+    ensures directive { (at : ℕ) → result ≢ Err LexError.Memory →
+        (IsErrOf result (LexError.Directive at) ↔ IsLexError source.now (LexError.Directive at)) }
 {
     read_tokens(alloc, source)
 }

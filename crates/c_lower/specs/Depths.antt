@@ -24,16 +24,19 @@ typed_depth (AnObject o) = object_depth o
 typed_depth (AFunction f t) = callee_depth f
 typed_depth (AValue v) = value_depth v
 
--- those of a call, where so many values are on the stack below its arguments; nothing but functions is called
+-- those of a call, where so many values are on the stack below its arguments; nothing but functions is
+-- called
 abbrev pub calling_depth : Typed → ℕ → ℕ
 calling_depth (AnObject o) n = max 1 n
 calling_depth (AFunction f t) n = call_depth f n
 calling_depth (AValue v) n = max 1 n
 
--- whether the evaluation stack is deeper than 64 values in a function, where its source says that so many do
+-- whether the evaluation stack is deeper than 64 values in a function, where its source says that so many
+-- do
 abbrev pub is_wide : Table → Option Body → (counted : ℕ) → Bool
 is_wide t None n = nat_lt most_values n
-is_wide t (Some b) n = nat_lt most_values n || nat_lt most_values (statement_depth (statement_in t b.statements))
+is_wide t (Some b) n = nat_lt most_values n ||
+    nat_lt most_values (statement_depth (statement_in t b.statements))
 
 -- the depth of the evaluation stack that the source tells in the function at a place; none where nothing is
 -- said of it
@@ -43,7 +46,8 @@ counted_at us place = slice_index_or us place 0
 -- the number of the first such function, where these have the places from one on
 abbrev pub first_wide : Table → (counted : List ℕ) → (place : ℕ) → List Function → Option ℕ
 first_wide t us place [] = None
-first_wide t us place (f ∷ fs) = cond (is_wide t f.body (counted_at us place)) (Some (first_source_function + place)) (first_wide t us (suc place) fs)
+first_wide t us place (f ∷ fs) = cond (is_wide t f.body (counted_at us place))
+    (Some (first_source_function + place)) (first_wide t us (suc place) fs)
 
 -- so many nodes a source may have
 abbrev pub most_nodes : ℕ

@@ -26,7 +26,8 @@ locals_of p b = types_in p.table.types b.locals
 -- the code of a function; one without a body has none
 abbrev pub code_of : Declared → Option Body → List Instr
 code_of p None = []
-code_of p (Some b) = body_code (body_in p.table b) (making (setting p (local_offsets (source_in p) (locals_of p b))))
+code_of p (Some b) = body_code (body_in p.table b)
+    (making (setting p (local_offsets (source_in p) (locals_of p b))))
 
 -- the code of functions, one after another
 abbrev pub codes_of : Declared → List Function → List Instr

@@ -75,10 +75,12 @@ abbrev mutual
   statement_names texts (Evaluate v) = value_names texts v
   statement_names texts (Initialise place t v) = value_names texts v
   statement_names texts (If v s) = value_names texts v ++ statement_names texts s
-  statement_names texts (IfElse v s z) = value_names texts v ++ (statement_names texts s ++ statement_names texts z)
+  statement_names texts (IfElse v s z) = value_names texts v ++
+      (statement_names texts s ++ statement_names texts z)
   statement_names texts (While from v s) = value_names texts v ++ statement_names texts s
   statement_names texts (Do from s v) = statement_names texts s ++ value_names texts v
-  statement_names texts (For from first v last s) = statements_names texts first ++ (maybe_names texts v ++ (maybe_names texts last ++ statement_names texts s))
+  statement_names texts (For from first v last s) = statements_names texts first ++
+      (maybe_names texts v ++ (maybe_names texts last ++ statement_names texts s))
   statement_names texts Break = []
   statement_names texts Continue = []
   statement_names texts (Return from v) = maybe_names texts v
@@ -87,7 +89,8 @@ abbrev mutual
   statements_names texts NoStatements = []
   statements_names texts (MoreStatements s ss) = statement_names texts s ++ statements_names texts ss
 
--- ---- what an instruction names: the function that it calls by its number, and the global or string that it works on
+-- ---- what an instruction names: the function that it calls by its number, and the global or string that
+-- it works on
 
 abbrev pub push_names : Push → List Name
 push_names (Global place) = GlobalName place ∷ []
@@ -130,4 +133,5 @@ pub record IsOfFunction (p : Declared) (code : Flat) (place : ℕ) (i : Instr) :
 
 -- the code of each function names nothing but what the function does
 abbrev pub NamesNoMore : Declared → Flat → Type 0
-NamesNoMore p code = (place : ℕ) (i : Instr) → slice_get code.instrs place ≡ Some i → IsOfFunction p code place i
+NamesNoMore p code = (place : ℕ) (i : Instr) → slice_get code.instrs place ≡ Some i →
+    IsOfFunction p code place i

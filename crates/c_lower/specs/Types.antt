@@ -9,5 +9,6 @@ use Rattle.c_lower_rules.specs.Placement.{IsSigOf}
 
 -- two functions have one number exactly where their types are equal, and `int (void *)` has the number 0
 pub record TellsTypes (s : Source) (code : Flat) : Type 0 where
-  pub same : (f g : ℕ) (a b : FuncInfo) → func_of code f ≡ Some a → func_of code g ≡ Some b → (a.sig ≡ b.sig) ↔ (type_of s f ≡ type_of s g)
+  pub same : (f g : ℕ) (a b : FuncInfo) → func_of code f ≡ Some a → func_of code g ≡ Some b →
+      (a.sig ≡ b.sig) ↔ (type_of s f ≡ type_of s g)
   pub starts : IsSigOf s code thread_function start_sig

@@ -31,7 +31,8 @@ pub fn either(first: u8, second: u8) -> u8
 }
 
 fn sum(sum: Sum, pointer: u8, index: u8) -> u8
-    ensures { (p i : ℕ) → pointer ≡ capped p → index ≡ capped i → result ≡ capped (sum_depth (sum_in sum) p i) }
+    ensures { (p i : ℕ) → pointer ≡ capped p → index ≡ capped i →
+        result ≡ capped (sum_depth (sum_in sum) p i) }
 {
     match sum {
         Sum::PointerPlus | Sum::PointerMinus => pair(pointer, index),
@@ -143,7 +144,8 @@ fn values_depth(table: &TypedTable, ids: &[NodeId]) -> u8
 fn call_depth(table: &TypedTable, callee: NodeId, arguments: &[NodeId]) -> u8
     requires callee { IsNode table.now callee }
     requires arguments { All (IsValueAt table.now) arguments.now }
-    ensures { result ≡ capped (calling_depth (node_at table.now callee) (values_depth_of (values (typed_of table.now) arguments.now))) }
+    ensures { result ≡ capped (calling_depth (node_at table.now callee)
+        (values_depth_of (values (typed_of table.now) arguments.now))) }
 {
     let waiting = values_depth(table, arguments);
     match table.get(callee) {

@@ -91,7 +91,8 @@ pub fn function_info(
 ) -> Result<FuncInfo, AllocError>
     requires { IsFunction index.now.table function.now }
     ensures info { IfOk result (λ i. i ≡ info_of index.now (length instrs.old.items) function.now) }
-    ensures code { OnOk result (instrs.new.items ≡ instrs.old.items ++ code_of index.now function.now.body) }
+    ensures code { OnOk result (instrs.new.items ≡ instrs.old.items ++
+        code_of index.now function.now.body) }
 {
     match &function.body {
         None => info(alloc, index, function, 0, None),

@@ -60,8 +60,10 @@ pub fn lower(
 ) -> Result<Code, LowerError>
     requires { IsFit program.now }
     ensures long { (result ≡ Err LowerError.Long) ↔ (most_nodes < nodes) }
-    ensures wide { (f : ℕ) → (result ≡ Err (LowerError.Wide f)) ↔ ((nodes ≤ most_nodes) × (first_wide_of program.now.table counted.now 0 program.now.functions ≡ Some f)) }
-    ensures few { OnOk result ((nodes ≤ most_nodes) × (first_wide_of program.now.table counted.now 0 program.now.functions ≡ None)) }
+    ensures wide { (f : ℕ) → (result ≡ Err (LowerError.Wide f)) ↔ ((nodes ≤ most_nodes) ×
+        (first_wide_of program.now.table counted.now 0 program.now.functions ≡ Some f)) }
+    ensures few { OnOk result ((nodes ≤ most_nodes) ×
+        (first_wide_of program.now.table counted.now 0 program.now.functions ≡ None)) }
     ensures code { IfOk result (λ c. c ≡ lowered program.now) }
     ensures marks { IfOk result (λ c. (s : Source) → IsSourceOf program.now s → MakesTheMarks s c) }
     ensures types { IfOk result (λ c. (s : Source) → IsSourceOf program.now s → TellsTypes s c) }

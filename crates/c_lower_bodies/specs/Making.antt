@@ -15,4 +15,12 @@ abbrev pub setting : Declared → List ℕ → Setting
 setting p offsets = record { declared = p; offsets = offsets }
 
 abbrev pub making : Setting → Making
-making s = record { against = record { source = source_in s.declared; code = flat [] [] []; offsets = s.offsets }; sig = sig_in s.declared }
+making s = record {
+  against = record {
+    source = source_in s.declared;
+    code = flat [] [] [];
+    offsets =
+        s.offsets;
+  };
+  sig = sig_in s.declared;
+}

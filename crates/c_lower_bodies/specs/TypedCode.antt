@@ -35,4 +35,5 @@ guarded_code v s x stop again more =
 
 -- a loop has its head, and its way back leads there, where so many instructions are after the loop
 abbrev pub Turns : (before after : List Instr) → (end : ℕ) → Type 0
-Turns before after end = (inner old : List Instr) → before ≡ inner ++ (GoBack 0 ∷ old) → length old ≡ end → after ≡ (Turn ∷ (inner ++ one (GoBack (length inner)))) ++ old
+Turns before after end = (inner old : List Instr) → before ≡ inner ++ (GoBack 0 ∷ old) → length old ≡ end →
+    after ≡ (Turn ∷ (inner ++ one (GoBack (length inner)))) ++ old

@@ -56,7 +56,8 @@ impl Backward {
     /// Puts an instruction in the place of the one that so many follow.
     pub(crate) fn replace(&mut self, following: u32, instr: Instr)
         requires { following < length self.old }
-        ensures { (before after : List Instr) (old : Instr) → self.old ≡ before ++ (old ∷ after) → length after ≡ following → self.new ≡ before ++ (instr ∷ after) }
+        ensures { (before after : List Instr) (old : Instr) → self.old ≡ before ++ (old ∷ after) →
+            length after ≡ following → self.new ≡ before ++ (instr ∷ after) }
     {
         self.reversed[following as usize] = instr;
     }

@@ -17,7 +17,8 @@ impl Emitter<'_, '_, '_> {
     /// `AllocError` where there is no memory, or where a number is too great for an instruction.
     pub fn body(&self, alloc: Global, body: &Body) -> Result<Backward, AllocError>
         requires { IsStatement self.now.declared.table body.now.statements }
-        ensures { IfOk result (λ c. c ≡ body_code (body_in self.now.declared.table body.now) (making self.now)) }
+        ensures { IfOk result (λ c. c ≡ body_code (body_in self.now.declared.table body.now)
+            (making self.now)) }
     {
         let mut code = Backward::new(alloc);
         self.give(&mut code, None)?;

@@ -31,7 +31,8 @@ impl Emitter<'_, '_, '_> {
     ) -> Result<(), AllocError>
         requires callee { IsFunctionAt self.now.declared.table callee }
         requires arguments { All (IsValueAt self.now.declared.table) arguments.now }
-        ensures { OnOk result (code.new ≡ call_of (callee_at self.now.declared.table callee) (values (typed_of self.now.declared.table) arguments.now) (making self.now) ++ code.old) }
+        ensures { OnOk result (code.new ≡ call_of (callee_at self.now.declared.table callee)
+            (values (typed_of self.now.declared.table) arguments.now) (making self.now) ++ code.old) }
     {
         let count = short(arguments.len())?;
         self.put_call(code, callee, count)?;
@@ -42,7 +43,8 @@ impl Emitter<'_, '_, '_> {
     // The call itself.
     fn put_call(&self, code: &mut Backward, callee: NodeId, count: u8) -> Result<(), AllocError>
         requires { IsNode self.now.declared.table callee }
-        ensures { OnOk result (code.new ≡ calling_code (node_at self.now.declared.table callee) (making self.now) count ++ code.old) }
+        ensures { OnOk result (code.new ≡ calling_code (node_at self.now.declared.table callee)
+            (making self.now) count ++ code.old) }
     {
         match self.table().get(callee) {
             Node::SourceFunction { number, .. } => {

@@ -43,7 +43,8 @@ impl Emitter<'_, '_, '_> {
     pub(crate) fn converts(&self, ty: TypeId, value: NodeId) -> bool
         requires value { IsValueAt self.now.declared.table value }
         requires ty { ty.0 < length self.now.declared.table.types }
-        ensures { result ≡ converts_of (type_at self.now.declared.table.types ty) (value_at self.now.declared.table value) }
+        ensures { result ≡ converts_of (type_at self.now.declared.table.types ty)
+            (value_at self.now.declared.table value) }
     {
         self.index().is_read(ty) && self.may_change(self.index().kind(ty), value)
     }

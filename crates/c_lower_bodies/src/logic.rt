@@ -23,7 +23,9 @@ impl Emitter<'_, '_, '_> {
     ) -> Result<(), AllocError>
         requires left { IsValueAt self.now.declared.table left }
         requires right { IsValueAt self.now.declared.table right }
-        ensures { OnOk result (code.new ≡ value_code (tree.Both (value_at self.now.declared.table left) (value_at self.now.declared.table right)) (making self.now) ++ code.old) }
+        ensures { OnOk result (code.new ≡ value_code
+            (tree.Both (value_at self.now.declared.table left) (value_at self.now.declared.table right))
+            (making self.now) ++ code.old) }
     {
         let end = code.len();
         self.change(code, right, Change::Truth)?;
@@ -41,7 +43,9 @@ impl Emitter<'_, '_, '_> {
     ) -> Result<(), AllocError>
         requires first { IsValueAt self.now.declared.table first }
         requires second { IsValueAt self.now.declared.table second }
-        ensures { OnOk result (code.new ≡ value_code (tree.Either (value_at self.now.declared.table first) (value_at self.now.declared.table second)) (making self.now) ++ code.old) }
+        ensures { OnOk result (code.new ≡ value_code
+            (tree.Either (value_at self.now.declared.table first)
+            (value_at self.now.declared.table second)) (making self.now) ++ code.old) }
     {
         let end = code.len();
         self.change(code, second, Change::Truth)?;
@@ -61,7 +65,10 @@ impl Emitter<'_, '_, '_> {
         requires condition { IsValueAt self.now.declared.table condition }
         requires then { IsValueAt self.now.declared.table then }
         requires other { IsValueAt self.now.declared.table other }
-        ensures { OnOk result (code.new ≡ value_code (tree.Choice (value_at self.now.declared.table condition) (value_at self.now.declared.table then) (value_at self.now.declared.table other)) (making self.now) ++ code.old) }
+        ensures { OnOk result (code.new ≡ value_code
+            (tree.Choice (value_at self.now.declared.table condition)
+            (value_at self.now.declared.table then) (value_at self.now.declared.table other))
+            (making self.now) ++ code.old) }
     {
         let end = code.len();
         self.value(code, other)?;
@@ -82,7 +89,9 @@ impl Emitter<'_, '_, '_> {
     ) -> Result<(), AllocError>
         requires first { IsValueAt self.now.declared.table first }
         requires second { IsValueAt self.now.declared.table second }
-        ensures { OnOk result (code.new ≡ value_code (tree.Sequence (value_at self.now.declared.table first) (value_at self.now.declared.table second)) (making self.now) ++ code.old) }
+        ensures { OnOk result (code.new ≡ value_code
+            (tree.Sequence (value_at self.now.declared.table first)
+            (value_at self.now.declared.table second)) (making self.now) ++ code.old) }
     {
         self.value(code, second)?;
         code.put(Instr::Drop)?;

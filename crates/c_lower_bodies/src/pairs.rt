@@ -32,7 +32,9 @@ impl Emitter<'_, '_, '_> {
     ) -> Result<(), AllocError>
         requires left { IsValueAt self.now.declared.table left }
         requires right { IsValueAt self.now.declared.table right }
-        ensures { OnOk result (code.new ≡ (value_code (value_at self.now.declared.table left) (making self.now) ++ (value_code (value_at self.now.declared.table right) (making self.now) ++ one (instr.Combine how))) ++ code.old) }
+        ensures { OnOk result (code.new ≡ (value_code (value_at self.now.declared.table left)
+            (making self.now) ++ (value_code (value_at self.now.declared.table right) (making self.now) ++
+            one (instr.Combine how))) ++ code.old) }
     {
         code.put(Instr::Combine(how))?;
         self.value(code, right)?;
@@ -51,7 +53,9 @@ impl Emitter<'_, '_, '_> {
     ) -> Result<(), AllocError>
         requires pointer { IsValueAt self.now.declared.table pointer }
         requires index { IsValueAt self.now.declared.table index }
-        ensures { OnOk result (code.new ≡ sum_code (sum_in sum) (value_code (value_at self.now.declared.table pointer) (making self.now)) (value_code (value_at self.now.declared.table index) (making self.now)) size ++ code.old) }
+        ensures { OnOk result (code.new ≡ sum_code (sum_in sum)
+            (value_code (value_at self.now.declared.table pointer) (making self.now))
+            (value_code (value_at self.now.declared.table index) (making self.now)) size ++ code.old) }
     {
         match sum {
             Sum::PointerPlus => self.pair(code, pointer, index, Combine::Index(size)),
@@ -74,7 +78,8 @@ impl Emitter<'_, '_, '_> {
         how: Change,
     ) -> Result<(), AllocError>
         requires { IsValueAt self.now.declared.table value }
-        ensures { OnOk result (code.new ≡ (value_code (value_at self.now.declared.table value) (making self.now) ++ one (instr.Change how)) ++ code.old) }
+        ensures { OnOk result (code.new ≡ (value_code (value_at self.now.declared.table value)
+            (making self.now) ++ one (instr.Change how)) ++ code.old) }
     {
         code.put(Instr::Change(how))?;
         self.value(code, value)
@@ -90,7 +95,9 @@ impl Emitter<'_, '_, '_> {
     ) -> Result<(), AllocError>
         requires value { IsValueAt self.now.declared.table value }
         requires ty { ty.0 < length self.now.declared.table.types }
-        ensures { OnOk result (code.new ≡ value_code (tree.Convert (type_at self.now.declared.table.types ty) (value_at self.now.declared.table value)) (making self.now) ++ code.old) }
+        ensures { OnOk result (code.new ≡ value_code
+            (tree.Convert (type_at self.now.declared.table.types ty)
+            (value_at self.now.declared.table value)) (making self.now) ++ code.old) }
     {
         if self.converts(ty, value) {
             self.change(code, value, Change::Convert(self.index().kind(ty)))
@@ -103,7 +110,8 @@ impl Emitter<'_, '_, '_> {
     #[cycle(values)]
     pub(crate) fn read(&self, code: &mut Backward, object: NodeId) -> Result<(), AllocError>
         requires { IsObjectAt self.now.declared.table object }
-        ensures { OnOk result (code.new ≡ value_code (tree.ReadOf (object_at self.now.declared.table object)) (making self.now) ++ code.old) }
+        ensures { OnOk result (code.new ≡ value_code
+            (tree.ReadOf (object_at self.now.declared.table object)) (making self.now) ++ code.old) }
     {
         if self.index().is_read(self.table().type_of(object)) {
             code.put(Instr::Load(self.object_kind(object), self.origin(object)))?;
@@ -120,7 +128,10 @@ impl Emitter<'_, '_, '_> {
         number: u32,
     ) -> Result<(), AllocError>
         requires { IsObjectAt self.now.declared.table object }
-        ensures { OnOk result (code.new ≡ (object_code (object_at self.now.declared.table object) (making self.now) ++ one (instr.Change (change.Offset (member_offset (making self.now).against.source (object_type (object_at self.now.declared.table object)) number)))) ++ code.old) }
+        ensures { OnOk result (code.new ≡ (object_code (object_at self.now.declared.table object)
+            (making self.now) ++ one (instr.Change
+            (change.Offset (member_offset (making self.now).against.source
+            (object_type (object_at self.now.declared.table object)) number)))) ++ code.old) }
     {
         let offset = self
             .index()

@@ -20,7 +20,8 @@ impl Emitter<'_, '_, '_> {
     // A value that isn't used.
     pub(crate) fn evaluate(&self, code: &mut Backward, value: NodeId) -> Result<(), AllocError>
         requires { IsValueAt self.now.declared.table value }
-        ensures { OnOk result (code.new ≡ (value_code (value_at self.now.declared.table value) (making self.now) ++ one Drop) ++ code.old) }
+        ensures { OnOk result (code.new ≡ (value_code (value_at self.now.declared.table value)
+            (making self.now) ++ one Drop) ++ code.old) }
     {
         code.put(Instr::Drop)?;
         self.value(code, value)
@@ -36,7 +37,8 @@ impl Emitter<'_, '_, '_> {
     ) -> Result<(), AllocError>
         requires ty { ty.0 < length self.now.declared.table.types }
         requires value { IsValueAt self.now.declared.table value }
-        ensures { OnOk result (code.new ≡ initialise_code place (type_at self.now.declared.table.types ty) (value_at self.now.declared.table value) (making self.now) ++ code.old) }
+        ensures { OnOk result (code.new ≡ initialise_code place (type_at self.now.declared.table.types ty)
+            (value_at self.now.declared.table value) (making self.now) ++ code.old) }
     {
         let stores = Instr::StoreLocal(self.index().kind(ty), self.local_offset(place));
         code.put(stores)?;
@@ -46,7 +48,8 @@ impl Emitter<'_, '_, '_> {
     // The value of a function, or 0.
     pub(crate) fn give(&self, code: &mut Backward, value: Option<NodeId>) -> Result<(), AllocError>
         requires { IsMaybeAt self.now.declared.table value }
-        ensures { OnOk result (code.new ≡ return_code (maybe_at self.now.declared.table value) (making self.now) ++ code.old) }
+        ensures { OnOk result (code.new ≡ return_code (maybe_at self.now.declared.table value)
+            (making self.now) ++ code.old) }
     {
         code.put(Instr::Finish)?;
         match value {
@@ -63,7 +66,8 @@ impl Emitter<'_, '_, '_> {
         over: u32,
     ) -> Result<(), AllocError>
         requires { IsMaybeAt self.now.declared.table condition }
-        ensures { OnOk result (code.new ≡ test_code (maybe_at self.now.declared.table condition) (making self.now) over ++ code.old) }
+        ensures { OnOk result (code.new ≡ test_code (maybe_at self.now.declared.table condition)
+            (making self.now) over ++ code.old) }
     {
         match condition {
             None => Ok(()),
@@ -77,7 +81,8 @@ impl Emitter<'_, '_, '_> {
     // The last part of a loop, if there is one.
     pub(crate) fn last(&self, code: &mut Backward, last: Option<NodeId>) -> Result<(), AllocError>
         requires { IsMaybeAt self.now.declared.table last }
-        ensures { OnOk result (code.new ≡ last_code (maybe_at self.now.declared.table last) (making self.now) ++ code.old) }
+        ensures { OnOk result (code.new ≡ last_code (maybe_at self.now.declared.table last)
+            (making self.now) ++ code.old) }
     {
         match last {
             None => Ok(()),

@@ -40,7 +40,9 @@ impl Emitter<'_, '_, '_> {
         requires inside { IsStatement self.now.declared.table statement.now }
         requires stop { stop ≤ length code.old }
         requires again { again ≤ length code.old }
-        ensures { OnOk result (code.new ≡ statement_code (statement_in self.now.declared.table statement.now) (making self.now) (length code.old - stop) (length code.old - again) ++ code.old) }
+        ensures { OnOk result (code.new ≡ statement_code
+            (statement_in self.now.declared.table statement.now) (making self.now) (length code.old - stop)
+            (length code.old - again) ++ code.old) }
     {
         match statement {
             Statement::Block(statements) => self.statements(code, statements, stop, again),
@@ -97,7 +99,9 @@ impl Emitter<'_, '_, '_> {
         requires inside { AllStatements self.now.declared.table statements.now }
         requires stop { stop ≤ length code.old }
         requires again { again ≤ length code.old }
-        ensures { OnOk result (code.new ≡ statements_code (statements_in self.now.declared.table statements.now) (making self.now) (length code.old - stop) (length code.old - again) ++ code.old) }
+        ensures { OnOk result (code.new ≡ statements_code
+            (statements_in self.now.declared.table statements.now) (making self.now)
+            (length code.old - stop) (length code.old - again) ++ code.old) }
     {
         for i in (0..statements.len()).rev() {
             self.statement(code, &statements[i], stop, again)?;
@@ -121,7 +125,9 @@ impl Emitter<'_, '_, '_> {
         requires stop { stop ≤ length code.old }
         requires again { again ≤ length code.old }
         requires end { end ≤ length code.old }
-        ensures { OnOk result (code.new ≡ guarded_code (value_at self.now.declared.table condition) (statement_in self.now.declared.table then.now) (making self.now) (length code.old - stop) (length code.old - again) (length code.old - end) ++ code.old) }
+        ensures { OnOk result (code.new ≡ guarded_code (value_at self.now.declared.table condition)
+            (statement_in self.now.declared.table then.now) (making self.now) (length code.old - stop)
+            (length code.old - again) (length code.old - end) ++ code.old) }
     {
         self.statement(code, then, stop, again)?;
         code.put(Instr::SkipIfZero(code.len() - end))?;
@@ -138,7 +144,9 @@ impl Emitter<'_, '_, '_> {
     ) -> Result<(), AllocError>
         requires condition { IsValueAt self.now.declared.table condition }
         requires body { IsStatement self.now.declared.table body.now }
-        ensures { OnOk result (code.new ≡ statement_code (tree.While 0 (value_at self.now.declared.table condition) (statement_in self.now.declared.table body.now)) (making self.now) 0 0 ++ code.old) }
+        ensures { OnOk result (code.new ≡ statement_code
+            (tree.While 0 (value_at self.now.declared.table condition)
+            (statement_in self.now.declared.table body.now)) (making self.now) 0 0 ++ code.old) }
     {
         let end = code.len();
         code.put(Instr::GoBack(0))?;
@@ -157,7 +165,9 @@ impl Emitter<'_, '_, '_> {
     ) -> Result<(), AllocError>
         requires body { IsStatement self.now.declared.table body.now }
         requires condition { IsValueAt self.now.declared.table condition }
-        ensures { OnOk result (code.new ≡ statement_code (tree.Do 0 (statement_in self.now.declared.table body.now) (value_at self.now.declared.table condition)) (making self.now) 0 0 ++ code.old) }
+        ensures { OnOk result (code.new ≡ statement_code
+            (tree.Do 0 (statement_in self.now.declared.table body.now)
+            (value_at self.now.declared.table condition)) (making self.now) 0 0 ++ code.old) }
     {
         let end = code.len();
         code.put(Instr::GoBack(0))?;
@@ -180,7 +190,10 @@ impl Emitter<'_, '_, '_> {
         requires condition { IsMaybeAt self.now.declared.table condition }
         requires last { IsMaybeAt self.now.declared.table last }
         requires body { IsStatement self.now.declared.table body.now }
-        ensures { OnOk result (code.new ≡ statement_code (tree.For 0 tree.NoStatements (maybe_at self.now.declared.table condition) (maybe_at self.now.declared.table last) (statement_in self.now.declared.table body.now)) (making self.now) 0 0 ++ code.old) }
+        ensures { OnOk result (code.new ≡ statement_code
+            (tree.For 0 tree.NoStatements (maybe_at self.now.declared.table condition)
+            (maybe_at self.now.declared.table last) (statement_in self.now.declared.table body.now))
+            (making self.now) 0 0 ++ code.old) }
     {
         let end = code.len();
         code.put(Instr::GoBack(0))?;

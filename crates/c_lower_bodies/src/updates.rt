@@ -58,7 +58,9 @@ impl Emitter<'_, '_, '_> {
     ) -> Result<(), AllocError>
         requires left { IsObjectAt self.now.declared.table left }
         requires right { IsValueAt self.now.declared.table right }
-        ensures { OnOk result (code.new ≡ value_code (tree.Assigned (object_at self.now.declared.table left) (value_at self.now.declared.table right)) (making self.now) ++ code.old) }
+        ensures { OnOk result (code.new ≡ value_code
+            (tree.Assigned (object_at self.now.declared.table left)
+            (value_at self.now.declared.table right)) (making self.now) ++ code.old) }
     {
         code.put(Instr::Store(self.object_kind(left), self.origin(left)))?;
         self.value(code, right)?;
@@ -77,7 +79,9 @@ impl Emitter<'_, '_, '_> {
     ) -> Result<(), AllocError>
         requires object { IsObjectAt self.now.declared.table object }
         requires value { IsValueAt self.now.declared.table value }
-        ensures { OnOk result (code.new ≡ value_code (tree.Changed (object_at self.now.declared.table object) op kind (value_at self.now.declared.table value)) (making self.now) ++ code.old) }
+        ensures { OnOk result (code.new ≡ value_code
+            (tree.Changed (object_at self.now.declared.table object) op kind
+            (value_at self.now.declared.table value)) (making self.now) ++ code.old) }
     {
         let own = self.object_kind(object);
         let origin = self.origin(object);
@@ -102,7 +106,9 @@ impl Emitter<'_, '_, '_> {
     ) -> Result<(), AllocError>
         requires object { IsObjectAt self.now.declared.table object }
         requires index { IsValueAt self.now.declared.table index }
-        ensures { OnOk result (code.new ≡ value_code (tree.Moved (object_at self.now.declared.table object) (way_in way) (value_at self.now.declared.table index) size) (making self.now) ++ code.old) }
+        ensures { OnOk result (code.new ≡ value_code
+            (tree.Moved (object_at self.now.declared.table object) (way_in way)
+            (value_at self.now.declared.table index) size) (making self.now) ++ code.old) }
     {
         let own = self.object_kind(object);
         let origin = self.origin(object);
@@ -124,7 +130,9 @@ impl Emitter<'_, '_, '_> {
         size: u64,
     ) -> Result<(), AllocError>
         requires { IsObjectAt self.now.declared.table object }
-        ensures { OnOk result (code.new ≡ value_code (tree.Stepped (object_at self.now.declared.table object) (way_in way) (given_in given) size) (making self.now) ++ code.old) }
+        ensures { OnOk result (code.new ≡ value_code
+            (tree.Stepped (object_at self.now.declared.table object) (way_in way) (given_in given) size)
+            (making self.now) ++ code.old) }
     {
         let own = self.object_kind(object);
         let origin = self.origin(object);

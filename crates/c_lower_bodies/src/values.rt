@@ -23,7 +23,8 @@ impl Emitter<'_, '_, '_> {
     #[cycle(values)]
     pub(crate) fn node(&self, code: &mut Backward, id: NodeId) -> Result<(), AllocError>
         requires { IsNode self.now.declared.table id }
-        ensures { OnOk result (code.new ≡ typed_code (node_at self.now.declared.table id) (making self.now) ++ code.old) }
+        ensures { OnOk result (code.new ≡ typed_code (node_at self.now.declared.table id)
+            (making self.now) ++ code.old) }
     {
         match self.table().get(id) {
             Node::GlobalObject { place, .. } => code.put(Instr::Push(Push::Global(*place))),
@@ -111,7 +112,8 @@ impl Emitter<'_, '_, '_> {
     #[cycle(values)]
     pub(crate) fn value(&self, code: &mut Backward, id: NodeId) -> Result<(), AllocError>
         requires { IsValueAt self.now.declared.table id }
-        ensures { OnOk result (code.new ≡ value_code (value_at self.now.declared.table id) (making self.now) ++ code.old) }
+        ensures { OnOk result (code.new ≡ value_code (value_at self.now.declared.table id)
+            (making self.now) ++ code.old) }
     {
         self.node(code, id)
     }
@@ -120,7 +122,8 @@ impl Emitter<'_, '_, '_> {
     #[cycle(values)]
     pub(crate) fn object(&self, code: &mut Backward, id: NodeId) -> Result<(), AllocError>
         requires { IsObjectAt self.now.declared.table id }
-        ensures { OnOk result (code.new ≡ object_code (object_at self.now.declared.table id) (making self.now) ++ code.old) }
+        ensures { OnOk result (code.new ≡ object_code (object_at self.now.declared.table id)
+            (making self.now) ++ code.old) }
     {
         self.node(code, id)
     }
@@ -129,7 +132,8 @@ impl Emitter<'_, '_, '_> {
     #[cycle(values)]
     pub(crate) fn values(&self, code: &mut Backward, ids: &[NodeId]) -> Result<(), AllocError>
         requires { All (IsValueAt self.now.declared.table) ids.now }
-        ensures { OnOk result (code.new ≡ values_code (values (typed_of self.now.declared.table) ids.now) (making self.now) ++ code.old) }
+        ensures { OnOk result (code.new ≡ values_code (values (typed_of self.now.declared.table) ids.now)
+            (making self.now) ++ code.old) }
     {
         match ids {
             [] => Ok(()),

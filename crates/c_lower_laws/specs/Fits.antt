@@ -16,19 +16,25 @@ use Rattle.c_lower_rules.specs.Heights.{StatementCalls}
 use Rattle.c_types_program.specs.Declarations.{Declared}
 use Rattle.c_lower_layout.specs.Sources.{sig_in, source_in}
 
--- flat code knows each function of a source and each builtin, and of a function its parameters and the number of its type,
+-- flat code knows each function of a source and each builtin, and of a function its parameters and the
+-- number of its type,
 -- which no other type has
 pub record Knows (s : Source) (code : Flat) (sig : CType → ℕ) : Type 0 where
-  pub each : (f : ℕ) (info : FuncInfo) → func_of code f ≡ Some info → (info.params ≡ param_shapes s f) × (info.sig ≡ sig (type_of s f))
-  pub tells : (f : ℕ) (info : FuncInfo) (t : CType) → func_of code f ≡ Some info → info.sig ≡ sig t → type_of s f ≡ t
+  pub each : (f : ℕ) (info : FuncInfo) → func_of code f ≡ Some info → (info.params ≡ param_shapes s f) ×
+      (info.sig ≡ sig (type_of s f))
+  pub tells : (f : ℕ) (info : FuncInfo) (t : CType) → func_of code f ≡ Some info → info.sig ≡ sig t →
+      type_of s f ≡ t
   pub builtins : (b : Builtin) → (info : FuncInfo) × (func_of code (number_of b) ≡ Some info)
-  pub sources : (k : ℕ) → k < length s.program.functions → (info : FuncInfo) × (func_of code (builtin_count + k) ≡ Some info)
+  pub sources : (k : ℕ) → k < length s.program.functions → (info : FuncInfo) ×
+      (func_of code (builtin_count + k) ≡ Some info)
 
--- in a body each call has one value per parameter, and its frame begins with its parameters, each at the place of its local
+-- in a body each call has one value per parameter, and its frame begins with its parameters, each at the
+-- place of its local
 pub record IsBodyFit (s : Source) (sig : CType → ℕ) (f : ℕ) (b : Body) : Type 0 where
   pub calls : (code : Flat) → Knows s code sig → StatementCalls b.statements (making s code sig b)
   pub holds : params_end 0 (param_shapes s f) ≤ frame_size s.program b.locals
-  pub places : take (length (param_shapes s f)) (local_offsets s b.locals) ≡ param_offsets 0 (param_shapes s f)
+  pub places : take (length (param_shapes s f)) (local_offsets s b.locals) ≡
+      param_offsets 0 (param_shapes s f)
 
 pub record IsFitSource (s : Source) (sig : CType → ℕ) : Type 0 where
   pub bodies : (f : ℕ) (b : Body) → body_of s f ≡ Some b → IsBodyFit s sig f b

@@ -15,7 +15,8 @@ use Rattle.c_types_rules.specs.Sources.{Program, extents_in}
 use Rattle.c_types_program.specs.Declarations.{Declared, types_in}
 use Rattle.c_types_program.specs.Programs.{program_in, texts_in}
 
--- the size and alignment of a type, where `structs` has those of the defined structs; 1 of what is no complete object type
+-- the size and alignment of a type, where `structs` has those of the defined structs; 1 of what is no
+-- complete object type
 abbrev pub extent_in : (structs : List Extent) → CType → Extent
 extent_in structs t = elim (extent_of structs t) [ Some e ↦ e | None ↦ scalar 1 ]
 
@@ -36,7 +37,8 @@ member_ids ms = map (λ m. m.1) ms
 
 -- how far the members of the declared struct of a number lie after its beginning
 abbrev pub offsets_at : List Ty → Definitions → (number : ℕ) → List ℕ
-offsets_at types ds number = offsets_from 0 (extents_at ds.extents (types_in types (member_ids (members_at ds.members number))))
+offsets_at types ds number = offsets_from 0 (extents_at ds.extents
+    (types_in types (member_ids (members_at ds.members number))))
 
 -- the same of the structs from a number on, which have these sizes and alignments
 abbrev pub offsets_by : List Ty → Definitions → (number : ℕ) → List Extent → List (List ℕ)

@@ -1,4 +1,5 @@
--- The source that a typed program stands for, before it is known where anything lies, and numbers of types of functions.
+-- The source that a typed program stands for, before it is known where anything lies, and numbers of types
+-- of functions.
 use Rattle.std.specs.Prelude.{ℕ, zero, suc, cond, List, [], ◌∷◌, ◌++◌, map}
 use Rattle.memory_map.specs.declared.placed.Placed.{Placed}
 use Rattle.c_types_model.specs.Types.{CType}
@@ -19,7 +20,8 @@ source_in p = record { program = program_in p []; texts = texts_in p.texts; plac
 
 -- the types of a thread's function and of the builtins by number
 abbrev pub fixed_types : List CType
-fixed_types = thread_function ∷ prototype_of Malloc ∷ prototype_of Free ∷ prototype_of Spawn ∷ prototype_of Join ∷ prototype_of Lock ∷ prototype_of Unlock ∷ prototype_of Print ∷ []
+fixed_types = thread_function ∷ prototype_of Malloc ∷ prototype_of Free ∷ prototype_of Spawn ∷
+    prototype_of Join ∷ prototype_of Lock ∷ prototype_of Unlock ∷ prototype_of Print ∷ []
 
 abbrev pub types_of_functions : List Function → List CType
 types_of_functions fs = map (λ f. f.type) fs

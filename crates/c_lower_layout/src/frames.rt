@@ -29,8 +29,10 @@ impl Index<'_> {
     /// `AllocError` where there is no memory, or no number of 64 bits for a place or the size.
     pub fn frame(&self, alloc: Global, locals: &[TypeId]) -> Result<Frame, AllocError>
         requires { All (IsBelow (length self.now.table.types)) locals.now }
-        ensures offsets { IfOk result (λ f. f.offsets.items ≡ local_offsets (source_in self.now) (types_in self.now.table.types locals.now)) }
-        ensures size { IfOk result (λ f. f.size ≡ frame_size (source_in self.now).program (types_in self.now.table.types locals.now)) }
+        ensures offsets { IfOk result (λ f. f.offsets.items ≡
+            local_offsets (source_in self.now) (types_in self.now.table.types locals.now)) }
+        ensures size { IfOk result (λ f. f.size ≡
+            frame_size (source_in self.now).program (types_in self.now.table.types locals.now)) }
     {
         let row = self.row(alloc, locals)?;
         let end = row

@@ -174,8 +174,10 @@ impl<'a> Index<'a> {
     /// one lies.
     pub fn row(&self, alloc: Global, ids: &[TypeId]) -> Result<Row, AllocError>
         requires { All (IsBelow (length self.now.table.types)) ids.now }
-        ensures offsets { IfOk result (λ r. r.offsets.items ≡ local_offsets (source_in self.now) (types_in self.now.table.types ids.now)) }
-        ensures end { IfOk result (λ r. r.end ≡ end_from 0 (extents_in (source_in self.now).program (types_in self.now.table.types ids.now))) }
+        ensures offsets { IfOk result (λ r. r.offsets.items ≡
+            local_offsets (source_in self.now) (types_in self.now.table.types ids.now)) }
+        ensures end { IfOk result (λ r. r.end ≡
+            end_from 0 (extents_in (source_in self.now).program (types_in self.now.table.types ids.now))) }
     {
         row_of(alloc, self.types(), self.extents(), ids)
     }

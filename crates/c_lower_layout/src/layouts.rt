@@ -33,7 +33,8 @@ impl Row {
 
     /// Puts an object after the others. `AllocError` where there is no memory, or no number, for where it lies.
     pub fn add(&mut self, extent: Extent) -> Result<(), AllocError>
-        ensures offset { OnOk result (self.new.offsets.items ≡ self.old.offsets.items ++ next_multiple_of self.old.end extent.align ∷ []) }
+        ensures offset { OnOk result (self.new.offsets.items ≡ self.old.offsets.items ++
+            next_multiple_of self.old.end extent.align ∷ []) }
         ensures end { OnOk result (self.new.end ≡ next_multiple_of self.old.end extent.align + extent.size) }
     {
         let offset = self
@@ -68,8 +69,10 @@ pub fn row_of(
     ids: &[TypeId],
 ) -> Result<Row, AllocError>
     requires { All (IsBelow (length types.now)) ids.now }
-    ensures offsets { IfOk result (λ r. r.offsets.items ≡ offsets_from 0 (extents_at structs.now (types_in types.now ids.now))) }
-    ensures end { IfOk result (λ r. r.end ≡ end_from 0 (extents_at structs.now (types_in types.now ids.now))) }
+    ensures offsets { IfOk result (λ r. r.offsets.items ≡
+        offsets_from 0 (extents_at structs.now (types_in types.now ids.now))) }
+    ensures end { IfOk result (λ r. r.end ≡ end_from 0
+        (extents_at structs.now (types_in types.now ids.now))) }
 {
     let mut row = Row::new(alloc);
     for id in ids {

@@ -36,7 +36,9 @@ fn extents(
     number: StructId,
 ) -> Result<Vec<Extent>, AllocError>
     requires { All (All (IsMemberBelow (length types.now))) structs.now.members }
-    ensures { IfOk result (λ es. es.items ≡ map laid (extents_at structs.now.extents (types_in types.now (member_ids (members_at structs.now.members number.0))))) }
+    ensures { IfOk result (λ es. es.items ≡ map laid
+        (extents_at structs.now.extents (types_in types.now
+        (member_ids (members_at structs.now.members number.0))))) }
 {
     let mut extents = Vec::new(alloc);
     while let Some(ty) = structs.member_type(number, extents.len()) {

@@ -18,8 +18,10 @@ use std::alloc::{AllocError, Global};
 // The size and alignment of a complete object type.
 fn extent(program: &TypedProgram, ty: TypeId) -> Extent
     requires inside { ty.0 < length program.now.table.types }
-    requires complete { IsTrue (is_complete (structs_of (source_in program.now)) (type_at program.now.table.types ty)) }
-    ensures { Some result ≡ option_map capped_extent (extent_of (structs_of (source_in program.now)) (type_at program.now.table.types ty)) }
+    requires complete { IsTrue (is_complete (structs_of (source_in program.now))
+        (type_at program.now.table.types ty)) }
+    ensures { Some result ≡ option_map capped_extent
+        (extent_of (structs_of (source_in program.now)) (type_at program.now.table.types ty)) }
 {
     let types = program.table().types();
     match types.extent(program.structs().extents(), ty) {
@@ -31,8 +33,10 @@ fn extent(program: &TypedProgram, ty: TypeId) -> Extent
 // How far the members of a complete object type lie after its beginning.
 fn offsets(alloc: Global, program: &TypedProgram, ty: TypeId) -> Result<Offsets, AllocError>
     requires inside { ty.0 < length program.now.table.types }
-    requires complete { IsTrue (is_complete (structs_of (source_in program.now)) (type_at program.now.table.types ty)) }
-    ensures { IfOk result (λ os. os ≡ map capped (offsets_of (source_in program.now).program (type_at program.now.table.types ty))) }
+    requires complete { IsTrue (is_complete (structs_of (source_in program.now))
+        (type_at program.now.table.types ty)) }
+    ensures { IfOk result (λ os. os ≡ map capped
+        (offsets_of (source_in program.now).program (type_at program.now.table.types ty))) }
 {
     let types = program.table().types();
     match types.get(ty) {
@@ -48,9 +52,13 @@ fn offsets(alloc: Global, program: &TypedProgram, ty: TypeId) -> Result<Offsets,
 /// memory.
 pub fn layout(alloc: Global, program: &TypedProgram, ty: TypeId) -> Result<Layout, AllocError>
     requires inside { ty.0 < length program.now.table.types }
-    requires complete { IsTrue (is_complete (structs_of (source_in program.now)) (type_at program.now.table.types ty)) }
-    ensures extent { IfOk result (λ l. Some (extent_of_layout l) ≡ option_map capped_extent (extent_of (structs_of (source_in program.now)) (type_at program.now.table.types ty))) }
-    ensures offsets { IfOk result (λ l. l.offsets ≡ map capped (offsets_of (source_in program.now).program (type_at program.now.table.types ty))) }
+    requires complete { IsTrue (is_complete (structs_of (source_in program.now))
+        (type_at program.now.table.types ty)) }
+    ensures extent { IfOk result (λ l. Some (extent_of_layout l) ≡
+        option_map capped_extent (extent_of (structs_of (source_in program.now))
+        (type_at program.now.table.types ty))) }
+    ensures offsets { IfOk result (λ l. l.offsets ≡
+        map capped (offsets_of (source_in program.now).program (type_at program.now.table.types ty))) }
 {
     let extent = extent(program, ty);
     Ok(Layout {

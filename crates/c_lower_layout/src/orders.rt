@@ -18,7 +18,8 @@ pub fn small(n: usize) -> Result<u32, AllocError>
 
 // Gives a string its order, if no other began there.
 fn note(orders: &mut HashMap<u32, u32>, from: u32, order: u32) -> Result<(), AllocError>
-    ensures { OnOk result ((q : ℕ) → get nat_eq orders.new q ≡ or_there (get nat_eq orders.old q) (nat_eq q from) order) }
+    ensures { OnOk result ((q : ℕ) → get nat_eq orders.new q ≡
+        or_there (get nat_eq orders.old q) (nat_eq q from) order) }
 {
     if orders.contains_key(&from) {
         return Ok(());

@@ -17,7 +17,8 @@ use std::alloc::AllocError;
 // The place of a type among those of a thread's function and of the builtins; `None` where it isn't there.
 fn fixed_place(types: &Types, ty: TypeId) -> Option<u32>
     requires { ty.0 < length types.now }
-    ensures { (us : List CType) → place_among (type_at types.now ty) (fixed_types ++ us) ≡ or_after result (place_among (type_at types.now ty) us) }
+    ensures { (us : List CType) → place_among (type_at types.now ty) (fixed_types ++ us) ≡
+        or_after result (place_among (type_at types.now ty) us) }
 {
     if is_thread_function(types, ty) {
         Some(0)
@@ -40,7 +41,8 @@ impl Index<'_> {
     // The place of the first function with this type; how many functions there are where none has it.
     fn place_of(&self, ty: TypeId) -> usize
         requires { ty.0 < length self.now.table.types }
-        ensures { result ≡ place_among (type_at self.now.table.types ty) (declared_types self.now.table.types self.now.functions) }
+        ensures { result ≡ place_among (type_at self.now.table.types ty)
+            (declared_types self.now.table.types self.now.functions) }
     {
         let functions = self.program().functions();
         for (place, function) in functions.iter().enumerate() {
@@ -66,7 +68,8 @@ impl Index<'_> {
     // The same of a type that no builtin has, after these eight.
     fn source_sig(&self, ty: TypeId) -> Result<u32, AllocError>
         requires { ty.0 < length self.now.table.types }
-        ensures { IfOk result (λ n. n ≡ 8 + place_among (type_at self.now.table.types ty) (declared_types self.now.table.types self.now.functions)) }
+        ensures { IfOk result (λ n. n ≡ 8 + place_among (type_at self.now.table.types ty)
+            (declared_types self.now.table.types self.now.functions)) }
     {
         let place = small(self.place_of(ty))?;
         place.checked_add(8).ok_or(AllocError)

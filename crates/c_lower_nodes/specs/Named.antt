@@ -1,4 +1,5 @@
--- Which nodes are counted with a piece of a tree: those that stand there, and those that it names by number.
+-- Which nodes are counted with a piece of a tree: those that stand there, and those that it names by
+-- number.
 use Rattle.std.specs.Prelude.{List, [], ◌∷◌, ◌++◌, map, Option, Some, None}
 use Rattle.c_syntax.specs.declared.id.DeclId.{DeclId}
 use Rattle.c_syntax.specs.declared.id.StmtId.{StmtId}
@@ -131,7 +132,8 @@ by_rest (rests.Value v) = by_value v
 by_rest (rests.Body s) = AStmt s ∷ []
 by_rest (rests.Members is) = by_decls is
 
--- those of annotations, a declarator and what follows it, but of a struct's definition those of its members alone
+-- those of annotations, a declarator and what follows it, but of a struct's definition those of its members
+-- alone
 abbrev pub by_declared : List Annot → List Part → Rest → List Node
 by_declared an ps (rests.Members is) = by_decls is
 by_declared an ps r = by_annots an ++ (by_parts ps ++ by_rest r)

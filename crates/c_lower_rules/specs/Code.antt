@@ -34,7 +34,8 @@ one i = i ∷ []
 abbrev pub sum_code : Sum → (pointer index : List Instr) → (size : ℕ) → List Instr
 sum_code PointerPlus p i size = p ++ (i ++ one (instr.Combine (combine.Index size)))
 sum_code PlusPointer p i size = i ++ (p ++ one (instr.Combine (combine.IndexOf size)))
-sum_code PointerMinus p i size = p ++ (i ++ (instr.Change (change.Negate I64) ∷ one (instr.Combine (combine.Index size))))
+sum_code PointerMinus p i size = p ++ (i ++ (instr.Change (change.Negate I64) ∷
+    one (instr.Combine (combine.Index size))))
 
 abbrev pub move_code : Way → (size : ℕ) → List Instr
 move_code Up size = one (instr.Combine (combine.Index size))
@@ -59,8 +60,10 @@ abbrev mutual
   object_code (LocalObject place t) x = one (instr.Push (Local (offset_of x.against place)))
   object_code (TextObject from n) x = one (instr.Push (Text (order_of from x.against.source.texts)))
   object_code (Pointed v t) x = value_code v x
-  object_code (Element s p i t) x = sum_code s (value_code p x) (value_code i x) (size_of x.against.source t)
-  object_code (MemberOf o number t) x = object_code o x ++ one (instr.Change (change.Offset (member_offset x.against.source (object_type o) number)))
+  object_code (Element s p i t) x = sum_code s (value_code p x) (value_code i x)
+      (size_of x.against.source t)
+  object_code (MemberOf o number t) x = object_code o x ++
+      one (instr.Change (change.Offset (member_offset x.against.source (object_type o) number)))
 
   pub value_code : Value → Making → List Instr
   value_code (Constant k n) x = one (instr.Push (Number (written n)))
@@ -70,21 +73,33 @@ abbrev mutual
   value_code (Convert t v) x = value_code v x ++ convert_code (converts t v) (kind_of t)
   value_code (Negate k v) x = value_code v x ++ one (instr.Change (change.Negate k))
   value_code (Complement k v) x = value_code v x ++ one (instr.Change (change.Complement k))
-  value_code (Arithmetic op k a b) x = value_code a x ++ (value_code b x ++ one (instr.Combine (combine.Arith op k)))
+  value_code (Arithmetic op k a b) x = value_code a x ++
+      (value_code b x ++ one (instr.Combine (combine.Arith op k)))
   value_code (PointerSum s p i size) x = sum_code s (value_code p x) (value_code i x) size
-  value_code (PointerDifference a b size) x = value_code a x ++ (value_code b x ++ one (instr.Combine (combine.Distance size)))
-  value_code (PointerComparison op a b) x = value_code a x ++ (value_code b x ++ one (instr.Combine (combine.Arith op U64)))
+  value_code (PointerDifference a b size) x = value_code a x ++
+      (value_code b x ++ one (instr.Combine (combine.Distance size)))
+  value_code (PointerComparison op a b) x = value_code a x ++
+      (value_code b x ++ one (instr.Combine (combine.Arith op U64)))
   value_code (Not v) x = value_code v x ++ one (instr.Change change.Not)
-  value_code (Both a b) x = value_code a x ++ (instr.EndIfZero (length (value_code b x) + 1) ∷ (value_code b x ++ one (instr.Change change.Truth)))
-  value_code (Either a b) x = value_code a x ++ (instr.EndUnlessZero (length (value_code b x) + 1) ∷ (value_code b x ++ one (instr.Change change.Truth)))
-  value_code (Choice c a b) x = value_code c x ++ (instr.SkipIfZero (length (value_code a x) + 1) ∷ (value_code a x ++ (instr.GoOn (length (value_code b x)) ∷ value_code b x)))
+  value_code (Both a b) x = value_code a x ++
+      (instr.EndIfZero (length (value_code b x) + 1) ∷ (value_code b x ++ one (instr.Change change.Truth)))
+  value_code (Either a b) x = value_code a x ++
+      (instr.EndUnlessZero (length (value_code b x) + 1) ∷
+      (value_code b x ++ one (instr.Change change.Truth)))
+  value_code (Choice c a b) x = value_code c x ++
+      (instr.SkipIfZero (length (value_code a x) + 1) ∷
+      (value_code a x ++ (instr.GoOn (length (value_code b x)) ∷ value_code b x)))
   value_code (Sequence a b) x = value_code a x ++ (instr.Drop ∷ value_code b x)
   value_code (Assigned o v) x = object_code o x ++ (value_code v x ++ one (stores o))
   value_code (Changed o op k v) x =
       let own = kind_of (object_type o) in
-      object_code o x ++ (loads o ∷ (convert_code (reconverts own k) k ++ (value_code v x ++ (instr.Combine (combine.Arith op k) ∷ (convert_code (reconverts k own) own ++ one (stores o))))))
-  value_code (Moved o w i size) x = object_code o x ++ (loads o ∷ (value_code i x ++ (move_code w size ++ one (stores o))))
-  value_code (Stepped o w g size) x = object_code o x ++ (loads o ∷ one (instr.StoreStep (kind_of (object_type o)) (step_by w size) (keeps_old g) (origin o)))
+      object_code o x ++ (loads o ∷ (convert_code (reconverts own k) k ++
+      (value_code v x ++ (instr.Combine (combine.Arith op k) ∷
+      (convert_code (reconverts k own) own ++ one (stores o))))))
+  value_code (Moved o w i size) x = object_code o x ++
+      (loads o ∷ (value_code i x ++ (move_code w size ++ one (stores o))))
+  value_code (Stepped o w g size) x = object_code o x ++
+      (loads o ∷ one (instr.StoreStep (kind_of (object_type o)) (step_by w size) (keeps_old g) (origin o)))
   value_code (CallOf f vs t) x = callee_code f x ++ (values_code vs x ++ call_code f x (count vs))
 
   pub values_code : Values → Making → List Instr
@@ -115,7 +130,8 @@ abbrev mutual
   pub statement_code : Statement → Making → (stop again : ℕ) → List Instr
   statement_code (Block ss) x stop again = statements_code ss x stop again
   statement_code (Evaluate v) x stop again = value_code v x ++ one instr.Drop
-  statement_code (Initialise place t v) x stop again = value_code v x ++ one (instr.StoreLocal (kind_of t) (offset_of x.against place))
+  statement_code (Initialise place t v) x stop again = value_code v x ++
+      one (instr.StoreLocal (kind_of t) (offset_of x.against place))
   statement_code (If v s) x stop again =
       let body = statement_code s x stop again in
       value_code v x ++ (instr.SkipIfZero (length body) ∷ body)
@@ -125,15 +141,18 @@ abbrev mutual
       value_code v x ++ (instr.SkipIfZero (length body + 1) ∷ (body ++ (instr.GoOn (length other) ∷ other)))
   statement_code (While from v s) x stop again =
       let body = statement_code s x 1 0 in
-      instr.Turn ∷ (value_code v x ++ (instr.SkipIfZero (length body + 1) ∷ (body ++ one (instr.GoBack (length (value_code v x) + 1 + length body)))))
+      instr.Turn ∷ (value_code v x ++ (instr.SkipIfZero (length body + 1) ∷
+      (body ++ one (instr.GoBack (length (value_code v x) + 1 + length body)))))
   statement_code (Do from s v) x stop again =
       let body = statement_code s x (length (value_code v x) + 2) 0 in
-      instr.Turn ∷ (body ++ (value_code v x ++ (instr.SkipIfZero 1 ∷ one (instr.GoBack (length body + length (value_code v x) + 1)))))
+      instr.Turn ∷ (body ++ (value_code v x ++
+      (instr.SkipIfZero 1 ∷ one (instr.GoBack (length body + length (value_code v x) + 1)))))
   statement_code (For from first v last s) x stop again =
       let final = last_code last x in
       let body = statement_code s x (length final + 1) 0 in
       let test = test_code v x (length body + length final + 1) in
-      let loop = instr.Turn ∷ (test ++ (body ++ (final ++ one (instr.GoBack (length test + length body + length final))))) in
+      let loop = instr.Turn ∷ (test ++ (body ++
+      (final ++ one (instr.GoBack (length test + length body + length final))))) in
       statements_code first x (length loop + stop) (length loop + again) ++ loop
   statement_code Break x stop again = one (instr.GoOn stop)
   statement_code Continue x stop again = one (instr.GoOn again)

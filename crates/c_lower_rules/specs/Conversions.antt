@@ -10,7 +10,8 @@ use Rattle.c_types_rules.specs.TypedTree.{Value, Constant, ReadOf, Convert, Nega
 use Rattle.c_semantics.specs.Context.{kind_of}
 use Rattle.c_semantics.specs.Values.{is_read}
 
--- a value that was converted to the first kind stays as it is when it is converted to the second: that kind has all bits
+-- a value that was converted to the first kind stays as it is when it is converted to the second: that kind
+-- has all bits
 -- of a pattern, or all values of the first
 abbrev pub is_within : IntKind → IntKind → Bool
 is_within from to = eqb (width_of to) 64 || represents_all to from

@@ -108,7 +108,9 @@ abbrev mutual
   pub CalleeCalls : Callee → Making → (count : ℕ) → Type 0
   CalleeCalls (SourceFunction from number) x n = Takes x.against.code number n
   CalleeCalls (BuiltinFunction from b) x n = Takes x.against.code (number_of b) n
-  CalleeCalls (Through v) x n = ValueCalls v x × ((f : ℕ) (info : FuncInfo) → func_of x.against.code f ≡ Some info → info.sig ≡ x.sig (target (value_type v)) → length info.params ≡ n)
+  CalleeCalls (Through v) x n = ValueCalls v x ×
+      ((f : ℕ) (info : FuncInfo) → func_of x.against.code f ≡ Some info →
+      info.sig ≡ x.sig (target (value_type v)) → length info.params ≡ n)
 
 abbrev pub MaybeCalls : MaybeValue → Making → Type 0
 MaybeCalls NoValue x = Unit {0}
@@ -127,7 +129,8 @@ abbrev mutual
   StatementCalls (IfElse v s z) x = ValueCalls v x × StatementCalls s x × StatementCalls z x
   StatementCalls (While from v s) x = ValueCalls v x × StatementCalls s x
   StatementCalls (Do from s v) x = StatementCalls s x × ValueCalls v x
-  StatementCalls (For from first v last s) x = StatementsCall first x × MaybeCalls v x × MaybeCalls last x × StatementCalls s x
+  StatementCalls (For from first v last s) x = StatementsCall first x × MaybeCalls v x ×
+      MaybeCalls last x × StatementCalls s x
   StatementCalls Break x = Unit {0}
   StatementCalls Continue x = Unit {0}
   StatementCalls (Return from v) x = MaybeCalls v x
@@ -146,7 +149,8 @@ abbrev mutual
   statement_depth (IfElse v s z) = max (value_depth v) (max (statement_depth s) (statement_depth z))
   statement_depth (While from v s) = max (value_depth v) (statement_depth s)
   statement_depth (Do from s v) = max (statement_depth s) (value_depth v)
-  statement_depth (For from first v last s) = max (statements_depth first) (max (maybe_depth v) (max (maybe_depth last) (statement_depth s)))
+  statement_depth (For from first v last s) =
+      max (statements_depth first) (max (maybe_depth v) (max (maybe_depth last) (statement_depth s)))
   statement_depth Break = 0
   statement_depth Continue = 0
   statement_depth (Return from v) = max 1 (maybe_depth v)
@@ -196,20 +200,26 @@ abbrev mutual
   value_heights (Complement k v) h = value_heights v h ++ ((h + 1) ∷ [])
   value_heights (Arithmetic op k a b) h = value_heights a h ++ (value_heights b (h + 1) ++ ((h + 2) ∷ []))
   value_heights (PointerSum s p i size) h = sum_heights s (value_heights p) (value_heights i) h
-  value_heights (PointerDifference a b size) h = value_heights a h ++ (value_heights b (h + 1) ++ ((h + 2) ∷ []))
-  value_heights (PointerComparison op a b) h = value_heights a h ++ (value_heights b (h + 1) ++ ((h + 2) ∷ []))
+  value_heights (PointerDifference a b size) h = value_heights a h ++
+      (value_heights b (h + 1) ++ ((h + 2) ∷ []))
+  value_heights (PointerComparison op a b) h = value_heights a h ++
+      (value_heights b (h + 1) ++ ((h + 2) ∷ []))
   value_heights (Not v) h = value_heights v h ++ ((h + 1) ∷ [])
   value_heights (Both a b) h = value_heights a h ++ ((h + 1) ∷ (value_heights b h ++ ((h + 1) ∷ [])))
   value_heights (Either a b) h = value_heights a h ++ ((h + 1) ∷ (value_heights b h ++ ((h + 1) ∷ [])))
-  value_heights (Choice c a b) h = value_heights c h ++ ((h + 1) ∷ (value_heights a h ++ ((h + 1) ∷ value_heights b h)))
+  value_heights (Choice c a b) h = value_heights c h ++
+      ((h + 1) ∷ (value_heights a h ++ ((h + 1) ∷ value_heights b h)))
   value_heights (Sequence a b) h = value_heights a h ++ ((h + 1) ∷ value_heights b h)
   value_heights (Assigned o v) h = object_heights o h ++ (value_heights v (h + 1) ++ ((h + 2) ∷ []))
   value_heights (Changed o op k v) h =
       let own = kind_of (object_type o) in
-      object_heights o h ++ ((h + 1) ∷ (if_true (reconverts own k) (h + 2) ++ (value_heights v (h + 2) ++ ((h + 3) ∷ (if_true (reconverts k own) (h + 2) ++ ((h + 2) ∷ []))))))
-  value_heights (Moved o w i size) h = object_heights o h ++ ((h + 1) ∷ (value_heights i (h + 2) ++ (move_heights w (h + 3) ++ ((h + 2) ∷ []))))
+      object_heights o h ++ ((h + 1) ∷ (if_true (reconverts own k) (h + 2) ++
+      (value_heights v (h + 2) ++ ((h + 3) ∷ (if_true (reconverts k own) (h + 2) ++ ((h + 2) ∷ []))))))
+  value_heights (Moved o w i size) h = object_heights o h ++
+      ((h + 1) ∷ (value_heights i (h + 2) ++ (move_heights w (h + 3) ++ ((h + 2) ∷ []))))
   value_heights (Stepped o w g size) h = object_heights o h ++ ((h + 1) ∷ ((h + 2) ∷ []))
-  value_heights (CallOf f vs t) h = callee_heights f h ++ (values_heights vs (under_args f h) ++ ((under_args f h + count vs) ∷ []))
+  value_heights (CallOf f vs t) h = callee_heights f h ++
+      (values_heights vs (under_args f h) ++ ((under_args f h + count vs) ∷ []))
 
   pub values_heights : Values → ℕ → List ℕ
   values_heights NoValues h = []
@@ -236,10 +246,12 @@ abbrev mutual
   statement_heights (Evaluate v) = value_heights v 0 ++ (1 ∷ [])
   statement_heights (Initialise place t v) = value_heights v 0 ++ (1 ∷ [])
   statement_heights (If v s) = value_heights v 0 ++ (1 ∷ statement_heights s)
-  statement_heights (IfElse v s z) = value_heights v 0 ++ (1 ∷ (statement_heights s ++ (0 ∷ statement_heights z)))
+  statement_heights (IfElse v s z) = value_heights v 0 ++
+      (1 ∷ (statement_heights s ++ (0 ∷ statement_heights z)))
   statement_heights (While from v s) = 0 ∷ (value_heights v 0 ++ (1 ∷ (statement_heights s ++ (0 ∷ []))))
   statement_heights (Do from s v) = 0 ∷ (statement_heights s ++ (value_heights v 0 ++ (1 ∷ (0 ∷ []))))
-  statement_heights (For from first v last s) = statements_heights first ++ (0 ∷ (test_heights v ++ (statement_heights s ++ (test_heights last ++ (0 ∷ [])))))
+  statement_heights (For from first v last s) = statements_heights first ++
+      (0 ∷ (test_heights v ++ (statement_heights s ++ (test_heights last ++ (0 ∷ [])))))
   statement_heights Break = 0 ∷ []
   statement_heights Continue = 0 ∷ []
   statement_heights (Return from v) = return_heights v

@@ -46,26 +46,32 @@ pub record IsEmitted (s : Source) (code : Flat) (sig : CType → ℕ) : Type 0 w
   pub results : (f : ℕ) → result_of (laid s code) f ≡ result_shape s f
   pub sigs : (t : CType) → IsSigOf s code t (sig t)
 
--- the mark lists of the code are those of the source, for each function with a body on either side, each thread, and what
+-- the mark lists of the code are those of the source, for each function with a body on either side, each
+-- thread, and what
 -- a thread makes above the cut
 pub record MakesTheMarks (s : Source) (code : Flat) : Type 0 where
-  pub calls : (side : Side) (f : ℕ) (b : Body) (args : List ℕ) (ms : List Mark) → body_of s f ≡ Some b → behaviour Split s side f args ms ≡ mark_lists Split (laid s code) side f args ms
-  pub threads : (t : CType) (sig address : ℕ) (args : List ℕ) (ms : List Mark) → IsSigOf s code t sig → thread_behaviour s t address args ms ≡ thread_lists (laid s code) sig address args ms
+  pub calls : (side : Side) (f : ℕ) (b : Body) (args : List ℕ) (ms : List Mark) → body_of s f ≡ Some b →
+      behaviour Split s side f args ms ≡ mark_lists Split (laid s code) side f args ms
+  pub threads : (t : CType) (sig address : ℕ) (args : List ℕ) (ms : List Mark) → IsSigOf s code t sig →
+      thread_behaviour s t address args ms ≡ thread_lists (laid s code) sig address args ms
   pub above : (ms : List Mark) → thread_above s ms ≡ lists Above ms (laid s code) (Done 0)
 
 -- the code knows the results of all functions
 abbrev pub HasResults : Source → Flat → Type 0
 HasResults s code = (f : ℕ) → result_of (laid s code) f ≡ result_shape s f
 
--- what a thread of the code wants above the cut is a function of its marks there so far, which the next of them answers: it
+-- what a thread of the code wants above the cut is a function of its marks there so far, which the next of
+-- them answers: it
 -- hangs neither on its marks below the cut nor on the function that it began with
 abbrev pub NextAnswersAbove : Source → Flat → Type 0
 NextAnswersAbove s code =
-    (t : CType) (sig address : ℕ) (args : List ℕ) (ms more : List Mark) (m : Mark) → IsSigOf s code t sig → m.side ≡ Replay → thread_lists (laid s code) sig address args (ms ++ m ∷ more) ≢ Wrong →
+    (t : CType) (sig address : ℕ) (args : List ℕ) (ms more : List Mark) (m : Mark) → IsSigOf s code t sig →
+    m.side ≡ Replay → thread_lists (laid s code) sig address args (ms ++ m ∷ more) ≢ Wrong →
     is_some (answer_to (want_above (laid s code) (reverse (replay_part ms))) m.act) ≡ true
 
 -- a place within the code of a function
-pub record IsWithin (s : Source) (code : Flat) (sig : CType → ℕ) (e : IsEmitted s code sig) (place : ℕ) : Type 0 where
+pub record IsWithin (s : Source) (code : Flat) (sig : CType → ℕ) (e : IsEmitted s code sig) (place : ℕ) :
+    Type 0 where
   pub func : ℕ
   pub body : Body
   pub defined : body_of s func ≡ Some body
@@ -86,5 +92,6 @@ pub record IsFit (s : Source) (code : Flat) (sig : CType → ℕ) (f : ℕ) (b :
 pub record IsMadeOf (s : Source) (code : Flat) (sig : CType → ℕ) (height : ℕ → ℕ) : Type 0 where
   pub emitted : IsEmitted s code sig
   pub within : (p : ℕ) (i : Instr) → slice_get code.instrs p ≡ Some i → IsWithin s code sig emitted p
-  pub stands : (f : ℕ) (b : Body) (d : body_of s f ≡ Some b) → Stand height (emitted.bodies f b d).entry (body_heights b)
+  pub stands : (f : ℕ) (b : Body) (d : body_of s f ≡ Some b) →
+      Stand height (emitted.bodies f b d).entry (body_heights b)
   pub fits : (f : ℕ) (b : Body) → body_of s f ≡ Some b → IsFit s code sig f b

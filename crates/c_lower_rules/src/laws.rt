@@ -25,7 +25,8 @@ pub fn emitted_code_makes_the_marks()
 /// A law: each mark that a thread of the code makes above the cut answers what the code wants there as a function of the thread's
 /// marks above the cut so far, newest first, whatever came below.
 pub fn next_mark_answers_above()
-    ensures { (s : Source) (code : Flat) → ResultsAreConverted s → MakesTheMarks s code → NextAnswersAbove s code }
+    ensures { (s : Source) (code : Flat) → ResultsAreConverted s → MakesTheMarks s code →
+        NextAnswersAbove s code }
 {}
 
 /// A law: in code that holds nothing but the functions of a source, each construct by construct, the depth
@@ -33,12 +34,17 @@ pub fn next_mark_answers_above()
 /// place, each jump lands within its function, a backward jump on the head of its loop, and each call has
 /// one value per parameter.
 pub fn emitted_code_is_steady()
-    ensures { (s : Source) (code : Flat) (sig : CType → ℕ) (height : ℕ → ℕ) → IsMadeOf s code sig height → IsSteady code height }
+    ensures { (s : Source) (code : Flat) (sig : CType → ℕ) (height : ℕ → ℕ) → IsMadeOf s code sig height →
+        IsSteady code height }
 {}
 
 /// A law: what functions of the code return below the cut are values of their results' types, so that what a thread of the code wants
 /// above the cut is a function of its marks there.
 pub fn code_of_sources_forgets()
-    ensures returns { (s : Source) (code : Flat) → ResultsAreConverted s → MakesTheMarks s code → HasResults s code → (t : CType) (sig address : ℕ) (args : List ℕ) → IsSigOf s code t sig → ReturnsValues (laid s code) (callee (laid s code) sig address) args }
-    ensures forgets { (s : Source) (code : Flat) → ResultsAreConverted s → MakesTheMarks s code → HasResults s code → IsValid code → (t : CType) (sig address : ℕ) (args : List ℕ) → IsSigOf s code t sig → AboveForgets (laid s code) (callee (laid s code) sig address) args }
+    ensures returns { (s : Source) (code : Flat) → ResultsAreConverted s → MakesTheMarks s code →
+        HasResults s code → (t : CType) (sig address : ℕ) (args : List ℕ) → IsSigOf s code t sig →
+        ReturnsValues (laid s code) (callee (laid s code) sig address) args }
+    ensures forgets { (s : Source) (code : Flat) → ResultsAreConverted s → MakesTheMarks s code →
+        HasResults s code → IsValid code → (t : CType) (sig address : ℕ) (args : List ℕ) →
+        IsSigOf s code t sig → AboveForgets (laid s code) (callee (laid s code) sig address) args }
 {}

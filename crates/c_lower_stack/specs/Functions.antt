@@ -36,7 +36,8 @@ raised (suc place) n (c ∷ cs) = c ∷ raised place n cs
 
 -- a function that may have been declared before
 abbrev pub with_function : Option Named → (name : List ℕ) → Parts → Rest → Functions → Functions
-with_function (Some (named.Function place)) name ps r fs = record fs { counts = raised place (in_body ps r fs.names) fs.counts }
+with_function (Some (named.Function place)) name ps r fs =
+    record fs { counts = raised place (in_body ps r fs.names) fs.counts }
 with_function _ name ps r fs =
     let names = declared name (named.Function (length fs.counts)) fs.names in
     record { names = names; counts = fs.counts ++ in_body ps r names ∷ [] }

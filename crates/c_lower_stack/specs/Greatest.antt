@@ -14,7 +14,8 @@ abbrev mutual
   in_expr (Text f n) s = 1
   in_expr (Binary f o x y) s = max (depth (Binary f o x y) s) (max (in_expr x s) (in_expr y s))
   in_expr (Assign f o x y) s = max (depth (Assign f o x y) s) (max (in_expr x s) (in_expr y s))
-  in_expr (Cond f x y z) s = max (depth (Cond f x y z) s) (max (in_expr x s) (max (in_expr y s) (in_expr z s)))
+  in_expr (Cond f x y z) s = max (depth (Cond f x y z) s)
+      (max (in_expr x s) (max (in_expr y s) (in_expr z s)))
   in_expr (Prefix f o x) s = max (depth (Prefix f o x) s) (in_expr x s)
   in_expr (Postfix f o x) s = max (depth (Postfix f o x) s) (in_expr x s)
   in_expr (SizeofExpr f x) s = max (depth (SizeofExpr f x) s) (in_expr x s)

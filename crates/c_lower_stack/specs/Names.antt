@@ -28,7 +28,8 @@ abbrev pub is_direct : Expr → Names → Bool
 is_direct (Name from name) s = is_function (meaning_of name s)
 is_direct x s = false
 
--- the names after a declaration of a local or a parameter; one without a name declares the empty name, which no source can use
+-- the names after a declaration of a local or a parameter; one without a name declares the empty name,
+-- which no source can use
 abbrev pub with_decl : Decl → Names → Names
 with_decl (Declare from an b ps n r) s = declared (declared_name n) named.Object s
 

@@ -13,7 +13,8 @@ with_named (Declare f an b ps n r) fs = with_name (is_function ps) (declared_nam
 
 -- a declaration of a function
 abbrev pub with_function_of : Decl → Functions → Functions
-with_function_of (Declare f an b ps n r) fs = with_function (meaning_of (declared_name n) fs.names) (declared_name n) ps r fs
+with_function_of (Declare f an b ps n r) fs =
+    with_function (meaning_of (declared_name n) fs.names) (declared_name n) ps r fs
 
 -- the place of the function that a name means
 abbrev pub place_in : Option Named → Option ℕ
@@ -24,7 +25,10 @@ place_in (Some (named.Function place)) = Some place
 
 -- the function of this place, declared once more
 abbrev pub again : (place : ℕ) → Decl → Functions → Functions
-again place (Declare f an b ps n r) fs = record fs { counts = raised place (in_body ps r fs.names) fs.counts }
+again place (Declare f an b ps n r) fs = record fs {
+  counts =
+      raised place (in_body ps r fs.names) fs.counts;
+}
 
 -- a function that wasn't declared before
 abbrev pub first : Decl → Functions → Functions

@@ -59,7 +59,8 @@ pub(crate) fn prefixed_operand(sign: Sign, operand: u8) -> u8
 
 /// What is called and its arguments, where the call is direct or not.
 pub(crate) fn called(direct: bool, callee: u8, arguments: u8) -> u8
-    ensures { (a b : ℕ) → callee ≡ capped a → arguments ≡ capped b → result ≡ capped (call_depth direct a b) }
+    ensures { (a b : ℕ) → callee ≡ capped a → arguments ≡ capped b →
+        result ≡ capped (call_depth direct a b) }
 {
     if direct {
         either(1, arguments)

@@ -38,7 +38,8 @@ pub(crate) fn declared_type(
 fn declarator(scopes: &mut Scopes<Named>, tree: &Tree, parts: &[Part]) -> Result<u8, AllocError>
     requires parts { AreParts tree.now parts.now }
     requires scoped { IsOpen scopes.old }
-    ensures most { (ps : Parts) → StandParts tree.now parts.now ps → IfOk result (IsCapped (in_parts ps scopes.old)) }
+    ensures most { (ps : Parts) → StandParts tree.now parts.now ps →
+        IfOk result (IsCapped (in_parts ps scopes.old)) }
     ensures kept { OnOk result (scopes.new ≡ scopes.old) }
 {
     let mut most = 0;
@@ -54,7 +55,8 @@ fn declarator(scopes: &mut Scopes<Named>, tree: &Tree, parts: &[Part]) -> Result
 fn one_part(scopes: &mut Scopes<Named>, tree: &Tree, part: &Part) -> Result<u8, AllocError>
     requires part { AreParts tree.now (part.now ∷ []) }
     requires scoped { IsOpen scopes.old }
-    ensures most { (ps : Parts) → StandParts tree.now (part.now ∷ []) ps → IfOk result (IsCapped (in_parts ps scopes.old)) }
+    ensures most { (ps : Parts) → StandParts tree.now (part.now ∷ []) ps →
+        IfOk result (IsCapped (in_parts ps scopes.old)) }
     ensures kept { OnOk result (scopes.new ≡ scopes.old) }
 {
     match &part.kind {
@@ -72,7 +74,8 @@ fn one_part(scopes: &mut Scopes<Named>, tree: &Tree, part: &Part) -> Result<u8, 
 fn parameters(scopes: &mut Scopes<Named>, tree: &Tree, ids: &[DeclId]) -> Result<u8, AllocError>
     requires ids { AreDecls tree.now ids.now }
     requires scoped { IsOpen scopes.old }
-    ensures most { (ds : Decls) → StandDecls tree.now ids.now ds → IfOk result (IsCapped (in_params ds (inner scopes.old))) }
+    ensures most { (ds : Decls) → StandDecls tree.now ids.now ds →
+        IfOk result (IsCapped (in_params ds (inner scopes.old))) }
     ensures kept { OnOk result (scopes.new ≡ scopes.old) }
 {
     scopes.open()?;
@@ -90,8 +93,10 @@ fn parameters_here(
 ) -> Result<u8, AllocError>
     requires ids { AreDecls tree.now ids.now }
     requires scoped { IsOpen scopes.old }
-    ensures most { (ds : Decls) → StandDecls tree.now ids.now ds → IfOk result (IsCapped (in_params ds scopes.old)) }
-    ensures declared { (ds : Decls) → StandDecls tree.now ids.now ds → OnOk result (scopes.new ≡ with_decls ds scopes.old) }
+    ensures most { (ds : Decls) → StandDecls tree.now ids.now ds →
+        IfOk result (IsCapped (in_params ds scopes.old)) }
+    ensures declared { (ds : Decls) → StandDecls tree.now ids.now ds →
+        OnOk result (scopes.new ≡ with_decls ds scopes.old) }
 {
     let mut most = 0;
     for id in ids {

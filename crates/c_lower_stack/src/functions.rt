@@ -33,7 +33,8 @@ pub(crate) fn is_function(parts: &[Part]) -> bool
 
 // The parameters in the part of a declarator that stands nearest to its name; none where that part has none.
 fn nearest_params(parts: &[Part]) -> &[DeclId]
-    ensures { (N : Nodes) (ps : Parts) → StandParts N parts.now ps → StandDecls N result.now (nearest_by_rules ps) }
+    ensures { (N : Nodes) (ps : Parts) → StandParts N parts.now ps →
+        StandDecls N result.now (nearest_by_rules ps) }
 {
     let Some(nearest) = parts.last() else {
         return &[];
@@ -47,7 +48,8 @@ fn nearest_params(parts: &[Part]) -> &[DeclId]
 // Declares parameters in the innermost scope.
 fn declare_all(scopes: &mut Scopes<Named>, tree: &Tree, ids: &[DeclId]) -> Result<(), AllocError>
     requires { AreDecls tree.now ids.now }
-    ensures { (ds : Decls) → StandDecls tree.now ids.now ds → OnOk result (scopes.new ≡ with_decls ds scopes.old) }
+    ensures { (ds : Decls) → StandDecls tree.now ids.now ds →
+        OnOk result (scopes.new ≡ with_decls ds scopes.old) }
 {
     for id in ids {
         declare(scopes, tree, *id)?;
@@ -67,7 +69,8 @@ pub(crate) fn body(
     requires parts { AreParts tree.now parts.now }
     requires rest { IsRest tree.now rest.now }
     requires scoped { IsOpen scopes.old }
-    ensures most { (ps : Parts) (r : syntax.Rest) → StandParts tree.now parts.now ps → StandsRest tree.now rest.now r → IfOk result (IsCapped (in_body ps r scopes.old)) }
+    ensures most { (ps : Parts) (r : syntax.Rest) → StandParts tree.now parts.now ps →
+        StandsRest tree.now rest.now r → IfOk result (IsCapped (in_body ps r scopes.old)) }
     ensures kept { OnOk result (scopes.new ≡ scopes.old) }
 {
     let Rest::Body(id) = rest else {

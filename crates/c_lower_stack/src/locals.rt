@@ -27,8 +27,10 @@ pub(crate) fn locals(
 ) -> Result<u8, AllocError>
     requires ids { AreDecls tree.now ids.now }
     requires scoped { IsOpen scopes.old }
-    ensures most { (ds : Decls) → StandDecls tree.now ids.now ds → IfOk result (IsCapped (in_locals ds scopes.old)) }
-    ensures declared { (ds : Decls) → StandDecls tree.now ids.now ds → OnOk result (scopes.new ≡ with_decls ds scopes.old) }
+    ensures most { (ds : Decls) → StandDecls tree.now ids.now ds →
+        IfOk result (IsCapped (in_locals ds scopes.old)) }
+    ensures declared { (ds : Decls) → StandDecls tree.now ids.now ds →
+        OnOk result (scopes.new ≡ with_decls ds scopes.old) }
 {
     let mut most = 0;
     for id in ids {
@@ -43,7 +45,8 @@ fn local(scopes: &mut Scopes<Named>, tree: &Tree, id: DeclId) -> Result<u8, Allo
     requires id { IsDecl tree.now id }
     requires scoped { IsOpen scopes.old }
     ensures most { (d : Decl) → StandsDecl tree.now id d → IfOk result (IsCapped (in_local d scopes.old)) }
-    ensures declared { (d : Decl) → StandsDecl tree.now id d → OnOk result (scopes.new ≡ with_decl d scopes.old) }
+    ensures declared { (d : Decl) → StandsDecl tree.now id d →
+        OnOk result (scopes.new ≡ with_decl d scopes.old) }
 {
     let most = declared_type(scopes, tree, id)?;
     declare(scopes, tree, id)?;
@@ -56,7 +59,8 @@ fn local(scopes: &mut Scopes<Named>, tree: &Tree, id: DeclId) -> Result<u8, Allo
 fn first_value(scopes: &mut Scopes<Named>, tree: &Tree, rest: &Rest) -> Result<u8, AllocError>
     requires rest { IsRest tree.now rest.now }
     requires scoped { IsOpen scopes.old }
-    ensures most { (r : syntax.Rest) → StandsRest tree.now rest.now r → IfOk result (IsCapped (in_rest r scopes.old)) }
+    ensures most { (r : syntax.Rest) → StandsRest tree.now rest.now r →
+        IfOk result (IsCapped (in_rest r scopes.old)) }
     ensures kept { OnOk result (scopes.new ≡ scopes.old) }
 {
     match rest {

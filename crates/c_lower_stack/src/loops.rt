@@ -40,7 +40,10 @@ pub(crate) fn for_loop(
     requires last { IsMaybe tree.now head.last }
     requires body { IsStmt tree.now body }
     requires scoped { IsOpen scopes.old }
-    ensures most { (a : syntax.First) (x y : MaybeExpr) (t : Stmt) → StandsFirst tree.now first.now a → StandsMaybe tree.now head.test x → StandsMaybe tree.now head.last y → StandsStmt tree.now body t → IfOk result (IsCapped (max (in_first a (inner scopes.old)) (in_turns x y t (with_first a (inner scopes.old))))) }
+    ensures most { (a : syntax.First) (x y : MaybeExpr) (t : Stmt) → StandsFirst tree.now first.now a →
+        StandsMaybe tree.now head.test x → StandsMaybe tree.now head.last y → StandsStmt tree.now body t →
+        IfOk result (IsCapped (max (in_first a (inner scopes.old))
+        (in_turns x y t (with_first a (inner scopes.old))))) }
     ensures kept { OnOk result (scopes.new ≡ scopes.old) }
 {
     scopes.open()?;
@@ -62,7 +65,9 @@ fn turns(
     requires last { IsMaybe tree.now head.last }
     requires body { IsStmt tree.now body }
     requires scoped { IsOpen scopes.old }
-    ensures most { (x y : MaybeExpr) (t : Stmt) → StandsMaybe tree.now head.test x → StandsMaybe tree.now head.last y → StandsStmt tree.now body t → IfOk result (IsCapped (in_turns x y t scopes.old)) }
+    ensures most { (x y : MaybeExpr) (t : Stmt) → StandsMaybe tree.now head.test x →
+        StandsMaybe tree.now head.last y → StandsStmt tree.now body t →
+        IfOk result (IsCapped (in_turns x y t scopes.old)) }
     ensures kept { OnOk result (scopes.new ≡ scopes.old) }
 {
     let test = maybe(scopes, tree, head.test)?;
@@ -75,8 +80,10 @@ fn turns(
 fn first_part(scopes: &mut Scopes<Named>, tree: &Tree, first: &First) -> Result<u8, AllocError>
     requires first { IsFirst tree.now first.now }
     requires scoped { IsOpen scopes.old }
-    ensures most { (a : syntax.First) → StandsFirst tree.now first.now a → IfOk result (IsCapped (in_first a scopes.old)) }
-    ensures declared { (a : syntax.First) → StandsFirst tree.now first.now a → OnOk result (scopes.new ≡ with_first a scopes.old) }
+    ensures most { (a : syntax.First) → StandsFirst tree.now first.now a →
+        IfOk result (IsCapped (in_first a scopes.old)) }
+    ensures declared { (a : syntax.First) → StandsFirst tree.now first.now a →
+        OnOk result (scopes.new ≡ with_first a scopes.old) }
 {
     match first {
         First::None => Ok(0),

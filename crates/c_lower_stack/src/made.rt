@@ -30,7 +30,8 @@ pub(crate) fn single() -> Depths
 
 /// An operator between two operands.
 pub(crate) fn binary(sign: Sign, left: Depths, right: Depths) -> Depths
-    ensures { (f : ℕ) (x y : Expr) (s : Names) → IsOf x s left → IsOf y s right → IsOf (Binary f sign x y) s result }
+    ensures { (f : ℕ) (x y : Expr) (s : Names) → IsOf x s left → IsOf y s right →
+        IsOf (Binary f sign x y) s result }
 {
     let own = operands(sign, left.own, right.own);
     over(own, either(left.most, right.most))
@@ -38,7 +39,8 @@ pub(crate) fn binary(sign: Sign, left: Depths, right: Depths) -> Depths
 
 /// An assignment.
 pub(crate) fn assignment(sign: Sign, target: Depths, value: Depths) -> Depths
-    ensures { (f : ℕ) (x y : Expr) (s : Names) → IsOf x s target → IsOf y s value → IsOf (Assign f sign x y) s result }
+    ensures { (f : ℕ) (x y : Expr) (s : Names) → IsOf x s target → IsOf y s value →
+        IsOf (Assign f sign x y) s result }
 {
     let own = sides(sign, target.own, value.own);
     over(own, either(target.most, value.most))
@@ -46,7 +48,8 @@ pub(crate) fn assignment(sign: Sign, target: Depths, value: Depths) -> Depths
 
 /// A choice between two arms.
 pub(crate) fn choice(condition: Depths, left: Depths, right: Depths) -> Depths
-    ensures { (f : ℕ) (x y z : Expr) (s : Names) → IsOf x s condition → IsOf y s left → IsOf z s right → IsOf (Cond f x y z) s result }
+    ensures { (f : ℕ) (x y z : Expr) (s : Names) → IsOf x s condition → IsOf y s left → IsOf z s right →
+        IsOf (Cond f x y z) s result }
 {
     let own = either(condition.own, either(left.own, right.own));
     let below = either(condition.most, either(left.most, right.most));
@@ -62,7 +65,8 @@ pub(crate) fn prefixed(sign: Sign, operand: Depths) -> Depths
 
 /// A postfix operator. The old value is on the stack beside the address.
 pub(crate) fn postfixed(operand: Depths) -> Depths
-    ensures { (f : ℕ) (sign : GivenSign) (x : Expr) (s : Names) → IsOf x s operand → IsOf (Postfix f sign x) s result }
+    ensures { (f : ℕ) (sign : GivenSign) (x : Expr) (s : Names) → IsOf x s operand →
+        IsOf (Postfix f sign x) s result }
 {
     over(either(operand.own, 2), operand.most)
 }
@@ -76,21 +80,24 @@ pub(crate) fn size_of(below: u8) -> Depths
 
 /// A cast to a type in which the evaluation stack is so deep at most.
 pub(crate) fn cast(ty: u8, operand: Depths) -> Depths
-    ensures { (f : ℕ) (d : Decl) (x : Expr) (s : Names) → IsCapped (in_type d s) ty → IsOf x s operand → IsOf (Cast f d x) s result }
+    ensures { (f : ℕ) (d : Decl) (x : Expr) (s : Names) → IsCapped (in_type d s) ty → IsOf x s operand →
+        IsOf (Cast f d x) s result }
 {
     over(operand.own, either(ty, operand.most))
 }
 
 /// A subscript.
 pub(crate) fn subscript(left: Depths, right: Depths) -> Depths
-    ensures { (f : ℕ) (x y : Expr) (s : Names) → IsOf x s left → IsOf y s right → IsOf (Index f x y) s result }
+    ensures { (f : ℕ) (x y : Expr) (s : Names) → IsOf x s left → IsOf y s right →
+        IsOf (Index f x y) s result }
 {
     over(pair(left.own, right.own), either(left.most, right.most))
 }
 
 /// A call, which is direct or not.
 pub(crate) fn call(direct: bool, callee: Depths, arguments: Depths) -> Depths
-    ensures { (f : ℕ) (x : Expr) (xs : Exprs) (s : Names) → direct ≡ is_direct x s → IsOf x s callee → AreOf xs s arguments → IsOf (Call f x xs) s result }
+    ensures { (f : ℕ) (x : Expr) (xs : Exprs) (s : Names) → direct ≡ is_direct x s → IsOf x s callee →
+        AreOf xs s arguments → IsOf (Call f x xs) s result }
 {
     let own = called(direct, callee.own, arguments.own);
     over(own, either(callee.most, arguments.most))

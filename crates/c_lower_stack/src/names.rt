@@ -47,7 +47,8 @@ pub(crate) fn declared_name(decl: &Decl) -> &[u8]
 /// Declares the name of a local or a parameter.
 pub(crate) fn declare(scopes: &mut Scopes<Named>, tree: &Tree, id: DeclId) -> Result<(), AllocError>
     requires { IsDecl tree.now id }
-    ensures { (d : syntax.Decl) → StandsDecl tree.now id d → OnOk result (scopes.new ≡ with_decl d scopes.old) }
+    ensures { (d : syntax.Decl) → StandsDecl tree.now id d →
+        OnOk result (scopes.new ≡ with_decl d scopes.old) }
 {
     let decl = tree.decl(id);
     scopes.declare(declared_name(decl), Named::Object)

@@ -32,7 +32,8 @@ impl Functions {
     fn declaration(&mut self, tree: &Tree, id: DeclId) -> Result<(), AllocError>
         requires id { IsDecl tree.now id }
         requires scoped { IsOpen self.old.names }
-        ensures counted { (d : Decl) (fs : functions.Functions) → StandsDecl tree.now id d → AreFunctions fs self.old → OnOk result (AreFunctions (with_top d fs) self.new) }
+        ensures counted { (d : Decl) (fs : functions.Functions) → StandsDecl tree.now id d →
+            AreFunctions fs self.old → OnOk result (AreFunctions (with_top d fs) self.new) }
         ensures depth { OnOk result (length self.new.names ≡ length self.old.names) }
     {
         match &tree.decl(id).rest {
@@ -45,7 +46,8 @@ impl Functions {
     fn named(&mut self, tree: &Tree, id: DeclId) -> Result<(), AllocError>
         requires id { IsDecl tree.now id }
         requires scoped { IsOpen self.old.names }
-        ensures counted { (d : Decl) (fs : functions.Functions) → StandsDecl tree.now id d → AreFunctions fs self.old → OnOk result (AreFunctions (with_named d fs) self.new) }
+        ensures counted { (d : Decl) (fs : functions.Functions) → StandsDecl tree.now id d →
+            AreFunctions fs self.old → OnOk result (AreFunctions (with_named d fs) self.new) }
         ensures depth { OnOk result (length self.new.names ≡ length self.old.names) }
     {
         let decl = tree.decl(id);
@@ -60,7 +62,8 @@ impl Functions {
     fn function(&mut self, tree: &Tree, id: DeclId) -> Result<(), AllocError>
         requires id { IsDecl tree.now id }
         requires scoped { IsOpen self.old.names }
-        ensures counted { (d : Decl) (fs : functions.Functions) → StandsDecl tree.now id d → AreFunctions fs self.old → OnOk result (AreFunctions (with_function_of d fs) self.new) }
+        ensures counted { (d : Decl) (fs : functions.Functions) → StandsDecl tree.now id d →
+            AreFunctions fs self.old → OnOk result (AreFunctions (with_function_of d fs) self.new) }
         ensures depth { OnOk result (length self.new.names ≡ length self.old.names) }
     {
         let decl = tree.decl(id);
@@ -74,7 +77,8 @@ impl Functions {
     fn declared_again(&mut self, tree: &Tree, id: DeclId, place: usize) -> Result<(), AllocError>
         requires id { IsDecl tree.now id }
         requires scoped { IsOpen self.old.names }
-        ensures counted { (d : Decl) (fs : functions.Functions) → StandsDecl tree.now id d → AreFunctions fs self.old → OnOk result (AreFunctions (again place d fs) self.new) }
+        ensures counted { (d : Decl) (fs : functions.Functions) → StandsDecl tree.now id d →
+            AreFunctions fs self.old → OnOk result (AreFunctions (again place d fs) self.new) }
         ensures depth { OnOk result (length self.new.names ≡ length self.old.names) }
     {
         let decl = tree.decl(id);
@@ -98,7 +102,8 @@ impl Functions {
     fn declared_first(&mut self, tree: &Tree, id: DeclId) -> Result<(), AllocError>
         requires id { IsDecl tree.now id }
         requires scoped { IsOpen self.old.names }
-        ensures counted { (d : Decl) (fs : functions.Functions) → StandsDecl tree.now id d → AreFunctions fs self.old → OnOk result (AreFunctions (first d fs) self.new) }
+        ensures counted { (d : Decl) (fs : functions.Functions) → StandsDecl tree.now id d →
+            AreFunctions fs self.old → OnOk result (AreFunctions (first d fs) self.new) }
         ensures depth { OnOk result (length self.new.names ≡ length self.old.names) }
     {
         let decl = tree.decl(id);
@@ -151,7 +156,8 @@ fn first_scopes(alloc: Global) -> Result<Scopes<Named>, AllocError>
 /// name of a function the called value is on it as well. It takes time linear in the source.
 pub fn function_depth(alloc: Global, tree: &Tree) -> Result<Vec<u8>, AllocError>
     requires { (ds : Decls) × Holds tree.now ds }
-    ensures { (ds : Decls) → Holds tree.now ds → IfOk result (λ v. v.items ≡ map capped (function_depth_of ds)) }
+    ensures { (ds : Decls) → Holds tree.now ds →
+        IfOk result (λ v. v.items ≡ map capped (function_depth_of ds)) }
 {
     let names = first_scopes(alloc)?;
     let mut functions = Functions {

@@ -64,7 +64,8 @@ fn tested(
     requires test { IsExpr tree.now test }
     requires body { IsStmt tree.now body }
     requires scoped { IsOpen scopes.old }
-    ensures most { (x : Expr) (t : Stmt) → Stands tree.now test x → StandsStmt tree.now body t → IfOk result (IsCapped (max (in_expr x scopes.old) (in_stmt t scopes.old))) }
+    ensures most { (x : Expr) (t : Stmt) → Stands tree.now test x → StandsStmt tree.now body t →
+        IfOk result (IsCapped (max (in_expr x scopes.old) (in_stmt t scopes.old))) }
     ensures kept { OnOk result (scopes.new ≡ scopes.old) }
 {
     let test = expression(scopes, tree, test)?;
@@ -85,7 +86,9 @@ fn choice(
     requires then { IsStmt tree.now then }
     requires otherwise { IsStmt tree.now otherwise }
     requires scoped { IsOpen scopes.old }
-    ensures most { (x : Expr) (t z : Stmt) → Stands tree.now test x → StandsStmt tree.now then t → StandsStmt tree.now otherwise z → IfOk result (IsCapped (max (in_expr x scopes.old) (max (in_stmt t scopes.old) (in_stmt z scopes.old)))) }
+    ensures most { (x : Expr) (t z : Stmt) → Stands tree.now test x → StandsStmt tree.now then t →
+        StandsStmt tree.now otherwise z → IfOk result
+        (IsCapped (max (in_expr x scopes.old) (max (in_stmt t scopes.old) (in_stmt z scopes.old)))) }
     ensures kept { OnOk result (scopes.new ≡ scopes.old) }
 {
     let most = tested(scopes, tree, test, then)?;
@@ -98,7 +101,8 @@ fn choice(
 fn block(scopes: &mut Scopes<Named>, tree: &Tree, items: &[Entry]) -> Result<u8, AllocError>
     requires items { AreEntries tree.now items.now }
     requires scoped { IsOpen scopes.old }
-    ensures most { (es : Entries) → StandEntries tree.now items.now es → IfOk result (IsCapped (in_entries es (inner scopes.old))) }
+    ensures most { (es : Entries) → StandEntries tree.now items.now es →
+        IfOk result (IsCapped (in_entries es (inner scopes.old))) }
     ensures kept { OnOk result (scopes.new ≡ scopes.old) }
 {
     scopes.open()?;
@@ -112,7 +116,8 @@ fn block(scopes: &mut Scopes<Named>, tree: &Tree, items: &[Entry]) -> Result<u8,
 fn entries(scopes: &mut Scopes<Named>, tree: &Tree, items: &[Entry]) -> Result<u8, AllocError>
     requires items { AreEntries tree.now items.now }
     requires scoped { IsOpen scopes.old }
-    ensures most { (es : Entries) → StandEntries tree.now items.now es → IfOk result (IsCapped (in_entries es scopes.old)) }
+    ensures most { (es : Entries) → StandEntries tree.now items.now es →
+        IfOk result (IsCapped (in_entries es scopes.old)) }
     ensures around { OnOk result (StaysAround scopes.old scopes.new) }
 {
     let mut most = 0;
@@ -127,8 +132,10 @@ fn entries(scopes: &mut Scopes<Named>, tree: &Tree, items: &[Entry]) -> Result<u
 fn entry(scopes: &mut Scopes<Named>, tree: &Tree, item: &Entry) -> Result<u8, AllocError>
     requires item { IsEntry tree.now item.now }
     requires scoped { IsOpen scopes.old }
-    ensures most { (e : syntax.Entry) → StandsEntry tree.now item.now e → IfOk result (IsCapped (in_entry e scopes.old)) }
-    ensures declared { (e : syntax.Entry) → StandsEntry tree.now item.now e → OnOk result (scopes.new ≡ with_entry e scopes.old) }
+    ensures most { (e : syntax.Entry) → StandsEntry tree.now item.now e →
+        IfOk result (IsCapped (in_entry e scopes.old)) }
+    ensures declared { (e : syntax.Entry) → StandsEntry tree.now item.now e →
+        OnOk result (scopes.new ≡ with_entry e scopes.old) }
 {
     match item {
         Entry::Local(ids) => locals(scopes, tree, ids.as_slice()),
@@ -144,7 +151,8 @@ pub(crate) fn maybe(
 ) -> Result<u8, AllocError>
     requires id { IsMaybe tree.now id }
     requires scoped { IsOpen scopes.old }
-    ensures most { (x : MaybeExpr) → StandsMaybe tree.now id x → IfOk result (IsCapped (in_maybe x scopes.old)) }
+    ensures most { (x : MaybeExpr) → StandsMaybe tree.now id x →
+        IfOk result (IsCapped (in_maybe x scopes.old)) }
     ensures kept { OnOk result (scopes.new ≡ scopes.old) }
 {
     match id {

@@ -23,7 +23,8 @@ pub(crate) fn given_value(
 ) -> Result<u8, AllocError>
     requires value { IsValue tree.now value.now }
     requires scoped { IsOpen scopes.old }
-    ensures most { (x : Written) → StandsValue tree.now value.now x → IfOk result (IsCapped (in_value x scopes.old)) }
+    ensures most { (x : Written) → StandsValue tree.now value.now x →
+        IfOk result (IsCapped (in_value x scopes.old)) }
     ensures kept { OnOk result (scopes.new ≡ scopes.old) }
 {
     match value {
@@ -40,7 +41,8 @@ pub(crate) fn given_value(
 fn given_values(scopes: &mut Scopes<Named>, tree: &Tree, values: &[Value]) -> Result<u8, AllocError>
     requires values { AreValues tree.now values.now }
     requires scoped { IsOpen scopes.old }
-    ensures most { (xs : Writtens) → StandValues tree.now values.now xs → IfOk result (IsCapped (in_values xs scopes.old)) }
+    ensures most { (xs : Writtens) → StandValues tree.now values.now xs →
+        IfOk result (IsCapped (in_values xs scopes.old)) }
     ensures kept { OnOk result (scopes.new ≡ scopes.old) }
 {
     let mut most = 0;

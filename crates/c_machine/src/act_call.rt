@@ -63,7 +63,8 @@ pub(crate) fn call_through(
     requires valid { IsValid code.now }
     requires enough { n < length (held values.now) }
     requires place { a.now.at + 1 < 2 ^ 32 }
-    ensures { (placed : Places) → IsOutcome (laid code.now placed) (instrs.CallPointer sig n) a.now (held values.now) result }
+    ensures { (placed : Places) → IsOutcome (laid code.now placed) (instrs.CallPointer sig n) a.now
+        (held values.now) result }
 {
     match callee(code, sig, address_below(values, n)) {
         Some(func) => Outcome::Pends(Call {

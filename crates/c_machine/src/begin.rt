@@ -31,7 +31,8 @@ impl Position {
         requires few { length args.now ≤ most_values }
         requires values { length (values_of (config self.old)) + length args.now < room_of self.old.values }
         requires waits { length (waits_of (config self.old)) < room_of self.old.waits.all }
-        ensures begun { config self.new ≡ begun (laid code.now placed.now) (config self.old) func args.now side up }
+        ensures begun { config self.new ≡ begun (laid code.now placed.now) (config self.old) func args.now
+            side up }
         ensures values { room_of self.new.values ≡ room_of self.old.values }
         ensures waits { room_of self.new.waits.all ≡ room_of self.old.waits.all }
     {
@@ -75,7 +76,8 @@ impl Position {
         requires few { length args.now ≤ most_values }
         requires values { length (held self.old.values) + length args.now < room_of self.old.values }
         requires waits { length (held self.old.waits.all) < room_of self.old.waits.all }
-        ensures begun { config self.new ≡ begun (laid code.now placed.now) (config self.old) func args.now side up }
+        ensures begun { config self.new ≡ begun (laid code.now placed.now) (config self.old) func args.now
+            side up }
         ensures values { room_of self.new.values ≡ room_of self.old.values }
         ensures waits { room_of self.new.waits.all ≡ room_of self.old.waits.all }
     {
@@ -98,7 +100,10 @@ impl Position {
         requires few { length args.now ≤ most_values }
         requires values { length (held self.old.values) + length args.now < room_of self.old.values }
         requires waits { length (held self.old.waits.all) < room_of self.old.waits.all }
-        ensures begun { config self.new ≡ Entering side (call.indirect && not crosses) func args.now (kept crosses (held self.old.values) (uncovered call.indirect (drop call.args (held self.old.values)))) (waiting_of crosses call ∷ held self.old.waits.all) }
+        ensures begun { config self.new ≡ Entering side (call.indirect &&
+            not crosses) func args.now (kept crosses (held self.old.values)
+            (uncovered call.indirect (drop call.args (held self.old.values)))) (waiting_of crosses call ∷
+            held self.old.waits.all) }
         ensures values { room_of self.new.values ≡ room_of self.old.values }
         ensures waits { room_of self.new.waits.all ≡ room_of self.old.waits.all }
     {
@@ -109,7 +114,9 @@ impl Position {
     // The call waits for the end of its function. One that crosses the cut keeps its arguments for its return.
     fn wait(&mut self, call: Call, crosses: bool)
         requires { length (held self.old.waits.all) < room_of self.old.waits.all }
-        ensures kept { held self.new.values ≡ kept crosses (held self.old.values) (uncovered call.indirect (drop call.args (held self.old.values))) }
+        ensures kept { held self.new.values ≡
+            kept crosses (held self.old.values)
+            (uncovered call.indirect (drop call.args (held self.old.values))) }
         ensures few { length (held self.new.values) ≤ length (held self.old.values) }
         ensures waiting { held self.new.waits.all ≡ waiting_of crosses call ∷ held self.old.waits.all }
         ensures values { room_of self.new.values ≡ room_of self.old.values }
@@ -128,7 +135,8 @@ impl Position {
         requires few { length args.now ≤ most_values }
         requires values { length (held self.old.values) + length args.now < room_of self.old.values }
         requires waits { length (held self.old.waits.all) < room_of self.old.waits.all }
-        ensures begun { config self.new ≡ Entering Replay false func args.now (held self.old.values) (ForBelow call func ∷ held self.old.waits.all) }
+        ensures begun { config self.new ≡ Entering Replay false func args.now (held self.old.values)
+            (ForBelow call func ∷ held self.old.waits.all) }
         ensures values { room_of self.new.values ≡ room_of self.old.values }
         ensures waits { room_of self.new.waits.all ≡ room_of self.old.waits.all }
     {
@@ -141,7 +149,9 @@ impl Position {
         requires few { length args.now ≤ most_values }
         requires values { length (held self.old.values) + length args.now < room_of self.old.values }
         requires waits { length (held self.old.waits.all) < room_of self.old.waits.all }
-        ensures begun { config self.new ≡ Entering Replay false func args.now (uncovered call.indirect (drop call.args (held self.old.values))) (ForUpRet call.then call.func ∷ held self.old.waits.all) }
+        ensures begun { config self.new ≡ Entering Replay false func args.now
+            (uncovered call.indirect (drop call.args (held self.old.values)))
+            (ForUpRet call.then call.func ∷ held self.old.waits.all) }
         ensures values { room_of self.new.values ≡ room_of self.old.values }
         ensures waits { room_of self.new.waits.all ≡ room_of self.old.waits.all }
     {
@@ -205,7 +215,8 @@ impl Position {
     fn enter(&mut self, side: Side, indirect: bool, func: u16, args: &[u64])
         requires few { length args.now ≤ most_values }
         requires values { length (held self.old.values) + length args.now < room_of self.old.values }
-        ensures entering { config self.new ≡ Entering side indirect func args.now (held self.old.values) (held self.old.waits.all) }
+        ensures entering { config self.new ≡ Entering side indirect func args.now (held self.old.values)
+            (held self.old.waits.all) }
         ensures values { room_of self.new.values ≡ room_of self.old.values }
         ensures waits { self.new.waits ≡ self.old.waits }
     {

@@ -32,7 +32,8 @@ const START_SIG: u32 = 0;
 /// an int.
 pub fn start_of(code: &Code, address: u64) -> Option<u16>
     ensures is { (placed : Places) → result ≡ callee_of (laid code.now placed) start_sig address }
-    ensures well { (placed : Places) (arg : ℕ) → arg < 2 ^ 64 → StartsWell (laid code.now placed) result (arg ∷ []) }
+    ensures well { (placed : Places) (arg : ℕ) → arg < 2 ^ 64 →
+        StartsWell (laid code.now placed) result (arg ∷ []) }
 {
     check(code);
     callee(code, START_SIG, address)
@@ -42,7 +43,13 @@ impl Thread {
     /// The thread with this number, in no function. It takes the memory for as many activations as `depth` on each side;
     /// no other call takes any.
     pub fn new(alloc: Global, number: u8, depth: u16) -> Result<Thread, AllocError>
-        ensures new { IfOk result (λ thread. thread ≡ record { number = number; depth = depth; made = false; config = Done 0 }) }
+        ensures new { IfOk result (λ thread. thread ≡ record {
+          number = number;
+          depth = depth;
+          made =
+              false;
+          config = Done 0;
+        }) }
         ensures inside { IfOk result (λ thread. (l : Laid) → IsInside l thread.config) }
     {
         let waits = 2 * depth as usize;
@@ -73,10 +80,14 @@ impl Thread {
     /// The thread's next mark or call.
     pub fn next(&self, code: &Code, placed: &Placed) -> Want
         requires inside { IsInside (laid code.now placed.now) self.now.config }
-        ensures want { shown (laid code.now placed.now) (action (laid code.now placed.now) self.now.config) ≡ Some result }
-        ensures call { (f : ℕ) → result ≡ WantedCall f → IsAtCall (laid code.now placed.now) self.now.config f }
-        ensures ret { (f v : ℕ) → result ≡ WantedRet f v → IsAtReturn (laid code.now placed.now) self.now.config f v }
-        ensures answers { (answer : Answers) → IsNeeded result answer → MayFeed (laid code.now placed.now) self.now.config (told answer) }
+        ensures want { shown (laid code.now placed.now)
+            (action (laid code.now placed.now) self.now.config) ≡ Some result }
+        ensures call { (f : ℕ) → result ≡ WantedCall f →
+            IsAtCall (laid code.now placed.now) self.now.config f }
+        ensures ret { (f v : ℕ) → result ≡ WantedRet f v →
+            IsAtReturn (laid code.now placed.now) self.now.config f v }
+        ensures answers { (answer : Answers) → IsNeeded result answer →
+            MayFeed (laid code.now placed.now) self.now.config (told answer) }
     {
         check(code);
         match self.position.look(code, placed) {
@@ -131,8 +142,10 @@ impl Thread {
     pub fn run(&mut self, code: &Code, placed: &Placed)
         requires inside { IsInside (laid code.now placed.now) self.old.config }
         requires may { MayRun (laid code.now placed.now) self.old.config }
-        requires depth { open_on (side_at (laid code.now placed.now) self.old.config) self.old.config < self.old.depth }
-        ensures run { self.new ≡ after_begin (laid code.now placed.now) self.old (func_at self.old.config) (args_of self.old.config) (side_at (laid code.now placed.now) self.old.config) false }
+        requires depth { open_on (side_at (laid code.now placed.now) self.old.config) self.old.config <
+            self.old.depth }
+        ensures run { self.new ≡ after_begin (laid code.now placed.now) self.old (func_at self.old.config)
+            (args_of self.old.config) (side_at (laid code.now placed.now) self.old.config) false }
         ensures inside { IsInside (laid code.now placed.now) self.new.config }
     {
         check(code);
@@ -145,7 +158,8 @@ impl Thread {
         requires inside { IsInside (laid code.now placed.now) self.old.config }
         requires may { MayGoUp (laid code.now placed.now) self.old.config }
         requires depth { open_on Replay self.old.config < self.old.depth }
-        ensures up { self.new ≡ after_begin (laid code.now placed.now) self.old (func_at self.old.config) (args_of self.old.config) Replay true }
+        ensures up { self.new ≡ after_begin (laid code.now placed.now) self.old (func_at self.old.config)
+            (args_of self.old.config) Replay true }
         ensures inside { IsInside (laid code.now placed.now) self.new.config }
     {
         check(code);

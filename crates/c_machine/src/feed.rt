@@ -52,7 +52,8 @@ impl Position {
     fn take_elsewhere(&mut self, code: &Code, answer: Answer)
         requires elsewhere { IsElsewhere self.old.state }
         requires room { length (values_of (config self.old)) < room_of self.old.values }
-        ensures fed { (placed : Places) → config self.new ≡ fed (laid code.now placed) (config self.old) (told answer) }
+        ensures fed { (placed : Places) → config self.new ≡
+            fed (laid code.now placed) (config self.old) (told answer) }
         ensures values { room_of self.new.values ≡ room_of self.old.values }
         ensures waits { room_of self.new.waits.all ≡ room_of self.old.waits.all }
     {
@@ -85,7 +86,9 @@ impl Position {
     // The result of a call that isn't run here takes the place of its arguments, and of its address.
     fn take_result(&mut self, call: Call, code: &Code, answer: Answer)
         requires room { length (held self.old.values) < room_of self.old.values }
-        ensures fed { (placed : Places) → config self.new ≡ heard (laid code.now placed) (with_args (take_args call.args [] (held self.old.values)) (awaiting call (held self.old.values) (held self.old.waits.all))) (told answer) }
+        ensures fed { (placed : Places) → config self.new ≡
+            heard (laid code.now placed) (with_args (take_args call.args [] (held self.old.values))
+            (awaiting call (held self.old.values) (held self.old.waits.all))) (told answer) }
         ensures values { room_of self.new.values ≡ room_of self.old.values }
         ensures waits { room_of self.new.waits.all ≡ room_of self.old.waits.all }
     {
@@ -102,7 +105,8 @@ impl Position {
 
     // The result of a thread's first function, where it has one.
     fn take_first(&mut self, func: Option<u16>, code: &Code, answer: Answer)
-        ensures fed { (placed : Places) → config self.new ≡ fed (laid code.now placed) (Starting func (reverse (held self.old.values))) (told answer) }
+        ensures fed { (placed : Places) → config self.new ≡
+            fed (laid code.now placed) (Starting func (reverse (held self.old.values))) (told answer) }
         ensures values { room_of self.new.values ≡ room_of self.old.values }
         ensures waits { room_of self.new.waits.all ≡ room_of self.old.waits.all }
     {
@@ -114,7 +118,8 @@ impl Position {
 
     // A function that isn't run here gives the thread's result.
     fn take_first_result(&mut self, func: u16, code: &Code, answer: Answer)
-        ensures fed { (placed : Places) → config self.new ≡ result_is (result_of (laid code.now placed) func) (told answer) }
+        ensures fed { (placed : Places) → config self.new ≡
+            result_is (result_of (laid code.now placed) func) (told answer) }
         ensures values { room_of self.new.values ≡ room_of self.old.values }
         ensures waits { room_of self.new.waits.all ≡ room_of self.old.waits.all }
     {
@@ -132,7 +137,8 @@ impl Position {
     // A result takes the place of the arguments of its call, and of its address.
     fn replace(&mut self, call: Call, value: u64)
         requires room { length (held self.old.values) < room_of self.old.values }
-        ensures going { config self.new ≡ Going call.then (value ∷ uncovered call.indirect (drop call.args (held self.old.values))) (held self.old.waits.all) }
+        ensures going { config self.new ≡ Going call.then (value ∷
+            uncovered call.indirect (drop call.args (held self.old.values))) (held self.old.waits.all) }
         ensures values { room_of self.new.values ≡ room_of self.old.values }
         ensures waits { room_of self.new.waits.all ≡ room_of self.old.waits.all }
     {
@@ -143,7 +149,8 @@ impl Position {
 
     // Takes the arguments of a call away, and its address.
     pub(crate) fn uncover(&mut self, call: Call)
-        ensures values { held self.new.values ≡ uncovered call.indirect (drop call.args (held self.old.values)) }
+        ensures values { held self.new.values ≡
+            uncovered call.indirect (drop call.args (held self.old.values)) }
         ensures room { room_of self.new.values ≡ room_of self.old.values }
         ensures waits { self.new.waits ≡ self.old.waits }
         ensures state { self.new.state ≡ self.old.state }
@@ -156,7 +163,9 @@ impl Position {
 
     // The body of a function begins in its frame.
     fn take_frame(&mut self, entry: Entry, code: &Code, answer: Answer)
-        ensures fed { (placed : Places) → config self.new ≡ framed (laid code.now placed) entry.side entry.func (drop entry.args (held self.old.values)) (held self.old.waits.all) (told answer) }
+        ensures fed { (placed : Places) → config self.new ≡
+            framed (laid code.now placed) entry.side entry.func (drop entry.args (held self.old.values))
+            (held self.old.waits.all) (told answer) }
         ensures values { room_of self.new.values ≡ room_of self.old.values }
         ensures waits { room_of self.new.waits.all ≡ room_of self.old.waits.all }
     {
@@ -179,7 +188,9 @@ impl Position {
     // The event that ends a crossing of the cut: the result goes to what waits for it.
     fn take_closing(&mut self, value: u64, waiting: Waiting)
         requires room { length (held self.old.values) < room_of self.old.values }
-        ensures fed { (l : Laid) (x : Answers) → config self.new ≡ heard l (close value waiting (held self.old.values) (held self.old.waits.all)) x }
+        ensures fed { (l : Laid) (x : Answers) →
+            config self.new ≡ heard l (close value waiting (held self.old.values)
+            (held self.old.waits.all)) x }
         ensures values { room_of self.new.values ≡ room_of self.old.values }
         ensures waits { room_of self.new.waits.all ≡ room_of self.old.waits.all }
     {
@@ -198,7 +209,9 @@ impl Position {
     // The return of a call that crossed the cut.
     fn take_return(&mut self, call: Call, value: u64)
         requires room { length (held self.old.values) < room_of self.old.values }
-        ensures fed { (l : Laid) (x : Answers) → config self.new ≡ heard l (with_args (take_args call.args [] (held self.old.values)) (returning value call (held self.old.waits.all))) x }
+        ensures fed { (l : Laid) (x : Answers) →
+            config self.new ≡ heard l (with_args (take_args call.args [] (held self.old.values))
+            (returning value call (held self.old.waits.all))) x }
         ensures values { room_of self.new.values ≡ room_of self.old.values }
         ensures waits { room_of self.new.waits.all ≡ room_of self.old.waits.all }
     {

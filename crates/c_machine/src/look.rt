@@ -24,7 +24,8 @@ impl Position {
     pub(crate) fn look(&self, code: &Code, placed: &Placed) -> Option<Want>
         requires valid { IsValid code.now }
         requires fits { FitsIn (laid code.now placed.now) (config self.now) }
-        ensures { result ≡ shown (laid code.now placed.now) (action (laid code.now placed.now) (config self.now)) }
+        ensures { result ≡ shown (laid code.now placed.now)
+            (action (laid code.now placed.now) (config self.now)) }
     {
         match &self.state {
             State::Going(a) => self.look_at(a, code, placed),
@@ -51,8 +52,11 @@ impl Position {
     #[inline(always)]
     fn look_at(&self, a: &Activation, code: &Code, placed: &Placed) -> Option<Want>
         requires valid { IsValid code.now }
-        requires fits { FitsIn (laid code.now placed.now) (Going a.now (held self.now.values) (held self.now.waits.all)) }
-        ensures { result ≡ shown (laid code.now placed.now) (action (laid code.now placed.now) (Going a.now (held self.now.values) (held self.now.waits.all))) }
+        requires fits { FitsIn (laid code.now placed.now)
+            (Going a.now (held self.now.values) (held self.now.waits.all)) }
+        ensures { result ≡ shown (laid code.now placed.now)
+            (action (laid code.now placed.now)
+            (Going a.now (held self.now.values) (held self.now.waits.all))) }
     {
         let instr = &code.instrs()[a.at as usize];
         match act(instr, a, &self.values, code, placed) {
@@ -64,7 +68,8 @@ impl Position {
 
     // The event that ends a crossing of the cut.
     fn look_closing(&self, value: u64, waiting: Waiting) -> Option<Want>
-        ensures { (l : Laid) (ws : List Waits) → result ≡ shown l (close value waiting (held self.now.values) ws) }
+        ensures { (l : Laid) (ws : List Waits) →
+            result ≡ shown l (close value waiting (held self.now.values) ws) }
     {
         match waiting {
             Waiting::ForValue(_) => None,
@@ -77,7 +82,9 @@ impl Position {
 
     // The return of a call that crossed the cut.
     fn look_return(&self, call: Call, value: u64) -> Option<Want>
-        ensures { (l : Laid) (ws : List Waits) → result ≡ shown l (with_args (take_args call.args [] (held self.now.values)) (returning value call ws)) }
+        ensures { (l : Laid) (ws : List Waits) →
+            result ≡ shown l (with_args (take_args call.args [] (held self.now.values))
+            (returning value call ws)) }
     {
         if has_args(&self.values, call.args) {
             Some(Want::Ret {

@@ -138,7 +138,8 @@ fn divides_wrong(kind: IntKind, a: u64, b: u64) -> bool
 #[inline(always)]
 fn quotient(kind: IntKind, a: u64, b: u64) -> Option<u64>
     requires { IsValue kind (number kind a) }
-    ensures { result ≡ written_unless (divide_fault kind (number kind a) (number kind b)) (int_div (number kind a) (number kind b)) }
+    ensures { result ≡ written_unless (divide_fault kind (number kind a) (number kind b))
+        (int_div (number kind a) (number kind b)) }
 {
     if divides_wrong(kind, a, b) {
         None
@@ -153,7 +154,8 @@ fn quotient(kind: IntKind, a: u64, b: u64) -> Option<u64>
 #[inline(always)]
 fn remainder(kind: IntKind, a: u64, b: u64) -> Option<u64>
     requires { IsValue kind (number kind a) }
-    ensures { result ≡ written_unless (divide_fault kind (number kind a) (number kind b)) (int_rem (number kind a) (number kind b)) }
+    ensures { result ≡ written_unless (divide_fault kind (number kind a) (number kind b))
+        (int_rem (number kind a) (number kind b)) }
 {
     if divides_wrong(kind, a, b) {
         None
@@ -179,7 +181,8 @@ fn count_of(kind: IntKind, right: u64) -> Option<u32>
 // The bits that leave the word are lost.
 #[inline(always)]
 fn shifted_left(kind: IntKind, a: u64, right: u64) -> Option<u64>
-    ensures { result ≡ written_unless (shift_fault kind (read I64 right)) (number kind a *ℤ pos (2 ^ unsigned_abs (read I64 right))) }
+    ensures { result ≡ written_unless (shift_fault kind (read I64 right))
+        (number kind a *ℤ pos (2 ^ unsigned_abs (read I64 right))) }
 {
     let count = count_of(kind, right)?;
     Some(a << count)
@@ -188,7 +191,8 @@ fn shifted_left(kind: IntKind, a: u64, right: u64) -> Option<u64>
 // It rounds down.
 #[inline(always)]
 fn shifted_right(kind: IntKind, a: u64, right: u64) -> Option<u64>
-    ensures { result ≡ written_unless (shift_fault kind (read I64 right)) (int_div_euclid (number kind a) (pos (2 ^ unsigned_abs (read I64 right)))) }
+    ensures { result ≡ written_unless (shift_fault kind (read I64 right))
+        (int_div_euclid (number kind a) (pos (2 ^ unsigned_abs (read I64 right)))) }
 {
     let count = count_of(kind, right)?;
     if kind.is_signed() {

@@ -22,9 +22,12 @@ impl Position {
     pub(crate) fn run(&mut self, code: &Code, placed: &Placed)
         requires may { MayRun (laid code.now placed.now) (config self.old) }
         requires few { length (args_of (config self.old)) ≤ most_values }
-        requires values { length (values_of (config self.old)) + length (args_of (config self.old)) < room_of self.old.values }
+        requires values { length (values_of (config self.old)) + length (args_of (config self.old)) <
+            room_of self.old.values }
         requires waits { length (waits_of (config self.old)) < room_of self.old.waits.all }
-        ensures run { config self.new ≡ begun (laid code.now placed.now) (config self.old) (func_at (config self.old)) (args_of (config self.old)) (side_at (laid code.now placed.now) (config self.old)) false }
+        ensures run { config self.new ≡ begun (laid code.now placed.now) (config self.old)
+            (func_at (config self.old)) (args_of (config self.old))
+            (side_at (laid code.now placed.now) (config self.old)) false }
         ensures values { room_of self.new.values ≡ room_of self.old.values }
         ensures waits { room_of self.new.waits.all ≡ room_of self.old.waits.all }
     {
@@ -44,7 +47,8 @@ impl Position {
         requires may { MayGoUp (laid code.now placed.now) (config self.old) }
         requires few { length (args_of (config self.old)) ≤ most_values }
         requires waits { length (waits_of (config self.old)) < room_of self.old.waits.all }
-        ensures up { config self.new ≡ begun (laid code.now placed.now) (config self.old) (func_at (config self.old)) (args_of (config self.old)) Replay true }
+        ensures up { config self.new ≡ begun (laid code.now placed.now) (config self.old)
+            (func_at (config self.old)) (args_of (config self.old)) Replay true }
         ensures values { room_of self.new.values ≡ room_of self.old.values }
         ensures waits { room_of self.new.waits.all ≡ room_of self.old.waits.all }
     {
@@ -65,7 +69,11 @@ impl Position {
         requires enough { call.args ≤ length (held self.old.values) }
         requires values { length (held self.old.values) + call.args < room_of self.old.values }
         requires waits { length (held self.old.waits.all) < room_of self.old.waits.all }
-        ensures run { config self.new ≡ Entering (cond crosses System call.then.side) (call.indirect && not crosses) call.func (reverse (take call.args (held self.old.values))) (kept crosses (held self.old.values) (uncovered call.indirect (drop call.args (held self.old.values)))) (waiting_of crosses call ∷ held self.old.waits.all) }
+        ensures run { config self.new ≡ Entering (cond crosses System call.then.side) (call.indirect &&
+            not crosses) call.func (reverse (take call.args (held self.old.values)))
+            (kept crosses (held self.old.values)
+            (uncovered call.indirect (drop call.args (held self.old.values)))) (waiting_of crosses call ∷
+            held self.old.waits.all) }
         ensures values { room_of self.new.values ≡ room_of self.old.values }
         ensures waits { room_of self.new.waits.all ≡ room_of self.old.waits.all }
     {
@@ -84,7 +92,10 @@ impl Position {
     fn up_call(&mut self, call: Call)
         requires enough { call.args ≤ length (held self.old.values) }
         requires waits { length (held self.old.waits.all) < room_of self.old.waits.all }
-        ensures up { config self.new ≡ Entering Replay false call.func (reverse (take call.args (held self.old.values))) (uncovered call.indirect (drop call.args (held self.old.values))) (ForUpRet call.then call.func ∷ held self.old.waits.all) }
+        ensures up { config self.new ≡ Entering Replay false call.func
+            (reverse (take call.args (held self.old.values)))
+            (uncovered call.indirect (drop call.args (held self.old.values)))
+            (ForUpRet call.then call.func ∷ held self.old.waits.all) }
         ensures values { room_of self.new.values ≡ room_of self.old.values }
         ensures waits { room_of self.new.waits.all ≡ room_of self.old.waits.all }
     {
@@ -97,7 +108,8 @@ impl Position {
     fn uncover_below(&mut self, call: Call)
         requires enough { call.args ≤ length (held self.old.values) }
         ensures top { take call.args (held self.new.values) ≡ take call.args (held self.old.values) }
-        ensures below { drop call.args (held self.new.values) ≡ uncovered call.indirect (drop call.args (held self.old.values)) }
+        ensures below { drop call.args (held self.new.values) ≡
+            uncovered call.indirect (drop call.args (held self.old.values)) }
         ensures room { room_of self.new.values ≡ room_of self.old.values }
         ensures waits { self.new.waits ≡ self.old.waits }
     {
@@ -108,7 +120,9 @@ impl Position {
 
     // The function of the call is to be entered, with the arguments on top.
     fn enter_top(&mut self, call: Call, side: Side, indirect: bool)
-        ensures entering { config self.new ≡ Entering side indirect call.func (reverse (take call.args (held self.old.values))) (drop call.args (held self.old.values)) (held self.old.waits.all) }
+        ensures entering { config self.new ≡ Entering side indirect call.func
+            (reverse (take call.args (held self.old.values))) (drop call.args (held self.old.values))
+            (held self.old.waits.all) }
         ensures values { self.new.values ≡ self.old.values }
         ensures waits { self.new.waits ≡ self.old.waits }
     {
@@ -123,7 +137,8 @@ impl Position {
     // The function is to be entered, with all values as arguments.
     fn enter_all(&mut self, side: Side, indirect: bool, func: u16)
         requires few { length (held self.old.values) ≤ most_values }
-        ensures entering { config self.new ≡ Entering side indirect func (reverse (held self.old.values)) [] (held self.old.waits.all) }
+        ensures entering { config self.new ≡ Entering side indirect func (reverse (held self.old.values))
+            [] (held self.old.waits.all) }
         ensures values { self.new.values ≡ self.old.values }
         ensures waits { self.new.waits ≡ self.old.waits }
     {

@@ -20,7 +20,12 @@ impl Model for Thread {
 
     ghost Value = { ThreadState };
 
-    ghost view = { λ t. record { number = t.number; depth = t.depth; made = made_of t.position.state; config = config t.position } };
+    ghost view = { λ t. record {
+      number = t.number;
+      depth = t.depth;
+      made = made_of t.position.state;
+      config = config t.position;
+    } };
 
     ghost invariant = { λ t. HasRoom t.depth t.position };
 }

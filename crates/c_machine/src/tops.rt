@@ -17,7 +17,8 @@ use marks::function_address;
 
 // Whether there are so many values.
 pub(crate) fn has_args(values: &Stack<u64>, n: u8) -> bool
-    ensures yes { IsTrue result → take_args n [] (held values.now) ≡ Some (reverse (take n (held values.now)), drop n (held values.now)) }
+    ensures yes { IsTrue result → take_args n [] (held values.now) ≡
+        Some (reverse (take n (held values.now)), drop n (held values.now)) }
     ensures no { IsFalse result → take_args n [] (held values.now) ≡ None }
     ensures enough { IsTrue result → n ≤ length (held values.now) }
 {
@@ -31,7 +32,10 @@ pub(crate) fn has_args(values: &Stack<u64>, n: u8) -> bool
 // The value below so many arguments.
 pub(crate) fn address_below(values: &Stack<u64>, n: u8) -> u64
     requires { n < length (held values.now) }
-    ensures { (l : Laid) (sig : ℕ) (a : Activation) (ws : List Waiting) → with_args (take_args n [] (held values.now)) (pointer_act l sig a (held values.now) ws) ≡ to_callee (callee_of l sig result) a (reverse (take n (held values.now))) (held values.now) (drop (n + 1) (held values.now)) ws }
+    ensures { (l : Laid) (sig : ℕ) (a : Activation) (ws : List Waiting) →
+        with_args (take_args n [] (held values.now)) (pointer_act l sig a (held values.now) ws) ≡
+        to_callee (callee_of l sig result) a (reverse (take n (held values.now))) (held values.now)
+        (drop (n + 1) (held values.now)) ws }
 {
     let top = values.top_slice(n as usize + 1);
     top[0]

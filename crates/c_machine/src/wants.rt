@@ -59,7 +59,8 @@ pub(crate) fn load_want(kind: IntKind, addr: u64) -> Want
 
 #[inline(always)]
 pub(crate) fn store_want(kind: IntKind, addr: u64, value: u64) -> Want
-    ensures { result ≡ ShownStore addr (length (bytes_of_number (bytes_of kind) value)) (number_of_bytes (bytes_of_number (bytes_of kind) value)) }
+    ensures { result ≡ ShownStore addr (length (bytes_of_number (bytes_of kind) value))
+        (number_of_bytes (bytes_of_number (bytes_of kind) value)) }
 {
     Want::Store {
         addr,

@@ -128,7 +128,8 @@ give (frames.Prefix f s) k ts K =
     if nat_le 14 k then move (nexts.Done 14) (acts.Prefix f s ∷ []) ts K else fail ts K
 give (frames.Sizeof f) k ts K =
     if nat_le 14 k then move (nexts.Done 14) (acts.SizeofExpr f ∷ []) ts K else fail ts K
-give (frames.Cast f) k ts K = if nat_le 14 k then move (nexts.Done 14) (acts.Cast f ∷ []) ts K else fail ts K
+give (frames.Cast f) k ts K = if nat_le 14 k then move (nexts.Done 14) (acts.Cast f ∷ []) ts K else fail ts
+    K
 give _ k ts K = fail ts K
 
 unfoldable pub do_end : Punctuator → ℕ → List Token → List Frame → Move
@@ -316,7 +317,8 @@ place_acts p b = acts.Specs b ∷ acts.NoAnnots ∷ acts.NoDecls ∷ []
 
 unfoldable pub placed : Option (Base × List Token) → DeclaredIn → List Frame → Move
 placed None p K = fail [] K
-placed (Some (b, ts)) p K = move (nexts.Declr namings.Always 0) (place_acts p b) ts (frames.Names p true ∷ K)
+placed (Some (b, ts)) p K = move (nexts.Declr namings.Always 0) (place_acts p b) ts (frames.Names p true ∷
+    K)
 
 -- annotations may stand before the specifiers
 unfoldable pub annotated : Punctuator → Target → List Token → List Token → List Frame → Move
@@ -389,7 +391,8 @@ braces_end _ f ts K = fail ts K
 
 unfoldable pub init_end : Punctuator → DeclaredIn → List Token → List Frame → Move
 init_end marks.Comma p ts K =
-    move (nexts.Declr namings.Always 0) (acts.AddName ∷ acts.DeclareValue ∷ []) ts (frames.Names p false ∷ K)
+    move (nexts.Declr namings.Always 0) (acts.AddName ∷ acts.DeclareValue ∷ []) ts (frames.Names p false ∷
+    K)
 init_end marks.Semicolon p ts K = move (end_next p) (end_acts p (acts.DeclareValue ∷ [])) ts K
 init_end _ p ts K = fail ts K
 

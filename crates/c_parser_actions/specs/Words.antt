@@ -52,7 +52,8 @@ put_word (kinds.Word words.Struct) top false r = More true r
 put_word (kinds.Word w) top false r = word_step top (with_word r w) r
 put_word _ top false r = Ended r
 
-abbrev pub next_word : Step → List Token → (Bool → Specifiers → Option (Specifiers × List Token)) → Option (Specifiers × List Token)
+abbrev pub next_word : Step → List Token → (Bool → Specifiers → Option (Specifiers × List Token)) →
+    Option (Specifiers × List Token)
 next_word Refused all go = None
 next_word (Ended r) all go = Some (r, all)
 next_word (More p s) all go = go p s

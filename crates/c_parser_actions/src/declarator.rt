@@ -78,7 +78,8 @@ impl Parser {
         whole: &'a [Token],
         rest: &'a [Token],
     ) -> Result<Plan<'a>, AllocError>
-        ensures { IfOk result (λ p. Plans p self.now (give_name naming from at name.now whole.now rest.now)) }
+        ensures { IfOk result (λ p. Plans p self.now
+            (give_name naming from at name.now whole.now rest.now)) }
     {
         match naming {
             Naming::Never => Ok(self.without_name(naming, from, whole)),
@@ -309,7 +310,8 @@ impl Parser {
 
     #[tactic(auto, unfolding(crate::specs::Machine::typed))]
     pub fn start_type<'a>(&self, alloc: Global, rest: &'a [Token]) -> Result<Plan<'a>, AllocError>
-        ensures { IfOk result (λ p. Plans p self.now (typed (take_specs false rest.now) (from_of rest.now))) }
+        ensures { IfOk result (λ p. Plans p self.now
+            (typed (take_specs false rest.now) (from_of rest.now))) }
     {
         let from = from_first(rest);
         match specs(alloc, false, rest)? {

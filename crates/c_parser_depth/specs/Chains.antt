@@ -12,7 +12,8 @@ longer c d = if nat_lt c.nodes d.nodes then d else c
 
 -- the chain below a node at this offset, and that node; from 202 on nodes aren't counted
 abbrev pub under : ℕ → Chain → Chain
-under f c = if c.nodes == 0 then record { nodes = 1; end = f } else if nat_lt c.nodes 202 then record c { nodes = c.nodes + 1 } else c
+under f c = if c.nodes == 0 then record { nodes = 1; end = f } else if nat_lt c.nodes 202 then record c
+    { nodes = c.nodes + 1 } else c
 
 -- the same below a node that there may be
 abbrev pub held_by : Option ℕ → Chain → Chain

@@ -15,7 +15,8 @@ IsMade (Err errors.Unfit) b m = m ≡ None
 IsMade (Err errors.Memory) b m = Unit {0}
 
 -- the builder makes this of its nodes and pieces
-abbrev pub Makes : Result (Unit {0}) BuildError → Builder → Builder → (Nodes → Stacks → Option Built) → Type 0
+abbrev pub Makes : Result (Unit {0}) BuildError → Builder → Builder → (Nodes → Stacks → Option Built) →
+    Type 0
 Makes r old new m = IsMade r new (m (nodes_seen old) (stack_seen old))
 
 -- this is taken and the rest is left, or there is none and the actions are unfit

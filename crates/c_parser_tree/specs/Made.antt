@@ -94,7 +94,8 @@ made_decl acts.DropSpecs N R = taking (shared_in R) (λ s R. puts N R)
 made_decl a N R = made_list a N R
 
 unfoldable pub made_declr : Action → Nodes → Stacks → Option Built
-made_declr (acts.Named f n) N R = puts N (push_declarator (record { parts = []; name = Some n; from = f }) R)
+made_declr (acts.Named f n) N R = puts N (push_declarator (record { parts = []; name = Some n; from = f })
+    R)
 made_declr (acts.Nameless f) N R = puts N (push_declarator (record { parts = []; name = None; from = f }) R)
 made_declr (acts.Pointer f) N R = add_part N f parts.Pointer R
 made_declr (acts.Array f) N R = taking (expr_in R) (λ x R. add_part N f (parts.Array x) R)

@@ -31,7 +31,8 @@ pub data Stacked (N : Nodes) : Stacks → List Tree → Type 0 where
       → Stacked N (push_expr i S) (PExpr x ∷ P)
   exprs : {S : Stacks} {P : List Tree} (is : List ExprId) (xs : Exprs) → StandExprs N is xs → Stacked N S P
       → Stacked N (push_exprs is S) (PExprs xs ∷ P)
-  maybe : {S : Stacks} {P : List Tree} (i : Option ExprId) (x : MaybeExpr) → StandsMaybe N i x → Stacked N S P
+  maybe : {S : Stacks} {P : List Tree} (i : Option ExprId) (x : MaybeExpr) → StandsMaybe N i x →
+      Stacked N S P
       → Stacked N (push_maybe i S) (PMaybe x ∷ P)
   declr : {S : Stacks} {P : List Tree} (vs : List Part) (n : Option (List ℕ)) (f : ℕ) (ps : Parts)
       → StandParts N (reverse vs) ps → Stacked N S P
@@ -43,7 +44,8 @@ pub data Stacked (N : Nodes) : Stacks → List Tree → Type 0 where
       → Stacked N (push_decl i S) (PDecl d ∷ P)
   decls : {S : Stacks} {P : List Tree} (is : List DeclId) (ds : Decls) → StandDecls N is ds → Stacked N S P
       → Stacked N (push_decls is S) (PDecls ds ∷ P)
-  annots : {S : Stacks} {P : List Tree} (vs : List Annot) (an : Annots) → StandAnnots N vs an → Stacked N S P
+  annots : {S : Stacks} {P : List Tree} (vs : List Annot) (an : Annots) → StandAnnots N vs an →
+      Stacked N S P
       → Stacked N (push_annots vs S) (PAnnots an ∷ P)
   annot : {S : Stacks} {P : List Tree} (f : ℕ) (n : List ℕ) (vs : List Item) (is : Items)
       → StandItems N vs is → Stacked N S P
@@ -54,7 +56,8 @@ pub data Stacked (N : Nodes) : Stacks → List Tree → Type 0 where
       → Stacked N (push_atom a S) (PAtom x ∷ P)
   value : {S : Stacks} {P : List Tree} (v : Given) (x : Value) → StandsValue N v x → Stacked N S P
       → Stacked N (push_value v S) (PValue x ∷ P)
-  values : {S : Stacks} {P : List Tree} (vs : List Given) (xs : Values) → StandValues N vs xs → Stacked N S P
+  values : {S : Stacks} {P : List Tree} (vs : List Given) (xs : Values) → StandValues N vs xs →
+      Stacked N S P
       → Stacked N (push_values vs S) (PValues xs ∷ P)
   entries : {S : Stacks} {P : List Tree} (vs : List Entry) (es : Entries)
       → StandEntries N vs es → Stacked N S P

@@ -36,14 +36,16 @@ module _ {V : Type 0} where
   -- the scopes, the innermost first, where each but the outermost starts at such a place among the bindings
   abbrev pub scopes_of : List Name → List ℕ → List (Binding V) → List (Scope V)
   scopes_of names [] bindings = named names (reverse bindings) ∷ []
-  scopes_of names (start ∷ starts) bindings = named names (reverse (drop start bindings)) ∷ scopes_of names starts (take start bindings)
+  scopes_of names (start ∷ starts) bindings = named names (reverse (drop start bindings)) ∷
+      scopes_of names starts (take start bindings)
 
   -- the place of the newest binding of a name, where the newest binding comes first
   abbrev pub newest : ℕ → List (Binding V) → Option ℕ
   newest n [] = None
   newest n (b ∷ older) = if n == b.name then Some (length older) else newest n older
 
-  -- bindings, the newest first, whose names have lower numbers: each hides the newest one of its name before it
+  -- bindings, the newest first, whose names have lower numbers: each hides the newest one of its name
+  -- before it
   abbrev pub IsChain : ℕ → List (Binding V) → Type 0
   IsChain limit [] = Unit {0}
   IsChain limit (b ∷ older) = (b.name < limit) × (b.hidden ≡ newest b.name older) × IsChain limit older
@@ -55,7 +57,12 @@ module _ {V : Type 0} where
 
   -- the bindings with one more
   abbrev pub bound : ℕ → V → List (Binding V) → List (Binding V)
-  bound name meaning bindings = bindings ++ record { name = name; meaning = meaning; hidden = newest name (reverse bindings) } ∷ []
+  bound name meaning bindings = bindings ++ record {
+    name = name;
+    meaning = meaning;
+    hidden =
+        newest name (reverse bindings);
+  } ∷ []
 
   -- the binding's name stands at its number
   abbrev pub IsNumbered : List Name → Binding V → Type 0
@@ -72,7 +79,8 @@ AreStarts [] end = Unit {0}
 AreStarts (start ∷ starts) end = (start ≤ end) × AreStarts starts start
 
 -- how the parts of the scopes belong together
-pub record AreKept {V : Type 0} (names : List Name) (places : List (Option ℕ)) (starts : List ℕ) (bindings : List (Binding V)) : Type 0 where
+pub record AreKept {V : Type 0} (names : List Name) (places : List (Option ℕ)) (starts : List ℕ)
+    (bindings : List (Binding V)) : Type 0 where
   pub room : length names ≤ length places
   pub in_order : AreStarts starts (length bindings)
   pub numbered : AllByRecursion (IsNumbered names) (reverse bindings)

@@ -28,7 +28,8 @@ pub(crate) fn number_of(
     requires { length names.old.keys ≤ length places.old.items }
     ensures number { IfOk result (λ n. index_of name.now names.new.keys ≡ Some n) }
     ensures names { Continues names.old.keys names.new.keys }
-    ensures places { (places.new.items ≡ places.old.items) ⊎ (places.new.items ≡ places.old.items ++ None ∷ []) }
+    ensures places { (places.new.items ≡ places.old.items) ⊎
+        (places.new.items ≡ places.old.items ++ None ∷ []) }
     ensures room { length names.new.keys ≤ length places.new.items }
 {
     if let Some(number) = names.get_index_of(name) {

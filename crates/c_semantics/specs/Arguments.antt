@@ -1,4 +1,5 @@
--- Calls whose arguments are converted to the types of the parameters as if by assignment (C11 6.5.2.2, 7), and what code
+-- Calls whose arguments are converted to the types of the parameters as if by assignment (C11 6.5.2.2, 7),
+-- and what code
 -- wants then: it carries values of their types.
 use Rattle.std.specs.Prelude.{◌≡◌, ℕ, true, List, Some}
 use Rattle.marks.specs.declared.side.Side.{Side}
@@ -62,7 +63,8 @@ abbrev mutual
   ValuePasses s (Changed o op k v) = ObjectPasses s o × ValuePasses s v
   ValuePasses s (Moved o w i size) = ObjectPasses s o × ValuePasses s i
   ValuePasses s (Stepped o w g size) = ObjectPasses s o
-  ValuePasses s (CallOf f vs t) = CalleePasses s f × ValuesPass s vs × AreConverted (params_of (called_type s f)) vs
+  ValuePasses s (CallOf f vs t) = CalleePasses s f × ValuesPass s vs ×
+      AreConverted (params_of (called_type s f)) vs
 
   pub ValuesPass : Source → Values → Type 0
   ValuesPass s NoValues = Unit {0}
@@ -86,7 +88,8 @@ abbrev mutual
   StatementPasses s (IfElse v y z) = ValuePasses s v × StatementPasses s y × StatementPasses s z
   StatementPasses s (While from v z) = ValuePasses s v × StatementPasses s z
   StatementPasses s (Do from z v) = StatementPasses s z × ValuePasses s v
-  StatementPasses s (For from first v last z) = StatementsPass s first × MaybePasses s v × MaybePasses s last × StatementPasses s z
+  StatementPasses s (For from first v last z) = StatementsPass s first × MaybePasses s v ×
+      MaybePasses s last × StatementPasses s z
   StatementPasses s Break = Unit {0}
   StatementPasses s Continue = Unit {0}
   StatementPasses s (Return from v) = MaybePasses s v
@@ -124,4 +127,5 @@ CarriesValues s (Fails kind) = Unit {0}
 
 -- what may come next carries values of their types
 abbrev pub WantsCarryValues : Source → Marks → Type 0
-WantsCarryValues s p = (ms : List Mark) (side : Side) (want : Want) → p ms ≡ Expects side want → CarriesValues s want
+WantsCarryValues s p = (ms : List Mark) (side : Side) (want : Want) → p ms ≡ Expects side want →
+    CarriesValues s want

@@ -16,13 +16,16 @@ use Rattle.c_semantics.specs.Context.{Source, body_of, frame_of, is_face, is_fun
 use Rattle.c_semantics.specs.Values.{Here}
 use Rattle.c_semantics.specs.Statements.{statement}
 
--- what a function makes from its frame on, which lies there, up to its end; its result is given to what follows
+-- what a function makes from its frame on, which lies there, up to its end; its result is given to what
+-- follows
 abbrev pub Bodies : Type 0
 Bodies = Side → (func base : ℕ) → (ℕ → Marks) → Marks
 
 -- a function's frame, and what it makes
-abbrev pub entering : Source → Bodies → Side → Side → (indirect : Bool) → (func : ℕ) → (args : List ℕ) → (ℕ → Marks) → Marks
-entering s bodies mark_side side i f args go = ask mark_side (Enters i f args (frame_of s f args)) (with_frame (λ base. bodies side f base go))
+abbrev pub entering : Source → Bodies → Side → Side → (indirect : Bool) → (func : ℕ) → (args : List ℕ) →
+    (ℕ → Marks) → Marks
+entering s bodies mark_side side i f args go =
+    ask mark_side (Enters i f args (frame_of s f args)) (with_frame (λ base. bodies side f base go))
 
 -- a function that is called back above the cut, and the return of its Up
 abbrev pub called_back : Source → Bodies → (func : ℕ) → (args : List ℕ) → (ℕ → Marks) → Marks
@@ -44,11 +47,14 @@ any_step s bodies f go again x = with_value (result_shape s f) go x
 
 abbrev pub any_below : ℕ → Source → Bodies → (func : ℕ) → (args : List ℕ) → (ℕ → Marks) → Marks
 any_below zero s bodies f args go = λ ms. Open
-any_below (suc n) s bodies f args go = ask Replay (Below f args) (any_step s bodies f go (any_below n s bodies f args go))
+any_below (suc n) s bodies f args go = ask Replay (Below f args)
+    (any_step s bodies f go (any_below n s bodies f args go))
 
 -- the function's own body on the system side, or the return of a builtin or external alone
-abbrev pub own_below : Source → Bodies → (has_body : Bool) → (func : ℕ) → (args : List ℕ) → (ℕ → Marks) → Marks
-own_below s bodies true f args go = entering s bodies System System false f args (λ v. ask Replay (Returns f args v) (λ x. go v))
+abbrev pub own_below : Source → Bodies → (has_body : Bool) → (func : ℕ) → (args : List ℕ) → (ℕ → Marks) →
+    Marks
+own_below s bodies true f args go = entering s bodies System System false f args (λ v.
+    ask Replay (Returns f args v) (λ x. go v))
 own_below s bodies false f args go = ask Replay (Gives f args) (with_value (result_shape s f) go)
 
 -- each call back has a mark, so there are no more of them than marks
@@ -76,22 +82,28 @@ abbrev pub back_or_plain : Source → Bodies → (func : ℕ) → (args : List �
 back_or_plain s bodies f args go (CalledBack g bs) = called_back s bodies f args go
 back_or_plain s bodies f args go x = with_frame (λ base. bodies System f base go) x
 
-abbrev pub entering_below : Source → Bodies → (indirect : Bool) → (func : ℕ) → (args : List ℕ) → (ℕ → Marks) → Marks
+abbrev pub entering_below : Source → Bodies → (indirect : Bool) → (func : ℕ) → (args : List ℕ) →
+    (ℕ → Marks) → Marks
 entering_below s bodies false f args go = entering s bodies System System false f args go
-entering_below s bodies true f args go = ask System (CallsBack f args (frame_of s f args)) (back_or_plain s bodies f args go)
+entering_below s bodies true f args go = ask System (CallsBack f args (frame_of s f args))
+    (back_or_plain s bodies f args go)
 
 -- a call, by the caller's side, whether the function is in the interface, and whether it has a body
-abbrev pub calling : Reading → Source → Bodies → Side → (face has_body indirect : Bool) → (func : ℕ) → (args : List ℕ) → (ℕ → Marks) → Marks
+abbrev pub calling : Reading → Source → Bodies → Side → (face has_body indirect : Bool) → (func : ℕ) →
+    (args : List ℕ) → (ℕ → Marks) → Marks
 calling r s bodies Replay true b i f args go = ask Replay (Calls i f args) (λ x. below r s bodies f args go)
 calling r s bodies Replay false true i f args go = entering s bodies Replay Replay i f args go
 calling r s bodies System face true i f args go = entering_below s bodies i f args go
 calling r s bodies side face false i f args go = stepping s side i f args go
 
-abbrev pub call : Reading → Source → Bodies → Side → (indirect : Bool) → (func : ℕ) → (args : List ℕ) → (ℕ → Marks) → Marks
+abbrev pub call : Reading → Source → Bodies → Side → (indirect : Bool) → (func : ℕ) → (args : List ℕ) →
+    (ℕ → Marks) → Marks
 call r s bodies side i f args go = calling r s bodies side (is_face s f) (is_some (body_of s f)) i f args go
 
-abbrev pub call_by_name : Reading → Source → Bodies → Side → (func : ℕ) → (args : List ℕ) → (ℕ → Marks) → Marks
-call_by_name r s bodies side f args go = cond (is_pool side f) (pooling f args go) (call r s bodies side false f args go)
+abbrev pub call_by_name : Reading → Source → Bodies → Side → (func : ℕ) → (args : List ℕ) → (ℕ → Marks) →
+    Marks
+call_by_name r s bodies side f args go = cond (is_pool side f) (pooling f args go)
+    (call r s bodies side false f args go)
 
 -- the function of the source at an address, if it is of this type
 abbrev pub callee : Source → CType → (address : ℕ) → Option ℕ
@@ -103,7 +115,8 @@ abbrev pub to_callee : Reading → Source → Bodies → Side → Option ℕ →
 to_callee r s bodies side (Some f) args go = call r s bodies side true f args go
 to_callee r s bodies side None args go = fails side BadCall
 
-abbrev pub call_by_address : Reading → Source → Bodies → Side → CType → (address : ℕ) → (args : List ℕ) → (ℕ → Marks) → Marks
+abbrev pub call_by_address : Reading → Source → Bodies → Side → CType → (address : ℕ) → (args : List ℕ) →
+    (ℕ → Marks) → Marks
 call_by_address r s bodies side t address args go = to_callee r s bodies side (callee s t address) args go
 
 -- ---- functions
@@ -149,7 +162,8 @@ started s bodies None args = fails System BadCall
 started s bodies (Some f) args = begun s bodies (is_some (body_of s f)) f args
 
 abbrev pub thread_behaviour : Source → CType → (address : ℕ) → (args : List ℕ) → Marks
-thread_behaviour s t address args = λ ms. started s (bodies (suc (length ms)) Split s) (callee s t address) args ms
+thread_behaviour s t address args = λ ms. started s (bodies (suc (length ms)) Split s) (callee s t address)
+    args ms
 
 -- ---- above the cut alone
 

@@ -63,7 +63,8 @@ members_of None = []
 
 -- how far after the beginning of a struct its member lies
 abbrev pub member_offset : Source → CType → (number : ℕ) → ℕ
-member_offset s (StructOf k) number = number_or (slice_get (offsets_from 0 (extents_in s.program (members_of (slice_get s.program.structs k)))) number)
+member_offset s (StructOf k) number = number_or
+    (slice_get (offsets_from 0 (extents_in s.program (members_of (slice_get s.program.structs k)))) number)
 member_offset s t number = 0
 
 -- ---- types of values
@@ -139,7 +140,8 @@ abbrev pub frame_with : ℕ → List ℕ → List ℕ
 frame_with size params = params ++ replicate (size - length params) 0
 
 abbrev pub frame_of_body : Source → ℕ → Option typed.Body → List ℕ → List ℕ
-frame_of_body s f (Some b) args = frame_with (frame_size s.program b.locals) (params_bytes 0 (param_shapes s f) args)
+frame_of_body s f (Some b) args = frame_with (frame_size s.program b.locals)
+    (params_bytes 0 (param_shapes s f) args)
 frame_of_body s f None args = []
 
 -- the bytes of a new frame: the parameters, and zeros

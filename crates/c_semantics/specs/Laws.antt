@@ -21,8 +21,10 @@ pub record IsOneWant (m n : Mark) : Type 0 where
 
 -- what comes next is a function of the marks so far: those that may follow the same marks answer one want
 abbrev pub NextIsOne : Marks → Type 0
-NextIsOne p = (past : List Mark) (m n : Mark) (ms ns : List Mark) → p (past ++ m ∷ ms) ≢ Wrong → p (past ++ n ∷ ns) ≢ Wrong → IsOneWant m n
+NextIsOne p = (past : List Mark) (m n : Mark) (ms ns : List Mark) → p (past ++ m ∷ ms) ≢ Wrong →
+    p (past ++ n ∷ ns) ≢ Wrong → IsOneWant m n
 
 -- nothing follows the end
 abbrev pub EndIsLast : Marks → Type 0
-EndIsLast p = (ms : List Mark) (m : Mark) (more : List Mark) (v : ℕ) → p ms ≡ Ended v → p (ms ++ m ∷ more) ≡ Wrong
+EndIsLast p = (ms : List Mark) (m : Mark) (more : List Mark) (v : ℕ) → p ms ≡ Ended v →
+    p (ms ++ m ∷ more) ≡ Wrong

@@ -10,9 +10,11 @@ use Rattle.c_semantics.specs.Laws.{IsOneWant}
 abbrev pub ReplayPartIsRight : Marks → Marks → Type 0
 ReplayPartIsRight p q = (ms : List Mark) → p ms ≢ Wrong → q (replay_part ms) ≢ Wrong
 
--- what is wanted above the cut is a function of the marks above it so far, whatever was made below: marks that may follow lists
+-- what is wanted above the cut is a function of the marks above it so far, whatever was made below: marks
+-- that may follow lists
 -- with one part above the cut answer one want
 abbrev pub WantAboveIsOne : Marks → Marks → Type 0
 WantAboveIsOne p q =
-    (ms ns : List Mark) (m n : Mark) (more less : List Mark) → replay_part ms ≡ replay_part ns → m.side ≡ Replay → n.side ≡ Replay →
+    (ms ns : List Mark) (m n : Mark) (more less : List Mark) → replay_part ms ≡ replay_part ns →
+    m.side ≡ Replay → n.side ≡ Replay →
     p (ms ++ m ∷ more) ≢ Wrong → q (ns ++ n ∷ less) ≢ Wrong → IsOneWant m n

@@ -1,4 +1,5 @@
--- Functions that give values of their results' types: each `return` converts its value to the type (C11 6.8.6.4, 3).
+-- Functions that give values of their results' types: each `return` converts its value to the type (C11
+-- 6.8.6.4, 3).
 use Rattle.std.specs.Prelude.{◌≡◌, ℕ, true, List, Some}
 use Rattle.marks.specs.declared.side.Side.TheVariants.{Replay}
 use Rattle.marks.specs.Marks.{Mark}
@@ -42,8 +43,10 @@ abbrev mutual
 
 -- the functions of the source give values of their results' types
 abbrev pub ResultsAreConverted : Source → Type 0
-ResultsAreConverted s = (f : ℕ) (b : Body) → body_of s f ≡ Some b → Converts (result_of (type_of s f)) b.statements
+ResultsAreConverted s = (f : ℕ) (b : Body) → body_of s f ≡ Some b →
+    Converts (result_of (type_of s f)) b.statements
 
 -- where a function that replay code called below the cut has given a result, that is a value of its type
 abbrev pub ReturnsGiveValues : Source → Marks → Type 0
-ReturnsGiveValues s p = (ms : List Mark) (f : ℕ) (args : List ℕ) (v : ℕ) → p ms ≡ Expects Replay (Returns f args v) → is_value (result_shape s f) v ≡ true
+ReturnsGiveValues s p = (ms : List Mark) (f : ℕ) (args : List ℕ) (v : ℕ) →
+    p ms ≡ Expects Replay (Returns f args v) → is_value (result_shape s f) v ≡ true

@@ -38,8 +38,10 @@ abbrev mutual
   statement (Initialise place t v) h x = value v h (λ n. store h None t (local_address h place) n x.next)
   statement (If v s) h x = value v h (λ n. at_zero n x.next (statement s h x))
   statement (IfElse v s z) h x = value v h (λ n. at_zero n (statement z h x) (statement s h x))
-  statement (While from v s) h x = looping h.side (λ again. value v h (λ n. at_zero n x.next (statement s h (within x again))))
-  statement (Do from s v) h x = looping h.side (λ again. statement s h (within x (value v h (λ n. at_zero n x.next again))))
+  statement (While from v s) h x = looping h.side (λ again.
+      value v h (λ n. at_zero n x.next (statement s h (within x again))))
+  statement (Do from s v) h x = looping h.side (λ again.
+      statement s h (within x (value v h (λ n. at_zero n x.next again))))
   statement (For from first v last s) h x =
       statements first h (record x {
         next = looping h.side (λ again.

@@ -1,4 +1,5 @@
--- The marks of expressions, in the order of evaluation, and their values (C11 6.5). `go` is what follows a value.
+-- The marks of expressions, in the order of evaluation, and their values (C11 6.5). `go` is what follows a
+-- value.
 use Rattle.std.specs.Prelude.{ℕ, ◌+◌, ◌-◌, ◌*◌, ◌%◌, ◌^◌, pos, negsuc, ◌-ℤ◌, Bool, true, false, cond, List, [], ◌∷◌, Option, Some, None, slice_get}
 use Rattle.r2_num.specs.declared.kinds.IntKind.TheVariants.{I64, U64}
 use Rattle.r2_num.specs.declared.operations.Op.TheVariants.{Div}
@@ -15,7 +16,8 @@ use Rattle.c_types_rules.specs.TypedTree.{Object, Value, Values, Callee, Sum, Po
 use Rattle.c_semantics.specs.Reading.{Marks, ask, or_fault, with_any}
 use Rattle.c_semantics.specs.Context.{Source, global_address, text_address, size_of, member_offset, kind_of}
 
--- where code runs: its side, its frame, how far its locals lie after the beginning of the frame, and what its calls
+-- where code runs: its side, its frame, how far its locals lie after the beginning of the frame, and what
+-- its calls
 -- make: of a function by name, and of a function of this type at an address
 pub record Here : Type 0 where
   pub source : Source
@@ -115,7 +117,8 @@ target (PointerTo t) = t
 target t = Void
 
 -- a loaded value is changed and stored
-abbrev pub changing : Here → Object → ((ℕ → Marks) → Marks) → (ℕ → (ℕ → Marks) → Marks) → (ℕ → Marks) → Marks
+abbrev pub changing : Here → Object → ((ℕ → Marks) → Marks) → (ℕ → (ℕ → Marks) → Marks) → (ℕ → Marks) →
+    Marks
 changing h o address change go =
     let t = object_type o in
     address (λ a. fetch h (origin o) t (λ old. change old (λ new. store h (origin o) t a new (go new))) a)
@@ -131,8 +134,10 @@ abbrev mutual
   address (LocalObject place t) h go = go (local_address h place)
   address (TextObject from n) h go = go (text_address h.source from)
   address (Pointed v t) h go = value v h go
-  address (Element s p i t) h go = in_order s (value p h) (value i h) (λ x y. go (summed s x y (size_of h.source t)))
-  address (MemberOf o number t) h go = address o h (λ a. go (wrap (a + member_offset h.source (object_type o) number)))
+  address (Element s p i t) h go = in_order s (value p h) (value i h) (λ x y.
+      go (summed s x y (size_of h.source t)))
+  address (MemberOf o number t) h go = address o h (λ a.
+      go (wrap (a + member_offset h.source (object_type o) number)))
 
   pub value : Value → Here → (ℕ → Marks) → Marks
   value (Constant k n) h go = go (written n)
@@ -142,22 +147,32 @@ abbrev mutual
   value (Convert t v) h go = value v h (λ x. go (converted_to t x))
   value (Negate k v) h go = value v h (λ x. go (written (wrapped k (pos 0 -ℤ read k x))))
   value (Complement k v) h go = value v h (λ x. go (written (wrapped k (negsuc 0 -ℤ read k x))))
-  value (Arithmetic op k a b) h go = value a h (λ x. value b h (λ y. or_fault h.side (arith_of op k x y) go))
+  value (Arithmetic op k a b) h go = value a h (λ x.
+      value b h (λ y. or_fault h.side (arith_of op k x y) go))
   value (PointerSum s p i size) h go = in_order s (value p h) (value i h) (λ x y. go (summed s x y size))
-  value (PointerDifference a b size) h go = value a h (λ x. value b h (λ y. or_fault h.side (arith_of Div I64 (written (pos x -ℤ pos y)) size) go))
-  value (PointerComparison op a b) h go = value a h (λ x. value b h (λ y. or_fault h.side (arith_of op U64 x y) go))
+  value (PointerDifference a b size) h go = value a h (λ x.
+      value b h (λ y. or_fault h.side (arith_of Div I64 (written (pos x -ℤ pos y)) size) go))
+  value (PointerComparison op a b) h go = value a h (λ x.
+      value b h (λ y. or_fault h.side (arith_of op U64 x y) go))
   value (Not v) h go = value v h (λ x. go (at_zero x 1 0))
   value (Both a b) h go = value a h (λ x. at_zero x (go 0) (value b h (λ y. go (truth y))))
   value (Either a b) h go = value a h (λ x. at_zero x (value b h (λ y. go (truth y))) (go 1))
   value (Choice c a b) h go = value c h (λ x. at_zero x (value b h go) (value a h go))
   value (Sequence a b) h go = value a h (λ x. value b h go)
-  value (Assigned o v) h go = address o h (λ a. value v h (λ x. store h (origin o) (object_type o) a x (go x)))
+  value (Assigned o v) h go = address o h (λ a.
+      value v h (λ x. store h (origin o) (object_type o) a x (go x)))
   value (Changed o op k v) h go =
-      changing h o (address o h) (λ old next. value v h (λ y. or_fault h.side (arith_of op k (converted k old) y) (λ r. next (converted (kind_of (object_type o)) r)))) go
-  value (Moved o w i size) h go = changing h o (address o h) (λ old next. value i h (λ y. next (moved_by w old y size))) go
+      changing h o (address o h) (λ old next.
+      value v h (λ y. or_fault h.side (arith_of op k (converted k old) y) (λ r.
+      next (converted (kind_of (object_type o)) r)))) go
+  value (Moved o w i size) h go = changing h o (address o h) (λ old next.
+      value i h (λ y. next (moved_by w old y size))) go
   value (Stepped o w g size) h go =
       let t = object_type o in
-      address o h (λ a. fetch h (origin o) t (λ old. let new = converted (kind_of t) (stepped_by w old size) in store h (origin o) t a new (go (given g old new))) a)
+      address o h (λ a. fetch h (origin o) t (λ old. let new =
+      converted (kind_of t) (stepped_by w old size) in
+      store h (origin o) t a new
+      (go (given g old new))) a)
   value (CallOf f vs t) h go = called f h (λ call. values vs h (λ xs. call xs go))
 
   pub values : Values → Here → (List ℕ → Marks) → Marks

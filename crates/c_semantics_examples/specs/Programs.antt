@@ -58,27 +58,42 @@ int_named n = declaring int_base NoParts n NoRest
 
 -- int a = 2; int b = 3; int main(void) { return a + b; }
 abbrev pub sum : Source
-sum = laid (declaring int_base NoParts (codes "a") (Initial (Plain (num 2))) ∷ declaring int_base NoParts (codes "b") (Initial (Plain (num 3))) ∷ main_giving (two signs.Plus (name (codes "a")) (name (codes "b"))) ∷ []) (0x10000000 ∷ 0x10000004 ∷ []) []
+sum = laid (declaring int_base NoParts (codes "a") (Initial (Plain (num 2))) ∷
+    declaring int_base NoParts (codes "b") (Initial (Plain (num 3))) ∷
+    main_giving (two signs.Plus (name (codes "a")) (name (codes "b"))) ∷ []) (0x10000000 ∷ 0x10000004 ∷ [])
+    []
 
 -- int g; int main(void) { g += g++; return g; }
 abbrev pub compound : Source
-compound = laid (int_named (codes "g") ∷ main_of (evaluate (Assign 30 signs.PlusAssign (name (codes "g")) (Postfix 30 signs.Increment (name (codes "g")))) ∷ give (name (codes "g")) ∷ []) ∷ []) (0x10000000 ∷ []) []
+compound = laid (int_named (codes "g") ∷ main_of
+    (evaluate (Assign 30 signs.PlusAssign (name (codes "g"))
+    (Postfix 30 signs.Increment (name (codes "g")))) ∷ give (name (codes "g")) ∷ []) ∷ []) (0x10000000 ∷
+    []) []
 
 -- int g[2]; int main(void) { 0[g] = 1; return 0; }
 abbrev pub turned : Source
-turned = laid (declaring int_base (Array 5 (num 2) NoParts) (codes "g") NoRest ∷ main_of (evaluate (Assign 30 signs.Assign (Index 30 (num 0) (name (codes "g"))) (num 1)) ∷ give (num 0) ∷ []) ∷ []) (0x10000000 ∷ []) []
+turned = laid (declaring int_base (Array 5 (num 2) NoParts) (codes "g") NoRest ∷
+    main_of (evaluate (Assign 30 signs.Assign (Index 30 (num 0) (name (codes "g"))) (num 1)) ∷
+    give (num 0) ∷ []) ∷ []) (0x10000000 ∷ []) []
 
 -- int i; int main(void) { for (i = 0; i < 1; i++) continue; return 7; }
 abbrev pub loop : Source
-loop = laid (int_named (codes "i") ∷ main_of (For 20 (ExprFirst (assign (codes "i") (num 0))) (OneExpr (two signs.Less (name (codes "i")) (num 1))) (OneExpr (Postfix 30 signs.Increment (name (codes "i")))) (Continue 50) ∷ give (num 7) ∷ []) ∷ []) (0x10000000 ∷ []) []
+loop = laid (int_named (codes "i") ∷ main_of (For 20 (ExprFirst (assign (codes "i") (num 0)))
+    (OneExpr (two signs.Less (name (codes "i")) (num 1)))
+    (OneExpr (Postfix 30 signs.Increment (name (codes "i")))) (Continue 50) ∷ give (num 7) ∷ []) ∷ [])
+    (0x10000000 ∷ []) []
 
 -- int now(void); int main(void) { return now(); }, with `now` in the interface
 abbrev pub asking : Source
-asking = laid (declaring int_base (Params 8 NoDecls NoParts) (codes "now") NoRest ∷ main_giving (Call 30 (name (codes "now")) NoExprs) ∷ []) [] (replicate 16 false ++ true ∷ false ∷ [])
+asking = laid (declaring int_base (Params 8 NoDecls NoParts) (codes "now") NoRest ∷
+    main_giving (Call 30 (name (codes "now")) NoExprs) ∷ []) [] (replicate 16 false ++ true ∷ false ∷ [])
 
 -- int more(int n) { return n + 1; } int main(void) { return more(4); }, with `more` in the interface
 abbrev pub crossing : Source
-crossing = laid (declaring int_base (Params 8 (MoreDecls (int_named (codes "n")) NoDecls) NoParts) (codes "more") (Body (Block 20 (entries (give (two signs.Plus (name (codes "n")) (num 1)) ∷ [])))) ∷ main_giving (Call 30 (name (codes "more")) (MoreExprs (num 4) NoExprs)) ∷ []) [] (replicate 16 false ++ true ∷ false ∷ [])
+crossing = laid (declaring int_base (Params 8 (MoreDecls (int_named (codes "n")) NoDecls) NoParts)
+    (codes "more") (Body (Block 20 (entries (give (two signs.Plus (name (codes "n")) (num 1)) ∷ [])))) ∷
+    main_giving (Call 30 (name (codes "more")) (MoreExprs (num 4) NoExprs)) ∷ []) [] (replicate 16 false ++
+    true ∷ false ∷ [])
 
 -- ---- marks
 
@@ -123,5 +138,6 @@ frame_below = 0x60000000
 abbrev pub crossed : (args : List ℕ) → (result : ℕ) → List Mark
 crossed args v =
     enter 17 ∷ event (marks.Call 16 (4 ∷ []) [] [] [])
-    ∷ below (Enter 16 (4 ∷ []) frame_below (bytes_of_number 16 4)) ∷ below (Load None frame_below (bytes_of_number 4 4)) ∷ below (Leave frame_below 16)
+    ∷ below (Enter 16 (4 ∷ []) frame_below (bytes_of_number 16 4)) ∷
+    below (Load None frame_below (bytes_of_number 4 4)) ∷ below (Leave frame_below 16)
     ∷ event (marks.Ret 16 args v false [] NoRegion) ∷ leave ∷ []

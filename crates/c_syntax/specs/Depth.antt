@@ -1,4 +1,5 @@
--- How deep nodes lie. A node is a statement, an expression, a value in braces, or a declarator: each part of one, and its name or the place where it lacks one.
+-- How deep nodes lie. A node is a statement, an expression, a value in braces, or a declarator: each part
+-- of one, and its name or the place where it lacks one.
 use Rattle.std.specs.Prelude.{◌≡◌, ◌⊎◌, ℕ, zero, suc, max}
 use Rattle.c_syntax.specs.Syntax.{Expr, Exprs, MaybeExpr, Decl, Decls, Annots, Annot, Items, Item, Atom, Parts, Value, Values, Rest, Stmt, Entries, Entry, First, Name, Number, Char, Text, Binary, Assign, Cond, Prefix, Postfix, SizeofExpr, SizeofType, Cast, Index, Call, Member, Arrow, NoExprs, MoreExprs, NoExpr, OneExpr, Declare, NoDecls, MoreDecls, NoAnnots, MoreAnnots, Annotate, NoItems, MoreItems, OneFactor, TwoFactors, NameAtom, NumberAtom, ReturnAtom, SizeofAtom, NoParts, Pointer, Array, Params, Plain, Braces, NoValues, MoreValues, NoRest, Initial, Body, Members, Block, Expression, If, IfElse, While, Do, For, Break, Continue, Return, NoEntries, MoreEntries, LocalEntry, StmtEntry, NoFirst, LocalFirst, ExprFirst}
 
@@ -68,7 +69,8 @@ abbrev mutual
   LiesAtom ReturnAtom k o = ⊥
   LiesAtom (SizeofAtom d) k o = LiesDecl d k o
 
-  -- each part holds the parts nearer to the name, and all hold the name, or the place where it is lacking, at the offset f
+  -- each part holds the parts nearer to the name, and all hold the name, or the place where it is lacking,
+  -- at the offset f
   pub LieParts : Parts → ℕ → ℕ → ℕ → Type 0
   LieParts NoParts f k o = Leaf f k o
   LieParts (Pointer g ps) f k o = At g (λ j. LieParts ps f j o) k o
@@ -96,7 +98,8 @@ abbrev mutual
   LiesStmt (IfElse f x s z) k o = At f (λ j. (Lies x j o ⊎ LiesStmt s j o) ⊎ LiesStmt z j o) k o
   LiesStmt (While f x s) k o = At f (λ j. Lies x j o ⊎ LiesStmt s j o) k o
   LiesStmt (Do f s x) k o = At f (λ j. LiesStmt s j o ⊎ Lies x j o) k o
-  LiesStmt (For f a x y s) k o = At f (λ j. ((LiesFirst a j o ⊎ LiesMaybe x j o) ⊎ LiesMaybe y j o) ⊎ LiesStmt s j o) k o
+  LiesStmt (For f a x y s) k o = At f (λ j. ((LiesFirst a j o ⊎ LiesMaybe x j o) ⊎ LiesMaybe y j o) ⊎
+      LiesStmt s j o) k o
   LiesStmt (Break f) k o = Leaf f k o
   LiesStmt (Continue f) k o = Leaf f k o
   LiesStmt (Return f x) k o = At f (λ j. LiesMaybe x j o) k o
@@ -198,7 +201,8 @@ abbrev mutual
   tall_stmt (IfElse f x s z) = suc (max (max (tall x) (tall_stmt s)) (tall_stmt z))
   tall_stmt (While f x s) = suc (max (tall x) (tall_stmt s))
   tall_stmt (Do f s x) = suc (max (tall_stmt s) (tall x))
-  tall_stmt (For f a x y s) = suc (max (max (max (tall_first a) (tall_maybe x)) (tall_maybe y)) (tall_stmt s))
+  tall_stmt (For f a x y s) = suc (max (max (max (tall_first a) (tall_maybe x)) (tall_maybe y))
+      (tall_stmt s))
   tall_stmt (Break f) = 1
   tall_stmt (Continue f) = 1
   tall_stmt (Return f x) = suc (tall_maybe x)

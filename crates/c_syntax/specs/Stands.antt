@@ -44,22 +44,28 @@ abbrev mutual
   Stands N i (Number f v s d) = IsExprAt N i f (exprs.Number v s d)
   Stands N i (Char f v) = IsExprAt N i f (exprs.Char v)
   Stands N i (Text f n) = IsExprAt N i f (exprs.Text n)
-  Stands N i (Binary f s x y) = (a b : ExprId) × IsExprAt N i f (exprs.Binary s a b) × Stands N a x × Stands N b y
-  Stands N i (Assign f s x y) = (a b : ExprId) × IsExprAt N i f (exprs.Assign s a b) × Stands N a x × Stands N b y
-  Stands N i (Cond f x y z) = (a b c : ExprId) × IsExprAt N i f (exprs.Cond a b c) × Stands N a x × Stands N b y × Stands N c z
+  Stands N i (Binary f s x y) = (a b : ExprId) × IsExprAt N i f (exprs.Binary s a b) × Stands N a x ×
+      Stands N b y
+  Stands N i (Assign f s x y) = (a b : ExprId) × IsExprAt N i f (exprs.Assign s a b) × Stands N a x ×
+      Stands N b y
+  Stands N i (Cond f x y z) = (a b c : ExprId) × IsExprAt N i f (exprs.Cond a b c) × Stands N a x ×
+      Stands N b y × Stands N c z
   Stands N i (Prefix f s x) = (a : ExprId) × IsExprAt N i f (exprs.Prefix s a) × Stands N a x
   Stands N i (Postfix f s x) = (a : ExprId) × IsExprAt N i f (exprs.Postfix s a) × Stands N a x
   Stands N i (SizeofExpr f x) = (a : ExprId) × IsExprAt N i f (exprs.SizeofExpr a) × Stands N a x
   Stands N i (SizeofType f d) = (a : DeclId) × IsExprAt N i f (exprs.SizeofType a) × StandsDecl N a d
-  Stands N i (Cast f d x) = (a : DeclId) × (b : ExprId) × IsExprAt N i f (exprs.Cast a b) × StandsDecl N a d × Stands N b x
+  Stands N i (Cast f d x) = (a : DeclId) × (b : ExprId) × IsExprAt N i f (exprs.Cast a b) ×
+      StandsDecl N a d × Stands N b x
   Stands N i (Index f x y) = (a b : ExprId) × IsExprAt N i f (exprs.Index a b) × Stands N a x × Stands N b y
-  Stands N i (Call f x xs) = (a : ExprId) × (is : List ExprId) × IsExprAt N i f (exprs.Call a is) × Stands N a x × StandExprs N is xs
+  Stands N i (Call f x xs) = (a : ExprId) × (is : List ExprId) × IsExprAt N i f (exprs.Call a is) ×
+      Stands N a x × StandExprs N is xs
   Stands N i (Member f x n) = (a : ExprId) × IsExprAt N i f (exprs.Member a n) × Stands N a x
   Stands N i (Arrow f x n) = (a : ExprId) × IsExprAt N i f (exprs.Arrow a n) × Stands N a x
 
   pub StandExprs : Nodes → List ExprId → Exprs → Type 0
   StandExprs N is NoExprs = is ≡ []
-  StandExprs N is (MoreExprs x xs) = (i : ExprId) × (js : List ExprId) × (is ≡ i ∷ js) × Stands N i x × StandExprs N js xs
+  StandExprs N is (MoreExprs x xs) = (i : ExprId) × (js : List ExprId) × (is ≡ i ∷ js) × Stands N i x ×
+      StandExprs N js xs
 
   pub StandsMaybe : Nodes → Option ExprId → MaybeExpr → Type 0
   StandsMaybe N i NoExpr = i ≡ None
@@ -67,26 +73,31 @@ abbrev mutual
 
   pub StandsDecl : Nodes → DeclId → Decl → Type 0
   StandsDecl N i (Declare f an b ps n r) =
-      (d : DeclNode) × (decl_at N i ≡ Some d) × (d.from ≡ f) × StandAnnots N d.annots an × (d.base ≡ b) × StandParts N d.parts ps × (d.name ≡ n) × StandsRest N d.rest r
+      (d : DeclNode) × (decl_at N i ≡ Some d) × (d.from ≡ f) × StandAnnots N d.annots an × (d.base ≡ b) ×
+      StandParts N d.parts ps × (d.name ≡ n) × StandsRest N d.rest r
 
   pub StandDecls : Nodes → List DeclId → Decls → Type 0
   StandDecls N is NoDecls = is ≡ []
-  StandDecls N is (MoreDecls d ds) = (i : DeclId) × (js : List DeclId) × (is ≡ i ∷ js) × StandsDecl N i d × StandDecls N js ds
+  StandDecls N is (MoreDecls d ds) = (i : DeclId) × (js : List DeclId) × (is ≡ i ∷ js) × StandsDecl N i d ×
+      StandDecls N js ds
 
   pub StandAnnots : Nodes → List Annot → Annots → Type 0
   StandAnnots N vs NoAnnots = vs ≡ []
-  StandAnnots N vs (MoreAnnots x xs) = (v : Annot) × (ws : List Annot) × (vs ≡ v ∷ ws) × StandsAnnot N v x × StandAnnots N ws xs
+  StandAnnots N vs (MoreAnnots x xs) = (v : Annot) × (ws : List Annot) × (vs ≡ v ∷ ws) ×
+      StandsAnnot N v x × StandAnnots N ws xs
 
   pub StandsAnnot : Nodes → Annot → Annotated → Type 0
   StandsAnnot N v (Annotate f n is) = (v.from ≡ f) × (v.name ≡ n) × StandItems N v.items is
 
   pub StandItems : Nodes → List Item → Items → Type 0
   StandItems N vs NoItems = vs ≡ []
-  StandItems N vs (MoreItems x xs) = (v : Item) × (ws : List Item) × (vs ≡ v ∷ ws) × StandsItem N v x × StandItems N ws xs
+  StandItems N vs (MoreItems x xs) = (v : Item) × (ws : List Item) × (vs ≡ v ∷ ws) × StandsItem N v x ×
+      StandItems N ws xs
 
   pub StandsItem : Nodes → Item → Factors → Type 0
   StandsItem N v (OneFactor f x) = (v.from ≡ f) × StandsAtom N v.a x × (v.b ≡ None)
-  StandsItem N v (TwoFactors f x y) = (b : Factor) × (v.from ≡ f) × StandsAtom N v.a x × (v.b ≡ Some b) × StandsAtom N b y
+  StandsItem N v (TwoFactors f x y) = (b : Factor) × (v.from ≡ f) × StandsAtom N v.a x × (v.b ≡ Some b) ×
+      StandsAtom N b y
 
   pub StandsAtom : Nodes → Factor → Atom → Type 0
   StandsAtom N a (NameAtom n) = a ≡ atoms.Name n
@@ -96,17 +107,22 @@ abbrev mutual
 
   pub StandParts : Nodes → List Part → Parts → Type 0
   StandParts N vs NoParts = vs ≡ []
-  StandParts N vs (Pointer f ps) = (v : Part) × (ws : List Part) × (vs ≡ v ∷ ws) × (v.from ≡ f) × (v.kind ≡ parts.Pointer) × StandParts N ws ps
-  StandParts N vs (Array f x ps) = (v : Part) × (a : ExprId) × (ws : List Part) × (vs ≡ v ∷ ws) × (v.from ≡ f) × (v.kind ≡ parts.Array a) × Stands N a x × StandParts N ws ps
-  StandParts N vs (Params f ds ps) = (v : Part) × (is : List DeclId) × (ws : List Part) × (vs ≡ v ∷ ws) × (v.from ≡ f) × (v.kind ≡ parts.Params is) × StandDecls N is ds × StandParts N ws ps
+  StandParts N vs (Pointer f ps) = (v : Part) × (ws : List Part) × (vs ≡ v ∷ ws) × (v.from ≡ f) ×
+      (v.kind ≡ parts.Pointer) × StandParts N ws ps
+  StandParts N vs (Array f x ps) = (v : Part) × (a : ExprId) × (ws : List Part) × (vs ≡ v ∷ ws) ×
+      (v.from ≡ f) × (v.kind ≡ parts.Array a) × Stands N a x × StandParts N ws ps
+  StandParts N vs (Params f ds ps) = (v : Part) × (is : List DeclId) × (ws : List Part) × (vs ≡ v ∷ ws) ×
+      (v.from ≡ f) × (v.kind ≡ parts.Params is) × StandDecls N is ds × StandParts N ws ps
 
   pub StandsValue : Nodes → Given → Value → Type 0
   StandsValue N v (Plain x) = (a : ExprId) × (out-Value v ≡ Value-F.Plain a) × Stands N a x
-  StandsValue N v (Braces f xs) = (w : Vec Given Global) × (out-Value v ≡ Value-F.Braces f w) × StandValues N w.items xs
+  StandsValue N v (Braces f xs) = (w : Vec Given Global) × (out-Value v ≡ Value-F.Braces f w) ×
+      StandValues N w.items xs
 
   pub StandValues : Nodes → List Given → Values → Type 0
   StandValues N vs NoValues = vs ≡ []
-  StandValues N vs (MoreValues x xs) = (v : Given) × (ws : List Given) × (vs ≡ v ∷ ws) × StandsValue N v x × StandValues N ws xs
+  StandValues N vs (MoreValues x xs) = (v : Given) × (ws : List Given) × (vs ≡ v ∷ ws) ×
+      StandsValue N v x × StandValues N ws xs
 
   pub StandsRest : Nodes → After → Rest → Type 0
   StandsRest N q NoRest = q ≡ rests.None
@@ -117,19 +133,25 @@ abbrev mutual
   pub StandsStmt : Nodes → StmtId → Stmt → Type 0
   StandsStmt N i (Block f es) = (vs : List Entry) × IsStmtAt N i f (stmts.Block vs) × StandEntries N vs es
   StandsStmt N i (Expression f x) = (a : Option ExprId) × IsStmtAt N i f (stmts.Expr a) × StandsMaybe N a x
-  StandsStmt N i (If f x s) = (a : ExprId) × (b : StmtId) × IsStmtAt N i f (stmts.If a b None) × Stands N a x × StandsStmt N b s
-  StandsStmt N i (IfElse f x s z) = (a : ExprId) × (b c : StmtId) × IsStmtAt N i f (stmts.If a b (Some c)) × Stands N a x × StandsStmt N b s × StandsStmt N c z
-  StandsStmt N i (While f x s) = (a : ExprId) × (b : StmtId) × IsStmtAt N i f (stmts.While a b) × Stands N a x × StandsStmt N b s
-  StandsStmt N i (Do f s x) = (a : StmtId) × (b : ExprId) × IsStmtAt N i f (stmts.Do a b) × StandsStmt N a s × Stands N b x
+  StandsStmt N i (If f x s) = (a : ExprId) × (b : StmtId) × IsStmtAt N i f (stmts.If a b None) ×
+      Stands N a x × StandsStmt N b s
+  StandsStmt N i (IfElse f x s z) = (a : ExprId) × (b c : StmtId) ×
+      IsStmtAt N i f (stmts.If a b (Some c)) × Stands N a x × StandsStmt N b s × StandsStmt N c z
+  StandsStmt N i (While f x s) = (a : ExprId) × (b : StmtId) × IsStmtAt N i f (stmts.While a b) ×
+      Stands N a x × StandsStmt N b s
+  StandsStmt N i (Do f s x) = (a : StmtId) × (b : ExprId) × IsStmtAt N i f (stmts.Do a b) ×
+      StandsStmt N a s × Stands N b x
   StandsStmt N i (For f x y z s) =
-      (a : Begin) × (b c : Option ExprId) × (d : StmtId) × IsStmtAt N i f (stmts.For a b c d) × StandsFirst N a x × StandsMaybe N b y × StandsMaybe N c z × StandsStmt N d s
+      (a : Begin) × (b c : Option ExprId) × (d : StmtId) × IsStmtAt N i f (stmts.For a b c d) ×
+      StandsFirst N a x × StandsMaybe N b y × StandsMaybe N c z × StandsStmt N d s
   StandsStmt N i (Break f) = IsStmtAt N i f stmts.Break
   StandsStmt N i (Continue f) = IsStmtAt N i f stmts.Continue
   StandsStmt N i (Return f x) = (a : Option ExprId) × IsStmtAt N i f (stmts.Return a) × StandsMaybe N a x
 
   pub StandEntries : Nodes → List Entry → Entries → Type 0
   StandEntries N vs NoEntries = vs ≡ []
-  StandEntries N vs (MoreEntries x xs) = (v : Entry) × (ws : List Entry) × (vs ≡ v ∷ ws) × StandsEntry N v x × StandEntries N ws xs
+  StandEntries N vs (MoreEntries x xs) = (v : Entry) × (ws : List Entry) × (vs ≡ v ∷ ws) ×
+      StandsEntry N v x × StandEntries N ws xs
 
   pub StandsEntry : Nodes → Entry → Stood → Type 0
   StandsEntry N v (LocalEntry ds) = (is : List DeclId) × (v ≡ entries.Local is) × StandDecls N is ds

@@ -25,7 +25,12 @@ impl Model for Tree {
 
     ghost Value = { Nodes };
 
-    ghost view = { λ t. record { decls = t.decls.items; stmts = t.stmts.items; exprs = t.exprs.items; tops = t.tops.items } };
+    ghost view = { λ t. record {
+      decls = t.decls.items;
+      stmts = t.stmts.items;
+      exprs = t.exprs.items;
+      tops = t.tops.items;
+    } };
 
     ghost coded = { Prim.hlevel (codes, value.the_row.coded) };
 }

@@ -23,5 +23,6 @@ pub fn heights_fall()
 
 /// A law: a type can represent each number that stands in a source.
 pub fn numbers_fit()
-    ensures { (source : List ℕ) (ts : List Token) (ds : Decls) → IsTokens source ts → Spells ts ds → FitsDecls ds }
+    ensures { (source : List ℕ) (ts : List Token) (ds : Decls) → IsTokens source ts → Spells ts ds →
+        FitsDecls ds }
 {}

@@ -28,16 +28,19 @@ which_in numbers.Object = limits.Object
 which_in numbers.Globals = limits.Globals
 which_in numbers.Frame = limits.Frame
 
--- the typed source with these strings, where these are the tags of the structs that it defines, the broken rule with the offset of its
+-- the typed source with these strings, where these are the tags of the structs that it defines, the broken
+-- rule with the offset of its
 -- node, or the limit that is exceeded; of memory nothing is said
-abbrev pub IsCheckedSource : List TextLiteral → (tags : List (List ℕ)) → Outcome → Result TypedSource CheckError → Type 0
+abbrev pub IsCheckedSource : List TextLiteral → (tags : List (List ℕ)) → Outcome →
+    Result TypedSource CheckError → Type 0
 IsCheckedSource texts tags o (Err errors.Memory) = Unit {0}
 IsCheckedSource texts tags (limits.Typed p) (Ok s) = IsTypedAs tags p s × (s.texts ≡ texts)
 IsCheckedSource texts tags (limits.Rule from rule) (Err (errors.Rule f r)) = (f ≡ from) × (r ≡ rule)
 IsCheckedSource texts tags (limits.Limit w) (Err (errors.Limit v)) = which_in v ≡ w
 IsCheckedSource texts tags _ _ = ⊥
 
--- the typed program with these strings, the broken rule with the offset of its node, or the limit that is exceeded; of memory nothing
+-- the typed program with these strings, the broken rule with the offset of its node, or the limit that is
+-- exceeded; of memory nothing
 -- is said
 abbrev pub IsChecked : List TextLiteral → Outcome → Result Declared CheckError → Type 0
 IsChecked texts o (Err errors.Memory) = Unit {0}

@@ -29,8 +29,10 @@ typed tags p t (Declare from an b ps n r) = function_or_global tags p from (decl
 abbrev pub function_of : (tags : List (List ℕ)) → Program → CType → Decl → Checked Program
 function_of tags p t (Declare from an b ps n r) = function tags p from (declared_name n) t ps r
 
-abbrev pub defined_of : (tags : List (List ℕ)) → Program → (place : ℕ) → CType → Decl → Stmt → Checked Program
-defined_of tags p place t (Declare from an b ps n r) s = function_defined tags p from place (declared_name n) t ps s
+abbrev pub defined_of : (tags : List (List ℕ)) → Program → (place : ℕ) → CType → Decl → Stmt →
+    Checked Program
+defined_of tags p place t (Declare from an b ps n r) s =
+    function_defined tags p from place (declared_name n) t ps s
 
 abbrev pub global_of : (tags : List (List ℕ)) → Program → CType → Decl → Checked Program
 global_of tags p t (Declare from an b ps n r) = global tags p from (declared_name n) t r
@@ -40,7 +42,8 @@ abbrev pub name_in : Decl → List ℕ
 name_in (Declare from an b ps n r) = declared_name n
 
 -- a member, whose name is that of none before it
-abbrev pub named_member : (from : ℕ) → List (List ℕ × CType) → (name : List ℕ) → CType → Checked (List ℕ × CType)
+abbrev pub named_member : (from : ℕ) → List (List ℕ × CType) → (name : List ℕ) → CType →
+    Checked (List ℕ × CType)
 named_member from before name t = do
   keep from 19 (not (is_reserved name))
   keep from 1 (not (is_some (meaning_in name before)))

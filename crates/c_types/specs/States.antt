@@ -26,7 +26,8 @@ program_of d = record {
 abbrev pub IsAligned : Struct → Type 0
 IsAligned s = 0 < s.extent.align
 
--- all numbers are those of the table, one scope is open, and it is noted where a struct has too many members or an object is too large
+-- all numbers are those of the table, one scope is open, and it is noted where a struct has too many
+-- members or an object is too large
 pub record IsSound (d : Declarations) : Type 0 where
   pub functions : All (IsFunction d.env.table) d.functions.items
   pub globals : All (IsGlobal d.env.table) d.globals.items
@@ -49,8 +50,10 @@ pub record GoesOn (old new : Declarations) : Type 0 where
   pub numbers : Keeps old.env.table new.env.table
   pub sound : IsSound new
 
--- what the rules find is there, or the rule that is broken is named; after an error what is declared isn't used any more
-pub record Steps {A B : Type 0} (old new : Declarations) (is : A → B → Type 0) (c : Checked A) (r : Result B TypeError) : Type 0 where
+-- what the rules find is there, or the rule that is broken is named; after an error what is declared isn't
+-- used any more
+pub record Steps {A B : Type 0} (old new : Declarations) (is : A → B →
+    Type 0) (c : Checked A) (r : Result B TypeError) : Type 0 where
   pub agrees : Finds old.env new.env is c r
   pub kept : OnOk r (GoesOn old new)
 
@@ -65,4 +68,5 @@ IsFunctionPlace new a place = (program_of new ≡ a.1) × (place ≡ a.0 - first
 -- the program that the rules find is declared in the end, or the rule that is broken is named
 abbrev pub Ends : (old : Declarations) → Checked Program → Result Declarations TypeError → Type 0
 Ends old c (Ok new) = Steps {B = Unit {0}} old new (λ p _. program_of new ≡ p) c (Ok tt)
-Ends old c (Err e) = Found {A = Program} {B = Unit {0}} old.env.found_large old.env.found_large (λ _ _. Unit {0}) c (Err e)
+Ends old c (Err e) = Found {A = Program} {B = Unit {0}} old.env.found_large old.env.found_large (λ _ _.
+    Unit {0}) c (Err e)

@@ -47,7 +47,9 @@ impl Declarations {
     pub(crate) fn declaration(&mut self, tree: &Tree, id: DeclId) -> Result<(), TypeError>
         requires id { IsDecl tree.now id }
         requires sound { IsSound self.old }
-        ensures { (d : Decl) → StandsDecl tree.now id d → Follows self.old self.new (declaration_by_rules self.old.env.env.tags (program_of self.old) d) result }
+        ensures { (d : Decl) → StandsDecl tree.now id d →
+            Follows self.old self.new (declaration_by_rules self.old.env.env.tags (program_of self.old) d)
+            result }
     {
         let decl = tree.decl(id);
         match (&decl.base, &decl.rest) {
@@ -66,7 +68,8 @@ impl Declarations {
     fn named(&mut self, tree: &Tree, id: DeclId) -> Result<(), TypeError>
         requires id { IsDecl tree.now id }
         requires sound { IsSound self.old }
-        ensures { (d : Decl) → StandsDecl tree.now id d → Follows self.old self.new (named_by_rules self.old.env.env.tags (program_of self.old) d) result }
+        ensures { (d : Decl) → StandsDecl tree.now id d →
+            Follows self.old self.new (named_by_rules self.old.env.env.tags (program_of self.old) d) result }
     {
         let decl = tree.decl(id);
         annotation_types(&mut self.env, tree, decl.annots.as_slice())?;
@@ -79,7 +82,9 @@ impl Declarations {
         requires id { IsDecl tree.now id }
         requires ty { ty.0 < length self.old.env.table.types }
         requires sound { IsSound self.old }
-        ensures { (d : Decl) → StandsDecl tree.now id d → Follows self.old self.new (typed_by_rules self.old.env.env.tags (program_of self.old) (type_at self.old.env.table.types ty) d) result }
+        ensures { (d : Decl) → StandsDecl tree.now id d →
+            Follows self.old self.new (typed_by_rules self.old.env.env.tags (program_of self.old)
+            (type_at self.old.env.table.types ty) d) result }
     {
         match self.env.table().types().get(ty) {
             Ty::Function { .. } => self.function(tree, id, ty),

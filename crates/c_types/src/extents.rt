@@ -16,7 +16,8 @@ use c_types_table::TypeId;
 // The size and alignment of a complete object type; of any other those of a byte. A size past 2^64 - 1 counts as 2^64 - 1.
 fn extent_or(env: &Environment, ty: TypeId) -> Extent
     requires { ty.0 < length env.now.table.types }
-    ensures { result ≡ capped_extent (extent_by_rules (extent_of (extents env.now.env) (type_at env.now.table.types ty))) }
+    ensures { result ≡ capped_extent (extent_by_rules
+        (extent_of (extents env.now.env) (type_at env.now.table.types ty))) }
 {
     match env.table().types().extent(env.extents(), ty) {
         Some(extent) => extent,
@@ -36,7 +37,8 @@ fn next_multiple(offset: u64, align: u64) -> u64
 pub(crate) fn end_after(env: &Environment, end: u64, ty: TypeId) -> u64
     requires ty { ty.0 < length env.now.table.types }
     requires aligned { All IsAligned env.now.env.structs }
-    ensures { let e = extent_by_rules (extent_of (extents env.now.env) (type_at env.now.table.types ty)) in result ≡ capped (next_multiple_of end e.align + e.size) }
+    ensures { let e = extent_by_rules (extent_of (extents env.now.env) (type_at env.now.table.types ty)) in
+        result ≡ capped (next_multiple_of end e.align + e.size) }
 {
     let extent = extent_or(env, ty);
     next_multiple(end, extent.align).saturating_add(extent.size)

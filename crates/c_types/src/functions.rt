@@ -40,7 +40,9 @@ impl Declarations {
         requires id { IsDecl tree.now id }
         requires ty { ty.0 < length self.old.env.table.types }
         requires sound { IsSound self.old }
-        ensures { (d : Decl) → StandsDecl tree.now id d → Follows self.old self.new (function_of self.old.env.env.tags (program_of self.old) (type_at self.old.env.table.types ty) d) result }
+        ensures { (d : Decl) → StandsDecl tree.now id d →
+            Follows self.old self.new (function_of self.old.env.env.tags (program_of self.old)
+            (type_at self.old.env.table.types ty) d) result }
     {
         let decl = tree.decl(id);
         let place = self.function_declared(decl.from, name_of(decl), ty)?;
@@ -56,7 +58,9 @@ impl Declarations {
     fn function_declared(&mut self, from: u32, name: &[u8], ty: TypeId) -> Result<usize, TypeError>
         requires ty { ty.0 < length self.old.env.table.types }
         requires sound { IsSound self.old }
-        ensures { Steps self.old self.new (IsFunctionPlace self.new) (declared_by_rules (program_of self.old) from (type_at self.old.env.table.types ty) name.now) result }
+        ensures { Steps self.old self.new (IsFunctionPlace self.new)
+            (declared_by_rules (program_of self.old) from (type_at self.old.env.table.types ty) name.now)
+            result }
     {
         if is_reserved(name) {
             return Err(TypeError::Rule(from, 19));
@@ -72,7 +76,9 @@ impl Declarations {
         requires meaning { IsMeaningBelow (length self.now.env.table.types) meaning }
         requires ty { ty.0 < length self.now.env.table.types }
         requires sound { IsSound self.now }
-        ensures { (name : List ℕ) → Steps self.now self.now (IsFunctionPlace self.now) (declared_again (program_of self.now) from (type_at self.now.env.table.types ty) (Some (meaning_by (types_of self.now.env.table.types) meaning)) name) result }
+        ensures { (name : List ℕ) → Steps self.now self.now (IsFunctionPlace self.now)
+            (declared_again (program_of self.now) from (type_at self.now.env.table.types ty)
+            (Some (meaning_by (types_of self.now.env.table.types) meaning)) name) result }
     {
         match meaning {
             Meaning::Function(number, before) => self.same_function(from, number, before, ty),
@@ -90,7 +96,9 @@ impl Declarations {
     ) -> Result<usize, TypeError>
         requires before { before.0 < length self.now.env.table.types }
         requires ty { ty.0 < length self.now.env.table.types }
-        ensures { Agrees (λ _ place. place ≡ number - first_source_function) (keep from 1 (same_type (type_at self.now.env.table.types ty) (type_at self.now.env.table.types before))) result }
+        ensures { Agrees (λ _ place. place ≡ number - first_source_function)
+            (keep from 1 (same_type (type_at self.now.env.table.types ty)
+            (type_at self.now.env.table.types before))) result }
     {
         if self.env.table().types().is_same(ty, before) {
             Ok((number as usize).saturating_sub(FIRST_SOURCE_FUNCTION as usize))
@@ -105,7 +113,9 @@ impl Declarations {
         requires fresh { meaning_in name.now (innermost self.old.env.env.scopes) ≡ None }
         requires ty { ty.0 < length self.old.env.table.types }
         requires sound { IsSound self.old }
-        ensures { Steps self.old self.new (IsFunctionPlace self.new) (declared_again (program_of self.old) from (type_at self.old.env.table.types ty) None name.now) result }
+        ensures { Steps self.old self.new (IsFunctionPlace self.new)
+            (declared_again (program_of self.old) from (type_at self.old.env.table.types ty) None name.now)
+            result }
     {
         let place = self.functions.len();
         let number = function_number(place)?;
@@ -133,7 +143,9 @@ impl Declarations {
         requires block { IsStmt tree.now block }
         requires ty { ty.0 < length self.old.env.table.types }
         requires sound { IsSound self.old }
-        ensures { (d : Decl) (s : Stmt) → StandsDecl tree.now id d → StandsStmt tree.now block s → Follows self.old self.new (defined_of self.old.env.env.tags (program_of self.old) place (type_at self.old.env.table.types ty) d s) result }
+        ensures { (d : Decl) (s : Stmt) → StandsDecl tree.now id d → StandsStmt tree.now block s →
+            Follows self.old self.new (defined_of self.old.env.env.tags (program_of self.old) place
+            (type_at self.old.env.table.types ty) d s) result }
     {
         let decl = tree.decl(id);
         if has_body(&self.functions, place) {
@@ -170,8 +182,10 @@ fn has_body(functions: &[Function], place: usize) -> bool
 
 // Gives the function at a place its body.
 fn set_body(functions: &mut [Function], place: usize, body: Body)
-    ensures given { (t : Table) → map (function_in t) functions.new ≡ with_body (map (function_in t) functions.old) place (body_in t body) }
-    ensures sound { (t : Table) → IsBody t (Some body) → All (IsFunction t) functions.old → All (IsFunction t) functions.new }
+    ensures given { (t : Table) → map (function_in t) functions.new ≡
+        with_body (map (function_in t) functions.old) place (body_in t body) }
+    ensures sound { (t : Table) → IsBody t (Some body) → All (IsFunction t) functions.old →
+        All (IsFunction t) functions.new }
 {
     if place < functions.len() {
         functions[place].body = Some(body);

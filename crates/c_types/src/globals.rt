@@ -32,7 +32,9 @@ impl Declarations {
         requires id { IsDecl tree.now id }
         requires ty { ty.0 < length self.old.env.table.types }
         requires sound { IsSound self.old }
-        ensures { (d : Decl) → StandsDecl tree.now id d → Follows self.old self.new (global_of self.old.env.env.tags (program_of self.old) (type_at self.old.env.table.types ty) d) result }
+        ensures { (d : Decl) → StandsDecl tree.now id d →
+            Follows self.old self.new (global_of self.old.env.env.tags (program_of self.old)
+            (type_at self.old.env.table.types ty) d) result }
     {
         let decl = tree.decl(id);
         self.env.complete(decl.from, ty)?;
@@ -63,7 +65,10 @@ fn global_value(
 ) -> Result<Option<Initial>, TypeError>
     requires rest { IsRest tree.now rest.now }
     requires ty { ty.0 < length env.old.table.types }
-    ensures agrees { (tags : List (List ℕ)) (p : Program) (r : syntax.Rest) → at_file tags p ≡ env.old.env → StandsRest tree.now rest.now r → Finds env.old env.new (λ x v. option_map initial_in v ≡ x) (value_by_rules tags p from (type_at env.old.table.types ty) r) result }
+    ensures agrees { (tags : List (List ℕ)) (p : Program) (r : syntax.Rest) →
+        at_file tags p ≡ env.old.env → StandsRest tree.now rest.now r →
+        Finds env.old env.new (λ x v. option_map initial_in v ≡ x)
+        (value_by_rules tags p from (type_at env.old.table.types ty) r) result }
     ensures kept { Stays env.old env.new }
 {
     match rest {

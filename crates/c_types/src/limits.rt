@@ -46,7 +46,9 @@ fn few_params(env: &Environment, functions: &[Function]) -> bool
 fn globals_end(env: &Environment, globals: &[Global]) -> u64
     requires aligned { All IsAligned env.now.env.structs }
     requires globals { All (IsGlobal env.now.table) globals.now }
-    ensures { (p : Program) → p.structs ≡ env.now.env.structs → p.globals ≡ map (global_in env.now.table.types) globals.now → result ≡ capped (globals_end_by_rules p) }
+    ensures { (p : Program) → p.structs ≡ env.now.env.structs →
+        p.globals ≡ map (global_in env.now.table.types) globals.now →
+        result ≡ capped (globals_end_by_rules p) }
 {
     let mut end: u64 = 0;
     for global in globals {
@@ -59,7 +61,8 @@ fn globals_end(env: &Environment, globals: &[Global]) -> u64
 fn locals_end(env: &Environment, locals: &[TypeId]) -> u64
     requires aligned { All IsAligned env.now.env.structs }
     requires locals { All (IsBelow (length env.now.table.types)) locals.now }
-    ensures { (p : Program) → p.structs ≡ env.now.env.structs → result ≡ capped (end_from 0 (extents_in p (types_in env.now.table.types locals.now))) }
+    ensures { (p : Program) → p.structs ≡ env.now.env.structs →
+        result ≡ capped (end_from 0 (extents_in p (types_in env.now.table.types locals.now))) }
 {
     let mut end: u64 = 0;
     for local in locals {
@@ -72,7 +75,8 @@ fn locals_end(env: &Environment, locals: &[TypeId]) -> u64
 fn small_frame(env: &Environment, function: &Function) -> bool
     requires aligned { All IsAligned env.now.env.structs }
     requires function { IsFunction env.now.table function.now }
-    ensures { (p : Program) → p.structs ≡ env.now.env.structs → result ≡ small_frame_by_rules p (function_in env.now.table function.now) }
+    ensures { (p : Program) → p.structs ≡ env.now.env.structs →
+        result ≡ small_frame_by_rules p (function_in env.now.table function.now) }
 {
     match &function.body {
         Some(body) => locals_end(env, body.locals.as_slice()) <= GREATEST_FRAME,
@@ -84,7 +88,8 @@ fn small_frame(env: &Environment, function: &Function) -> bool
 fn small_frames(env: &Environment, functions: &[Function]) -> bool
     requires aligned { All IsAligned env.now.env.structs }
     requires functions { All (IsFunction env.now.table) functions.now }
-    ensures { (p : Program) → p.structs ≡ env.now.env.structs → result ≡ all_keep (small_frame_by_rules p) (map (function_in env.now.table) functions.now) }
+    ensures { (p : Program) → p.structs ≡ env.now.env.structs →
+        result ≡ all_keep (small_frame_by_rules p) (map (function_in env.now.table) functions.now) }
 {
     for function in functions {
         if !small_frame(env, function) {
@@ -98,7 +103,8 @@ impl Declarations {
     /// The first limit that is exceeded; `None` where none is.
     pub(crate) fn first_limit(&self) -> Option<Which>
         requires sound { IsSound self.now }
-        ensures { option_map which_in result ≡ first_by_rules (not self.now.env.found_large) (program_of self.now) }
+        ensures { option_map which_in result ≡
+            first_by_rules (not self.now.env.found_large) (program_of self.now) }
     {
         if self.functions.len() > MOST_FUNCTIONS {
             Some(Which::Functions)

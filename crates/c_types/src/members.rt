@@ -35,8 +35,10 @@ pub(crate) fn name_of(decl: &Decl) -> &[u8]
 //
 // `Rule` where its name begins with `r2_`, or is that of another.
 fn add(members: &mut Members, from: u32, name: &[u8], ty: TypeId) -> Result<(), TypeError>
-    ensures agrees { (t : Table) → Agrees (λ m _. members_in t members.new ≡ members_in t members.old ++ m ∷ []) (named_member from (members_in t members.old) name.now (type_at t.types ty)) result }
-    ensures below { OnOk result ((t : Table) → ty.0 < length t.types → AreBelow t members.old → AreBelow t members.new) }
+    ensures agrees { (t : Table) → Agrees (λ m _. members_in t members.new ≡ members_in t members.old ++
+        m ∷ []) (named_member from (members_in t members.old) name.now (type_at t.types ty)) result }
+    ensures below { OnOk result ((t : Table) → ty.0 < length t.types → AreBelow t members.old →
+        AreBelow t members.new) }
 {
     if is_reserved(name) {
         return Err(TypeError::Rule(from, 19));
@@ -57,7 +59,10 @@ fn add_member(
 ) -> Result<(), TypeError>
     requires id { IsDecl tree.now id }
     requires below { AreBelow env.old.table members.old }
-    ensures agrees { (d : syntax.Decl) → StandsDecl tree.now id d → Finds env.old env.new (λ m _. members_in env.new.table members.new ≡ members_in env.old.table members.old ++ m ∷ []) (member_by_rules env.old.env (members_in env.old.table members.old) d) result }
+    ensures agrees { (d : syntax.Decl) → StandsDecl tree.now id d →
+        Finds env.old env.new (λ m _. members_in env.new.table members.new ≡
+        members_in env.old.table members.old ++
+        m ∷ []) (member_by_rules env.old.env (members_in env.old.table members.old) d) result }
     ensures below { OnOk result (AreBelow env.new.table members.new) }
     ensures kept { Stays env.old env.new }
 {
@@ -76,7 +81,9 @@ pub(crate) fn members_of(
     ids: &[DeclId],
 ) -> Result<Members, TypeError>
     requires ids { AreDecls tree.now ids.now }
-    ensures agrees { (ds : Decls) → StandDecls tree.now ids.now ds → Finds env.old env.new (λ ms m. (members_in env.new.table m ≡ ms) × AreBelow env.new.table m) (members_by_rules env.old.env [] ds) result }
+    ensures agrees { (ds : Decls) → StandDecls tree.now ids.now ds →
+        Finds env.old env.new (λ ms m. (members_in env.new.table m ≡ ms) ×
+        AreBelow env.new.table m) (members_by_rules env.old.env [] ds) result }
     ensures kept { Stays env.old env.new }
 {
     let mut members = Members::new(env.alloc());

@@ -30,7 +30,8 @@ impl TypedSource {
         // All numbers are those of its table.
         requires functions { All (IsFunction self.env.table) self.functions }
         requires globals { All (IsGlobal self.env.table) self.globals }
-        ensures program { (tags : List (List ℕ)) (p : Program) → IsTypedAs tags p self → IsProgram result p }
+        ensures program { (tags : List (List ℕ)) (p : Program) → IsTypedAs tags p self →
+            IsProgram result p }
         ensures texts { result.texts ≡ self.texts }
     {
         let TypedSource {
@@ -46,5 +47,6 @@ impl TypedSource {
 
 /// A law: while numbers stand for what they did and the same is declared, a source is typed as the same program.
 pub fn sources_stay_typed()
-    ensures { (s : sources.TypedSource) (e : State) (tags : List (List ℕ)) (p : Program) → IsTypedAs tags p s → Stays s.env e → IsTypedAs tags p (record s { env = e }) }
+    ensures { (s : sources.TypedSource) (e : State) (tags : List (List ℕ)) (p : Program) →
+        IsTypedAs tags p s → Stays s.env e → IsTypedAs tags p (record s { env = e }) }
 {}

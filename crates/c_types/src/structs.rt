@@ -29,7 +29,9 @@ use std::alloc::AllocError;
 
 // Whether the words of a declaration name the struct that is defined next.
 fn is_next(env: &mut Environment, base: &Base) -> Result<bool, AllocError>
-    ensures next { (tag : List ℕ) → base.now ≡ bases.Struct tag → IfOk result (λ b. b ≡ is_next_by_rules (length env.old.env.structs) (place_in tag env.old.env.tags)) }
+    ensures next { (tag : List ℕ) → base.now ≡ bases.Struct tag →
+        IfOk result (λ b. b ≡ is_next_by_rules (length env.old.env.structs)
+        (place_in tag env.old.env.tags)) }
     ensures kept { KeepsAll env.old env.new }
 {
     let next = env.extents().len();
@@ -43,8 +45,10 @@ fn is_next(env: &mut Environment, base: &Base) -> Result<bool, AllocError>
 // Defines the next struct, and notes where an object of it is too large.
 fn define_noted(env: &mut Environment, members: Members) -> Result<(), TypeError>
     requires { All (IsMemberBelow (length env.old.table.types)) members }
-    ensures agrees { Finds env.old env.new IsNothing (small (is_small_struct env.old.env (members_by (types_of env.old.table.types) members))) result }
-    ensures env { OnOk result (env.new.env ≡ with_struct env.old.env (members_by (types_of env.old.table.types) members)) }
+    ensures agrees { Finds env.old env.new IsNothing
+        (small (is_small_struct env.old.env (members_by (types_of env.old.table.types) members))) result }
+    ensures env { OnOk result (env.new.env ≡ with_struct env.old.env
+        (members_by (types_of env.old.table.types) members)) }
     ensures table { OnOk result (env.new.table ≡ env.old.table) }
 {
     if env.define_struct(members)? {
@@ -67,7 +71,9 @@ impl Declarations {
         requires base { base.now ≡ bases.Struct tag.now }
         requires ids { AreDecls tree.now ids.now }
         requires sound { IsSound self.old }
-        ensures { (ds : Decls) → StandDecls tree.now ids.now ds → Follows self.old self.new (struct_by_rules self.old.env.env.tags (program_of self.old) from tag.now ds) result }
+        ensures { (ds : Decls) → StandDecls tree.now ids.now ds →
+            Follows self.old self.new (struct_by_rules self.old.env.env.tags (program_of self.old) from
+            tag.now ds) result }
     {
         if is_reserved(tag) {
             return Err(TypeError::Rule(from, 19));
@@ -82,7 +88,9 @@ impl Declarations {
     fn define(&mut self, tree: &Tree, ids: &[DeclId]) -> Result<(), TypeError>
         requires ids { AreDecls tree.now ids.now }
         requires sound { IsSound self.old }
-        ensures { (ds : Decls) → StandDecls tree.now ids.now ds → Follows self.old self.new (defined_struct self.old.env.env.tags (program_of self.old) ds) result }
+        ensures { (ds : Decls) → StandDecls tree.now ids.now ds →
+            Follows self.old self.new (defined_struct self.old.env.env.tags (program_of self.old) ds)
+            result }
     {
         let members = members_of(&mut self.env, tree, ids)?;
         let few = members.len() <= MOST_MEMBERS;

@@ -25,7 +25,8 @@ pub(crate) fn defined_tag(decl: &Decl) -> Option<&[u8]>
 /// The tags of the structs that declarations define, in order. `AllocError` where there is no memory for them.
 pub(crate) fn tags_of(alloc: Global, tree: &Tree, ids: &[DeclId]) -> Result<Tags, AllocError>
     requires { AreDecls tree.now ids.now }
-    ensures { (ds : Decls) → StandDecls tree.now ids.now ds → IfOk result (λ tags. tags ≡ tags_by_rules ds) }
+    ensures { (ds : Decls) → StandDecls tree.now ids.now ds →
+        IfOk result (λ tags. tags ≡ tags_by_rules ds) }
 {
     let mut tags = Tags::new(alloc);
     for id in ids {

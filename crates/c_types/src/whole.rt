@@ -38,7 +38,8 @@ fn has_main(functions: &[Function]) -> bool
 // The typed source of all its declarations.
 fn finished(declared: Declarations, texts: Seq<TextLiteral>) -> Result<TypedSource, CheckError>
     requires { IsSound declared }
-    ensures { IsCheckedSource texts declared.env.env.tags (finished_by_rules declared.env.found_large (program_of declared)) result }
+    ensures { IsCheckedSource texts declared.env.env.tags
+        (finished_by_rules declared.env.found_large (program_of declared)) result }
 {
     if !has_main(&declared.functions) {
         return Err(CheckError::Rule(0, 18));
@@ -64,7 +65,8 @@ fn finished(declared: Declarations, texts: Seq<TextLiteral>) -> Result<TypedSour
 fn all_declared(declared: Declarations, tree: &Tree) -> Result<Declarations, TypeError>
     requires source { IsSource tree.now }
     requires sound { IsSound declared }
-    ensures { (ds : Decls) → Holds tree.now ds → Ends declared (declarations_by_rules declared.env.env.tags (program_of declared) ds) result }
+    ensures { (ds : Decls) → Holds tree.now ds →
+        Ends declared (declarations_by_rules declared.env.env.tags (program_of declared) ds) result }
 {
     let mut declared = declared;
     for id in tree.top() {
@@ -82,7 +84,8 @@ pub fn check_source(alloc: Global, tokens: &[Token], tree: &Tree) -> Result<Type
     // The tree is that of a source whose numbers are such as tokens are.
     requires { IsSource tree.now }
     // The answer is what the rules and the limits say of the source, with the strings among its tokens.
-    ensures { (ds : Decls) → Holds tree.now ds → IsCheckedSource (texts_among tokens.now) (tags_by_rules ds) (outcome ds) result }
+    ensures { (ds : Decls) → Holds tree.now ds →
+        IsCheckedSource (texts_among tokens.now) (tags_by_rules ds) (outcome ds) result }
 {
     let tags = tags_of(alloc, tree, tree.top())?;
     let declared = Declarations::new(alloc, tags)?;

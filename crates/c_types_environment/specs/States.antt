@@ -30,17 +30,29 @@ pub record KeepsAll (old new : State) : Type 0 where
 
 -- what the tags, structs and names stand for where types go by the numbers of a table
 abbrev pub env_by : List CType → List (List ℕ) → Definitions → List (Scope Meaning) → Environment
-env_by ts tags structs scopes = record { tags = tags; structs = structs_by ts [] structs.members; scopes = scopes_by ts scopes }
+env_by ts tags structs scopes = record {
+  tags = tags;
+  structs = structs_by ts [] structs.members;
+  scopes =
+      scopes_by ts scopes;
+}
 
 -- what a table and all that is declared stand for
-abbrev pub state_by : Table → List (List ℕ) → Definitions → List (Scope Meaning) → (found_large : Bool) → State
-state_by t tags structs scopes large = record { table = t; env = env_by (types_of t.types) tags structs scopes; found_large = large }
+abbrev pub state_by : Table → List (List ℕ) → Definitions → List (Scope Meaning) → (found_large : Bool) →
+    State
+state_by t tags structs scopes large = record {
+  table = t;
+  env =
+      env_by (types_of t.types) tags structs scopes;
+  found_large = large;
+}
 
 -- the sizes and alignments of structs as they are stored
 abbrev pub stored_extents : List CType → Definitions → List Extent
 stored_extents ts structs = map capped_extent (map (λ s. s.extent) (structs_by ts [] structs.members))
 
--- all types of members and names are in the table, the sizes of structs are those of their members, and there is a scope
+-- all types of members and names are in the table, the sizes of structs are those of their members, and
+-- there is a scope
 pub record IsSound (types : List Ty) (structs : Definitions) (scopes : List (Scope Meaning)) : Type 0 where
   pub members : All (All (IsMemberBelow (length types))) structs.members
   pub names : All (All (IsNameBelow (length types))) scopes

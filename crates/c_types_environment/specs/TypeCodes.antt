@@ -20,7 +20,8 @@ number_of I64 = 6
 number_of U64 = 7
 
 abbrev kind_of : ℕ → IntKind
-kind_of n = cond (n == 0) I8 (cond (n == 1) U8 (cond (n == 2) I16 (cond (n == 3) U16 (cond (n == 4) I32 (cond (n == 5) U32 (cond (n == 6) I64 U64))))))
+kind_of n = cond (n == 0) I8 (cond (n == 1) U8
+    (cond (n == 2) I16 (cond (n == 3) U16 (cond (n == 4) I32 (cond (n == 5) U32 (cond (n == 6) I64 U64))))))
 
 pub kind_of-number_of : (k : IntKind) → kind_of (number_of k) ≡ k
 kind_of-number_of I8 = refl
@@ -74,21 +75,26 @@ made_by (k ∷ ks) s l =
     (made_by ks (FunctionOf (top s) (top_list l) ∷ drop 1 s) (drop 1 l)))))))))
 
 mutual
-  type_made : (t : CType) (rest : Steps) (s : List CType) (l : List CTypes) → made_by (steps_of t rest) s l ≡ made_by rest (t ∷ s) l
+  type_made : (t : CType) (rest : Steps) (s : List CType) (l : List CTypes) →
+      made_by (steps_of t rest) s l ≡ made_by rest (t ∷ s) l
   type_made Void rest s l = refl
   type_made (Integer k) rest s l = ap (λ j. made_by rest (Integer j ∷ s) l) (kind_of-number_of k)
   type_made (StructOf n) rest s l = refl
   type_made (UndefinedStruct tag) rest s l = refl
   type_made (PointerTo t) rest s l = type_made t ((4, []) ∷ rest) s l
   type_made (ArrayOf n t) rest s l = type_made t ((5, n ∷ []) ∷ rest) s l
-  type_made (FunctionOf r ps) rest s l = types_made ps (steps_of r ((8, []) ∷ rest)) s l ∙ type_made r ((8, []) ∷ rest) s (ps ∷ l)
+  type_made (FunctionOf r ps) rest s l = types_made ps (steps_of r ((8, []) ∷ rest)) s l ∙ type_made r
+      ((8, []) ∷ rest) s (ps ∷ l)
 
-  types_made : (ts : CTypes) (rest : Steps) (s : List CType) (l : List CTypes) → made_by (all_steps_of ts rest) s l ≡ made_by rest s (ts ∷ l)
+  types_made : (ts : CTypes) (rest : Steps) (s : List CType) (l : List CTypes) →
+      made_by (all_steps_of ts rest) s l ≡ made_by rest s (ts ∷ l)
   types_made NoTypes rest s l = refl
-  types_made (MoreTypes t ts) rest s l = types_made ts (steps_of t ((7, []) ∷ rest)) s l ∙ type_made t ((7, []) ∷ rest) s (ts ∷ l)
+  types_made (MoreTypes t ts) rest s l = types_made ts (steps_of t ((7, []) ∷ rest)) s l ∙ type_made t
+      ((7, []) ∷ rest) s (ts ∷ l)
 
 pub made_again : (t : CType) → top (made_by (steps_of t []) [] []) ≡ t
 made_again t = ap top (type_made t [] [] [])
 
 abbrev pub type_code : Coded CType
-type_code = code_by Steps (coded_list (coded× coded_ℕ (coded_list coded_ℕ))) (λ t. steps_of t []) (λ ks. top (made_by ks [] [])) made_again
+type_code = code_by Steps (coded_list (coded× coded_ℕ (coded_list coded_ℕ))) (λ t. steps_of t []) (λ ks.
+    top (made_by ks [] [])) made_again

@@ -18,7 +18,8 @@ impl Environment {
     /// That the type is a complete object type, as that of an array's elements, a member or an object is.
     pub fn complete(&self, from: u32, ty: TypeId) -> Result<(), TypeError>
         requires { ty.0 < length self.now.table.types }
-        ensures agrees { Agrees IsNothing (complete_by_rules (extents self.now.env) from (type_at self.now.table.types ty)) result }
+        ensures agrees { Agrees IsNothing (complete_by_rules (extents self.now.env) from
+            (type_at self.now.table.types ty)) result }
         ensures memory { result ≢ Err TypeError.Memory }
     {
         c_types_operators::complete(&self.table, self.structs.extents(), from, ty)

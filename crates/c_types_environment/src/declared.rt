@@ -27,7 +27,10 @@ impl Environment {
     /// Closes the innermost scope, which isn't the only one, with its names.
     pub fn close_scope(&mut self)
         requires { 2 ≤ length self.old.env.scopes }
-        ensures { self.new ≡ record self.old { env = record self.old.env { scopes = drop 1 self.old.env.scopes } } }
+        ensures { self.new ≡ record self.old {
+          env =
+              record self.old.env { scopes = drop 1 self.old.env.scopes };
+        } }
     {
         self.scopes.close();
     }
@@ -37,7 +40,12 @@ impl Environment {
     /// `Rule` where the name begins with `r2_`, or stands in this scope already. After an error nothing is declared.
     pub fn declare(&mut self, from: u32, name: &[u8], meaning: Meaning) -> Result<(), TypeError>
         requires ty { IsMeaningBelow (length self.old.table.types) meaning }
-        ensures agrees { Agrees (λ _ _. self.new ≡ record self.old { env = with_name self.old.env name.now (meaning_by (types_of self.old.table.types) meaning) }) (declarable self.old.env from name.now) result }
+        ensures agrees { Agrees (λ _ _. self.new ≡
+            record self.old {
+              env = with_name self.old.env name.now
+                  (meaning_by (types_of self.old.table.types) meaning);
+            }) (declarable self.old.env from name.now)
+            result }
         ensures err { OnErr result (self.new ≡ self.old) }
     {
         if is_reserved(name) {
@@ -52,7 +60,8 @@ impl Environment {
 
     /// What a name means: what it was last declared as in the innermost of the scopes that have it; `None` where none has it.
     pub fn find(&self, name: &[u8]) -> Option<Meaning>
-        ensures meaning { maybe_by (types_of self.now.table.types) result ≡ meaning_of name.now self.now.env.scopes }
+        ensures meaning { maybe_by (types_of self.now.table.types) result ≡
+            meaning_of name.now self.now.env.scopes }
         ensures inside { IfSome result (IsMeaningBelow (length self.now.table.types)) }
     {
         self.scopes.find(name)
@@ -60,7 +69,8 @@ impl Environment {
 
     /// What a name was last declared as in the innermost scope; `None` where it isn't declared there.
     pub fn find_here(&self, name: &[u8]) -> Option<Meaning>
-        ensures meaning { maybe_by (types_of self.now.table.types) result ≡ meaning_in name.now (innermost self.now.env.scopes) }
+        ensures meaning { maybe_by (types_of self.now.table.types) result ≡
+            meaning_in name.now (innermost self.now.env.scopes) }
         ensures inside { IfSome result (IsMeaningBelow (length self.now.table.types)) }
     {
         self.scopes.find_here(name)

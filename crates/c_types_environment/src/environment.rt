@@ -50,7 +50,12 @@ impl Environment {
     /// `AllocError` where there is no memory.
     pub fn new(alloc: Global, tags: Tags) -> Result<Environment, AllocError>
         ensures table { IfOk result (λ e. e.table.entries ≡ []) }
-        ensures declared { IfOk result (λ e. e.env ≡ record { tags = tags; structs = []; scopes = [] ∷ [] }) }
+        ensures declared { IfOk result (λ e. e.env ≡ record {
+          tags = tags;
+          structs = [];
+          scopes =
+              [] ∷ [];
+        }) }
         ensures small { IfOk result (λ e. e.found_large ≡ false) }
     {
         Ok(Environment {

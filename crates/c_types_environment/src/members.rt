@@ -23,7 +23,9 @@ impl Environment {
         name: &[u8],
     ) -> Result<NodeId, TypeError>
         requires object { IsObjectAt self.old.table object }
-        ensures agrees { Agrees (StandsAt self.new.table) (member_of_object self.old.env from (object_at self.old.table object) (StructOf number.0) name.now) result }
+        ensures agrees { Agrees (StandsAt self.new.table)
+            (member_of_object self.old.env from (object_at self.old.table object) (StructOf number.0)
+            name.now) result }
         ensures kept { KeepsAll self.old self.new }
     {
         let Some((place, ty)) = self.structs.member(number, name) else {
@@ -35,7 +37,8 @@ impl Environment {
     /// `.` and a name after an operand. `Rule` names the rule that the node at `from` breaks.
     pub fn member(&mut self, from: u32, node: NodeId, name: &[u8]) -> Result<NodeId, TypeError>
         requires inside { IsNode self.old.table node }
-        ensures agrees { Agrees (StandsAt self.new.table) (member_of_typed self.old.env from (node_at self.old.table node) name.now) result }
+        ensures agrees { Agrees (StandsAt self.new.table)
+            (member_of_typed self.old.env from (node_at self.old.table node) name.now) result }
         ensures kept { KeepsAll self.old self.new }
     {
         match self.table.sort_of(node) {
@@ -47,7 +50,9 @@ impl Environment {
     // `.` and a name after an object.
     fn object_member(&mut self, from: u32, object: NodeId, name: &[u8]) -> Result<NodeId, TypeError>
         requires object { IsObjectAt self.old.table object }
-        ensures agrees { Agrees (StandsAt self.new.table) (member_of_object self.old.env from (object_at self.old.table object) (object_type (object_at self.old.table object)) name.now) result }
+        ensures agrees { Agrees (StandsAt self.new.table)
+            (member_of_object self.old.env from (object_at self.old.table object)
+            (object_type (object_at self.old.table object)) name.now) result }
         ensures kept { KeepsAll self.old self.new }
     {
         match self.table.types().get(self.table.type_of(object)) {
@@ -62,7 +67,9 @@ impl Environment {
     /// `->` and a name after an operand with this value. `Rule` names the rule that the node at `from` breaks.
     pub fn arrow(&mut self, from: u32, value: NodeId, name: &[u8]) -> Result<NodeId, TypeError>
         requires value { IsValueAt self.old.table value }
-        ensures agrees { Agrees (StandsAt self.new.table) (arrow_of self.old.env from (value_at self.old.table value) (value_type (value_at self.old.table value)) name.now) result }
+        ensures agrees { Agrees (StandsAt self.new.table)
+            (arrow_of self.old.env from (value_at self.old.table value)
+            (value_type (value_at self.old.table value)) name.now) result }
         ensures kept { KeepsAll self.old self.new }
     {
         let target = match self.table.types().get(self.table.type_of(value)) {
@@ -90,7 +97,9 @@ impl Environment {
     ) -> Result<NodeId, TypeError>
         requires value { IsValueAt self.old.table value }
         requires target { Names self.old.table.types target (StructOf number.0) }
-        ensures agrees { Agrees (StandsAt self.new.table) (arrow_of self.old.env from (value_at self.old.table value) (PointerTo (StructOf number.0)) name.now) result }
+        ensures agrees { Agrees (StandsAt self.new.table)
+            (arrow_of self.old.env from (value_at self.old.table value) (PointerTo (StructOf number.0))
+            name.now) result }
         ensures kept { KeepsAll self.old self.new }
     {
         if self.structs.extents().get(number.0 as usize).is_none() {

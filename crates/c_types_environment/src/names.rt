@@ -45,7 +45,8 @@ impl Environment {
     // A node for what a name at this offset means.
     fn add_meant(&mut self, from: u32, meaning: Meaning) -> Result<NodeId, AllocError>
         requires ty { IsMeaningBelow (length self.old.table.types) meaning }
-        ensures added { IfOk result (StandsAt self.new.table (typed_by from (meaning_by (types_of self.old.table.types) meaning))) }
+        ensures added { IfOk result (StandsAt self.new.table
+            (typed_by from (meaning_by (types_of self.old.table.types) meaning))) }
         ensures kept { KeepsAll self.old self.new }
     {
         self.add(match meaning {

@@ -28,7 +28,9 @@ impl Environment {
     ) -> Result<NodeId, TypeError>
         requires left { IsValueAt self.old.table left }
         requires right { IsValueAt self.old.table right }
-        ensures agrees { Agrees (IsAt self.new.table) (binary_by_rules (extents self.old.env) from sign (value_at self.old.table left) (value_at self.old.table right)) result }
+        ensures agrees { Agrees (IsAt self.new.table)
+            (binary_by_rules (extents self.old.env) from sign (value_at self.old.table left)
+            (value_at self.old.table right)) result }
         ensures kept { KeepsAll self.old self.new }
     {
         c_types_operators::binary(
@@ -49,7 +51,8 @@ impl Environment {
         value: NodeId,
     ) -> Result<NodeId, TypeError>
         requires value { IsValueAt self.old.table value }
-        ensures agrees { Agrees (IsAt self.new.table) (signed_operand_by_rules from sign (value_at self.old.table value)) result }
+        ensures agrees { Agrees (IsAt self.new.table)
+            (signed_operand_by_rules from sign (value_at self.old.table value)) result }
         ensures kept { KeepsAll self.old self.new }
     {
         c_types_operators::signed_operand(&mut self.table, from, sign, value)
@@ -58,7 +61,8 @@ impl Environment {
     /// What an operator before its operand makes of it (C11 6.5.3).
     pub fn prefixed(&mut self, from: u32, sign: Sign, operand: NodeId) -> Result<NodeId, TypeError>
         requires operand { IsNode self.old.table operand }
-        ensures agrees { Agrees (StandsAt self.new.table) (prefixed_by_rules (extents self.old.env) from sign (node_at self.old.table operand)) result }
+        ensures agrees { Agrees (StandsAt self.new.table)
+            (prefixed_by_rules (extents self.old.env) from sign (node_at self.old.table operand)) result }
         ensures kept { KeepsAll self.old self.new }
     {
         c_types_operators::prefixed(&mut self.table, self.structs.extents(), from, sign, operand)
@@ -67,7 +71,8 @@ impl Environment {
     /// What `++` or `--` after its operand makes of it (C11 6.5.2.4).
     pub fn postfixed(&mut self, from: u32, sign: Sign, operand: NodeId) -> Result<NodeId, TypeError>
         requires operand { IsNode self.old.table operand }
-        ensures agrees { Agrees (StandsAt self.new.table) (postfixed_by_rules (extents self.old.env) from sign (node_at self.old.table operand)) result }
+        ensures agrees { Agrees (StandsAt self.new.table)
+            (postfixed_by_rules (extents self.old.env) from sign (node_at self.old.table operand)) result }
         ensures kept { KeepsAll self.old self.new }
     {
         c_types_operators::postfixed(&mut self.table, self.structs.extents(), from, sign, operand)
@@ -83,7 +88,9 @@ impl Environment {
         operand: NodeId,
     ) -> Result<NodeId, TypeError>
         requires operand { IsNode self.old.table operand }
-        ensures agrees { Agrees (IsAt self.new.table) (step_by_rules (extents self.old.env) from (way_in way) (given_in given) (node_at self.old.table operand)) result }
+        ensures agrees { Agrees (IsAt self.new.table)
+            (step_by_rules (extents self.old.env) from (way_in way) (given_in given)
+            (node_at self.old.table operand)) result }
         ensures kept { KeepsAll self.old self.new }
     {
         c_types_operators::step(
@@ -106,7 +113,9 @@ impl Environment {
     ) -> Result<NodeId, TypeError>
         requires left { IsNode self.old.table left }
         requires value { IsValueAt self.old.table value }
-        ensures agrees { Agrees (IsAt self.new.table) (assignment_by_rules (extents self.old.env) from sign (node_at self.old.table left) (value_at self.old.table value)) result }
+        ensures agrees { Agrees (IsAt self.new.table)
+            (assignment_by_rules (extents self.old.env) from sign (node_at self.old.table left)
+            (value_at self.old.table value)) result }
         ensures kept { KeepsAll self.old self.new }
     {
         c_types_operators::assignment(
@@ -130,7 +139,9 @@ impl Environment {
         requires condition { IsValueAt self.old.table condition }
         requires a { IsValueAt self.old.table a }
         requires b { IsValueAt self.old.table b }
-        ensures agrees { Agrees (IsAt self.new.table) (choice_by_rules from (value_at self.old.table condition) (value_at self.old.table a) (value_at self.old.table b)) result }
+        ensures agrees { Agrees (IsAt self.new.table)
+            (choice_by_rules from (value_at self.old.table condition) (value_at self.old.table a)
+            (value_at self.old.table b)) result }
         ensures kept { KeepsAll self.old self.new }
     {
         c_types_operators::choice(&mut self.table, from, condition, a, b)
@@ -140,7 +151,8 @@ impl Environment {
     pub fn cast(&mut self, from: u32, ty: TypeId, value: NodeId) -> Result<NodeId, TypeError>
         requires ty { ty.0 < length self.old.table.types }
         requires value { IsValueAt self.old.table value }
-        ensures agrees { Agrees (IsAt self.new.table) (cast_by_rules from (type_at self.old.table.types ty) (value_at self.old.table value)) result }
+        ensures agrees { Agrees (IsAt self.new.table)
+            (cast_by_rules from (type_at self.old.table.types ty) (value_at self.old.table value)) result }
         ensures kept { KeepsAll self.old self.new }
     {
         c_types_operators::cast(&mut self.table, from, ty, value)
@@ -150,7 +162,9 @@ impl Environment {
     pub fn assigned(&mut self, from: u32, ty: TypeId, value: NodeId) -> Result<NodeId, TypeError>
         requires ty { ty.0 < length self.old.table.types }
         requires value { IsValueAt self.old.table value }
-        ensures agrees { Agrees (IsAt self.new.table) (assigned_by_rules from (type_at self.old.table.types ty) (value_at self.old.table value)) result }
+        ensures agrees { Agrees (IsAt self.new.table)
+            (assigned_by_rules from (type_at self.old.table.types ty) (value_at self.old.table value))
+            result }
         ensures kept { KeepsAll self.old self.new }
     {
         c_types_operators::assigned(&mut self.table, from, ty, value)

@@ -17,7 +17,9 @@ impl Environment {
     pub fn subscript(&mut self, from: u32, left: NodeId, right: NodeId) -> Result<NodeId, TypeError>
         requires left { IsValueAt self.old.table left }
         requires right { IsValueAt self.old.table right }
-        ensures agrees { Agrees (StandsAt self.new.table) (subscript_by_rules (extents self.old.env) from (value_at self.old.table left) (value_at self.old.table right)) result }
+        ensures agrees { Agrees (StandsAt self.new.table)
+            (subscript_by_rules (extents self.old.env) from (value_at self.old.table left)
+            (value_at self.old.table right)) result }
         ensures kept { KeepsAll self.old self.new }
     {
         c_types_operators::subscript(&mut self.table, self.structs.extents(), from, left, right)
@@ -26,7 +28,8 @@ impl Environment {
     /// The function or the complete object that a pointer points to (C11 6.5.3.2).
     pub fn pointed(&mut self, from: u32, value: NodeId) -> Result<NodeId, TypeError>
         requires value { IsValueAt self.old.table value }
-        ensures agrees { Agrees (StandsAt self.new.table) (pointed_by_rules (extents self.old.env) from (value_at self.old.table value)) result }
+        ensures agrees { Agrees (StandsAt self.new.table)
+            (pointed_by_rules (extents self.old.env) from (value_at self.old.table value)) result }
         ensures kept { KeepsAll self.old self.new }
     {
         c_types_operators::pointed(&mut self.table, self.structs.extents(), from, value)
@@ -35,7 +38,8 @@ impl Environment {
     /// The address of an object or a function (C11 6.5.3.2).
     pub fn address(&mut self, from: u32, operand: NodeId) -> Result<NodeId, TypeError>
         requires operand { IsNode self.old.table operand }
-        ensures agrees { Agrees (StandsAt self.new.table) (address_by_rules from (node_at self.old.table operand)) result }
+        ensures agrees { Agrees (StandsAt self.new.table)
+            (address_by_rules from (node_at self.old.table operand)) result }
         ensures kept { KeepsAll self.old self.new }
     {
         c_types_operators::address(&mut self.table, from, operand)

@@ -31,7 +31,8 @@ fn kind_of_bytes(bytes: u8, signed: bool) -> IntKind
 impl Environment {
     /// The type that the words of a declaration make. `AllocError` where there is no memory, or no number, for one more type.
     pub fn base_type(&mut self, base: &Base) -> Result<TypeId, AllocError>
-        ensures names { IfOk result (λ id. Names self.new.table.types id (base_type_of self.old.env base.now)) }
+        ensures names { IfOk result (λ id. Names self.new.table.types id
+            (base_type_of self.old.env base.now)) }
         ensures kept { KeepsAll self.old self.new }
     {
         match base {
@@ -43,7 +44,8 @@ impl Environment {
 
     // The type of a tag: that of a struct that the source defines, or one that is never defined.
     fn struct_type(&mut self, tag: &[u8]) -> Result<TypeId, AllocError>
-        ensures names { IfOk result (λ id. Names self.new.table.types id (type_of_tag self.old.env tag.now)) }
+        ensures names { IfOk result (λ id. Names self.new.table.types id
+            (type_of_tag self.old.env tag.now)) }
         ensures kept { KeepsAll self.old self.new }
     {
         match self.tags.place_of(tag) {

@@ -53,8 +53,13 @@ impl Environment {
     /// `AllocError` where there is no memory for it. Then none is defined.
     pub fn define_struct(&mut self, members: Members) -> Result<bool, AllocError>
         requires types { All (IsMemberBelow (length self.old.table.types)) members }
-        ensures defined { OnOk result (self.new ≡ record self.old { env = with_struct self.old.env (members_by (types_of self.old.table.types) members) }) }
-        ensures small { IfOk result (λ small. small ≡ is_small_struct self.old.env (members_by (types_of self.old.table.types) members)) }
+        ensures defined { OnOk result (self.new ≡
+            record self.old {
+              env = with_struct self.old.env
+                  (members_by (types_of self.old.table.types) members);
+            }) }
+        ensures small { IfOk result (λ small. small ≡
+            is_small_struct self.old.env (members_by (types_of self.old.table.types) members)) }
         ensures err { OnErr result (self.new ≡ self.old) }
     {
         let extent = self.layout(&members)?;
@@ -65,7 +70,9 @@ impl Environment {
     // The size and alignment of the member at a place.
     fn member_extent(&self, members: &Members, place: usize) -> Extent
         requires types { All (IsMemberBelow (length self.now.table.types)) members.now }
-        ensures { result ≡ capped_extent (slice_index_or (extents_of (extents self.now.env) (members_by (types_of self.now.table.types) members.now)) place (scalar 1)) }
+        ensures { result ≡ capped_extent (slice_index_or
+            (extents_of (extents self.now.env) (members_by (types_of self.now.table.types) members.now))
+            place (scalar 1)) }
     {
         let Some(ty) = members.type_at(place) else {
             return Extent { size: 1, align: 1 };
@@ -77,7 +84,9 @@ impl Environment {
     // The size and alignment of a struct with these members.
     fn layout(&self, members: &Members) -> Result<Extent, AllocError>
         requires types { All (IsMemberBelow (length self.now.table.types)) members.now }
-        ensures { IfOk result (λ e. e ≡ capped_extent (struct_with (extents self.now.env) (members_by (types_of self.now.table.types) members.now)).extent) }
+        ensures { IfOk result (λ e. e ≡ capped_extent
+            (struct_with (extents self.now.env)
+            (members_by (types_of self.now.table.types) members.now)).extent) }
     {
         let mut extents = Vec::with_capacity(self.alloc, members.len())?;
         for place in 0..members.len() {
@@ -92,7 +101,8 @@ impl Environment {
 
     /// The type of the member at a place of a struct, counted from 0; `None` past the last, or where the struct isn't defined.
     pub fn member_type(&self, number: StructId, place: usize) -> Option<TypeId>
-        ensures ty { option_map (type_at self.now.table.types) result ≡ slice_get (types_in self.now.env.structs number.0) place }
+        ensures ty { option_map (type_at self.now.table.types) result ≡
+            slice_get (types_in self.now.env.structs number.0) place }
         ensures inside { IfSome result (IsBelow (length self.now.table.types)) }
     {
         self.structs.member_type(number, place)

@@ -48,7 +48,8 @@ impl Environment {
     /// `AllocError` where there is no memory, or no number, for one more.
     pub fn add_type(&mut self, ty: Ty) -> Result<TypeId, AllocError>
         requires parts { IsTypeMadeOf (length self.old.table.types) ty }
-        ensures names { IfOk result (λ id. Names self.new.table.types id (made_type (types_of self.old.table.types) ty)) }
+        ensures names { IfOk result (λ id. Names self.new.table.types id
+            (made_type (types_of self.old.table.types) ty)) }
         ensures kept { KeepsAll self.old self.new }
     {
         self.table.add_type(ty)
@@ -70,7 +71,8 @@ impl Environment {
     /// `AllocError` where there is no memory, or no number, for one more node.
     pub fn value_of(&mut self, id: NodeId) -> Result<NodeId, AllocError>
         requires inside { IsNode self.old.table id }
-        ensures value { IfOk result (λ v. typed_at self.new.table v ≡ Some (AValue (value_of_typed (node_at self.old.table id)))) }
+        ensures value { IfOk result (λ v. typed_at self.new.table v ≡
+            Some (AValue (value_of_typed (node_at self.old.table id)))) }
         ensures kept { KeepsAll self.old self.new }
     {
         self.table.value_of(id)

@@ -22,7 +22,10 @@ notes (x ∷ xs) = MoreAnnots x (notes xs)
 -- [f..] int f([p..] BASE *p, int n);
 abbrev pub annotated : List Annot → List Annot → Base → Decl
 annotated f p b =
-    Declare 3 (notes f) int_base (Params 4 (source (Declare 5 (notes p) b (Pointer 5 NoParts) (Some (codes "p")) NoRest ∷ Declare 6 NoAnnots int_base NoParts (Some (codes "n")) NoRest ∷ [])) NoParts) (Some (codes "f")) NoRest
+    Declare 3 (notes f) int_base (Params 4 (source
+    (Declare 5 (notes p) b (Pointer 5 NoParts) (Some (codes "p")) NoRest ∷
+    Declare 6 NoAnnots int_base NoParts (Some (codes "n")) NoRest ∷ [])) NoParts) (Some (codes "f"))
+    NoRest
 
 abbrev read : Decls → Checked Program → Checked Annotated
 read ds (Fine p) = annotations ds p

@@ -103,11 +103,14 @@ no_params = Params 8 NoDecls NoParts
 
 -- int main(void) { return x; }
 abbrev pub main_giving : Expr → Decl
-main_giving x = declaring int_base no_params (codes "main") (Body (Block 20 (MoreEntries (StmtEntry (Return 22 (OneExpr x))) NoEntries)))
+main_giving x = declaring int_base no_params (codes "main")
+    (Body (Block 20 (MoreEntries (StmtEntry (Return 22 (OneExpr x))) NoEntries)))
 
 -- int main(void) { d; return 0; }
 abbrev pub main_with : Decl → Decl
-main_with d = declaring int_base no_params (codes "main") (Body (Block 20 (MoreEntries (LocalEntry (MoreDecls d NoDecls)) (MoreEntries (StmtEntry (Return 22 (OneExpr (num 0)))) NoEntries))))
+main_with d = declaring int_base no_params (codes "main")
+    (Body (Block 20 (MoreEntries (LocalEntry (MoreDecls d NoDecls))
+    (MoreEntries (StmtEntry (Return 22 (OneExpr (num 0)))) NoEntries))))
 
 abbrev pub source : List Decl → Decls
 source [] = NoDecls

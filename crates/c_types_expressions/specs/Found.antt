@@ -11,9 +11,11 @@ use Rattle.c_types_operators.specs.declared.error.TypeError.TheVariants.{Rule, M
 use Rattle.c_types_operators.specs.Answers.{IsAt, StandsAt}
 use Rattle.c_types_environment.specs.States.{State}
 
--- what is found is there; where something is too large that is noted, and otherwise the note is as before; or the rule that is broken
+-- what is found is there; where something is too large that is noted, and otherwise the note is as before;
+-- or the rule that is broken
 -- is named, with the offset of its node; of memory nothing is said
-abbrev pub Found : {A B : Type 0} → (before after : Bool) → (A → B → Type 0) → Checked A → Result B TypeError → Type 0
+abbrev pub Found : {A B : Type 0} → (before after : Bool) → (A → B → Type 0) → Checked A →
+    Result B TypeError → Type 0
 Found before after is c (Err Memory) = Unit {0}
 Found before after is (Fine x) (Ok y) = is x y × (after ≡ before)
 Found before after is (Large x) (Ok y) = is x y × (after ≡ true)
@@ -21,7 +23,8 @@ Found before after is (Broken from rule) (Err (Rule f r)) = (f ≡ from) × (r �
 Found before after is _ _ = ⊥
 
 -- the same, where the note is that of what is declared
-abbrev pub Finds : {A B : Type 0} → (old new : State) → (A → B → Type 0) → Checked A → Result B TypeError → Type 0
+abbrev pub Finds : {A B : Type 0} → (old new : State) → (A → B → Type 0) → Checked A → Result B TypeError →
+    Type 0
 Finds old new is c r = Found old.found_large new.found_large is c r
 
 -- all numbers stand for what they did, and what is declared is as it was

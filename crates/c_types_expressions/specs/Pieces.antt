@@ -47,11 +47,16 @@ sized structs from t = keep from 15 (is_complete structs t)
 
 -- the size of a type (C11 6.5.3.4, 2)
 abbrev pub size_constant : (structs : List Extent) → (from : ℕ) → CType → Checked Typed
-size_constant structs from t = sized structs from t >> Fine (AValue (Constant U64 (pos (size_in structs t))))
+size_constant structs from t = sized structs from t >> Fine
+    (AValue (Constant U64 (pos (size_in structs t))))
 
 -- what is called, what it gives and what it takes; a builtin is only found where it is called
 abbrev pub call_target : Expr → Environment → (from : ℕ) → Checked (Callee × CType × CTypes)
-call_target x env from = elim (builtin_in env x) [ Some b ↦ called (start_of x) (AFunction (BuiltinFunction (start_of x) b) (prototype_of b)) | None ↦ expression x env >>= called from ]
+call_target x env from = elim (builtin_in env x) [
+  | Some b ↦ called (start_of x) (AFunction (BuiltinFunction (start_of x) b) (prototype_of b))
+  | None ↦
+      expression x env >>= called from
+]
 
 -- a value at an offset, converted to the type of a parameter
 abbrev pub argument : (from : ℕ) → CType → Typed → Checked Value

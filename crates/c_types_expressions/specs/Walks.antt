@@ -1,4 +1,5 @@
--- Which numbers stand for parts of a source. All numbers that are written in it are such as types can represent.
+-- Which numbers stand for parts of a source. All numbers that are written in it are such as types can
+-- represent.
 use Rattle.std.specs.Prelude.{List}
 use Rattle.c_syntax.specs.declared.id.DeclId.{DeclId}
 use Rattle.c_syntax.specs.declared.id.ExprId.{ExprId}

@@ -22,7 +22,8 @@ pub fn annotation_types(
     annots: &[Annot],
 ) -> Result<(), TypeError>
     requires { AreAnnots tree.now annots.now }
-    ensures agrees { (xs : Annots) → StandAnnots tree.now annots.now xs → Finds env.old env.new IsNothing (annotations_by_rules xs env.old.env) result }
+    ensures agrees { (xs : Annots) → StandAnnots tree.now annots.now xs →
+        Finds env.old env.new IsNothing (annotations_by_rules xs env.old.env) result }
     ensures kept { Stays env.old env.new }
 {
     for annot in annots {
@@ -34,7 +35,8 @@ pub fn annotation_types(
 #[cycle(walk)]
 fn item_types(env: &mut Environment, tree: &Tree, items: &[Item]) -> Result<(), TypeError>
     requires { AreItems tree.now items.now }
-    ensures agrees { (xs : Items) → StandItems tree.now items.now xs → Finds env.old env.new IsNothing (items_by_rules xs env.old.env) result }
+    ensures agrees { (xs : Items) → StandItems tree.now items.now xs →
+        Finds env.old env.new IsNothing (items_by_rules xs env.old.env) result }
     ensures kept { Stays env.old env.new }
 {
     for item in items {
@@ -46,7 +48,8 @@ fn item_types(env: &mut Environment, tree: &Tree, items: &[Item]) -> Result<(), 
 #[cycle(walk)]
 fn item_type(env: &mut Environment, tree: &Tree, item: &Item) -> Result<(), TypeError>
     requires { IsItem tree.now item.now }
-    ensures agrees { (x : ItemTree) → StandsItem tree.now item.now x → Finds env.old env.new IsNothing (item_by_rules x env.old.env) result }
+    ensures agrees { (x : ItemTree) → StandsItem tree.now item.now x →
+        Finds env.old env.new IsNothing (item_by_rules x env.old.env) result }
     ensures kept { Stays env.old env.new }
 {
     atom_type(env, tree, item.from, &item.a)?;
@@ -59,7 +62,8 @@ fn item_type(env: &mut Environment, tree: &Tree, item: &Item) -> Result<(), Type
 #[cycle(walk)]
 fn atom_type(env: &mut Environment, tree: &Tree, from: u32, atom: &Atom) -> Result<(), TypeError>
     requires { IsAtom tree.now atom.now }
-    ensures agrees { (x : AtomTree) → StandsAtom tree.now atom.now x → Finds env.old env.new IsNothing (atom_by_rules x env.old.env from) result }
+    ensures agrees { (x : AtomTree) → StandsAtom tree.now atom.now x →
+        Finds env.old env.new IsNothing (atom_by_rules x env.old.env from) result }
     ensures kept { Stays env.old env.new }
 {
     match atom {

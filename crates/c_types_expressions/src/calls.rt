@@ -34,7 +34,9 @@ pub fn call(
 ) -> Result<NodeId, TypeError>
     requires callee { IsExpr tree.now callee }
     requires ids { AreExprs tree.now ids.now }
-    ensures agrees { (x : Expr) (xs : Exprs) → Stands tree.now callee x → StandExprs tree.now ids.now xs → Finds env.old env.new (StandsAt env.new.table) (expression_by_rules (Call from x xs) env.old.env) result }
+    ensures agrees { (x : Expr) (xs : Exprs) → Stands tree.now callee x → StandExprs tree.now ids.now xs →
+        Finds env.old env.new (StandsAt env.new.table) (expression_by_rules (Call from x xs) env.old.env)
+        result }
     ensures kept { Stays env.old env.new }
 {
     let target = call_target(env, tree, from, callee)?;
@@ -66,7 +68,8 @@ fn call_target(
     id: ExprId,
 ) -> Result<CallTarget, TypeError>
     requires { IsExpr tree.now id }
-    ensures agrees { (x : Expr) → Stands tree.now id x → Finds env.old env.new (IsCalled env.new.table) (call_target_by_rules x env.old.env from) result }
+    ensures agrees { (x : Expr) → Stands tree.now id x →
+        Finds env.old env.new (IsCalled env.new.table) (call_target_by_rules x env.old.env from) result }
     ensures kept { Stays env.old env.new }
 {
     match builtin_named(env, tree, id) {
@@ -89,7 +92,9 @@ fn arguments(
 ) -> Result<NodeIds, TypeError>
     requires ids { AreExprs tree.now ids.now }
     requires function { function.0 < length env.old.table.types }
-    ensures agrees { (xs : Exprs) → StandExprs tree.now ids.now xs → Finds env.old env.new (AreValues env.new.table) (arguments_by_rules xs env.old.env from (params_of (type_at env.old.table.types function))) result }
+    ensures agrees { (xs : Exprs) → StandExprs tree.now ids.now xs →
+        Finds env.old env.new (AreValues env.new.table)
+        (arguments_by_rules xs env.old.env from (params_of (type_at env.old.table.types function))) result }
     ensures kept { Stays env.old env.new }
 {
     let mut values = Vec::with_capacity(env.alloc(), ids.len())?;
@@ -115,7 +120,10 @@ fn argument(
 ) -> Result<NodeId, TypeError>
     requires id { IsExpr tree.now id }
     requires function { function.0 < length env.old.table.types }
-    ensures agrees { (x : Expr) → Stands tree.now id x → Finds env.old env.new (IsAt env.new.table) (argument_of x env.old.env from (types_after number (params_of (type_at env.old.table.types function)))) result }
+    ensures agrees { (x : Expr) → Stands tree.now id x →
+        Finds env.old env.new (IsAt env.new.table)
+        (argument_of x env.old.env from (types_after number
+        (params_of (type_at env.old.table.types function)))) result }
     ensures kept { Stays env.old env.new }
 {
     match env.parameter(function, number) {

@@ -58,7 +58,8 @@ pub fn number(
     decimal: bool,
 ) -> Result<NodeId, TypeError>
     requires { IsNumber value suffix decimal }
-    ensures agrees { Agrees (StandsAt env.new.table) (Fine (AValue (Constant (number_kind_of value suffix decimal) (pos value)))) result }
+    ensures agrees { Agrees (StandsAt env.new.table)
+        (Fine (AValue (Constant (number_kind_of value suffix decimal) (pos value)))) result }
     ensures kept { KeepsAll env.old env.new }
 {
     let kind = number_kind(value, suffix, decimal);
@@ -75,7 +76,8 @@ pub fn character(env: &mut Environment, value: i8) -> Result<NodeId, TypeError>
 
 /// The object of a string, which stands at the offset.
 pub fn string(env: &mut Environment, from: u32, text: &Text) -> Result<NodeId, TypeError>
-    ensures agrees { Agrees (StandsAt env.new.table) (Fine (AnObject (TextObject from (length text.now)))) result }
+    ensures agrees { Agrees (StandsAt env.new.table) (Fine (AnObject (TextObject from (length text.now))))
+        result }
     ensures kept { KeepsAll env.old env.new }
 {
     let length = u32::try_from(text.as_slice().len()).map_err(|_| AllocError)?;

@@ -23,7 +23,8 @@ use c_types_table::{Ty, TypeId};
 #[cycle(walk)]
 pub fn declared_type(env: &mut Environment, tree: &Tree, id: DeclId) -> Result<TypeId, TypeError>
     requires { IsDecl tree.now id }
-    ensures agrees { (d : Decl) → StandsDecl tree.now id d → Finds env.old env.new (IsType env.new.table) (declared_by_rules d env.old.env) result }
+    ensures agrees { (d : Decl) → StandsDecl tree.now id d →
+        Finds env.old env.new (IsType env.new.table) (declared_by_rules d env.old.env) result }
     ensures kept { Stays env.old env.new }
 {
     let decl = tree.decl(id);
@@ -44,7 +45,9 @@ pub fn declarator(
 ) -> Result<TypeId, TypeError>
     requires parts { AreParts tree.now parts.now }
     requires ty { ty.0 < length env.old.table.types }
-    ensures agrees { (ps : Parts) → StandParts tree.now parts.now ps → Finds env.old env.new (IsType env.new.table) (declarator_type ps env.old.env (type_at env.old.table.types ty)) result }
+    ensures agrees { (ps : Parts) → StandParts tree.now parts.now ps →
+        Finds env.old env.new (IsType env.new.table)
+        (declarator_type ps env.old.env (type_at env.old.table.types ty)) result }
     ensures kept { Stays env.old env.new }
 {
     let mut made = ty;
@@ -64,7 +67,9 @@ fn part_type(
 ) -> Result<TypeId, TypeError>
     requires part { AreParts tree.now (part.now ∷ []) }
     requires ty { ty.0 < length env.old.table.types }
-    ensures agrees { (ps : Parts) → StandParts tree.now (part.now ∷ []) ps → Finds env.old env.new (IsType env.new.table) (declarator_type ps env.old.env (type_at env.old.table.types ty)) result }
+    ensures agrees { (ps : Parts) → StandParts tree.now (part.now ∷ []) ps →
+        Finds env.old env.new (IsType env.new.table)
+        (declarator_type ps env.old.env (type_at env.old.table.types ty)) result }
     ensures kept { Stays env.old env.new }
 {
     match &part.kind {
@@ -88,7 +93,9 @@ fn array(
 ) -> Result<TypeId, TypeError>
     requires size { IsExpr tree.now size }
     requires element { element.0 < length env.old.table.types }
-    ensures agrees { (x : Expr) → Stands tree.now size x → Finds env.old env.new (IsType env.new.table) (declarator_type (Array from x NoParts) env.old.env (type_at env.old.table.types element)) result }
+    ensures agrees { (x : Expr) → Stands tree.now size x →
+        Finds env.old env.new (IsType env.new.table)
+        (declarator_type (Array from x NoParts) env.old.env (type_at env.old.table.types element)) result }
     ensures kept { Stays env.old env.new }
 {
     env.complete(from, element)?;
@@ -108,7 +115,9 @@ fn function(
 ) -> Result<TypeId, TypeError>
     requires params { AreDecls tree.now params.now }
     requires ty { ty.0 < length env.old.table.types }
-    ensures agrees { (ds : Decls) → StandDecls tree.now params.now ds → Finds env.old env.new (IsType env.new.table) (declarator_type (Params from ds NoParts) env.old.env (type_at env.old.table.types ty)) result }
+    ensures agrees { (ds : Decls) → StandDecls tree.now params.now ds →
+        Finds env.old env.new (IsType env.new.table)
+        (declarator_type (Params from ds NoParts) env.old.env (type_at env.old.table.types ty)) result }
     ensures kept { Stays env.old env.new }
 {
     if !is_result(env, ty) {

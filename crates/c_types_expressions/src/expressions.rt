@@ -26,7 +26,8 @@ pub fn expression(env: &mut Environment, tree: &Tree, id: ExprId) -> Result<Node
     // The number stands for an expression whose numbers are such as tokens are.
     requires { IsExpr tree.now id }
     // Where it stands for x, the answer is what the rules say of x.
-    ensures agrees { (x : Expr) → Stands tree.now id x → Finds env.old env.new (StandsAt env.new.table) (expression_by_rules x env.old.env) result }
+    ensures agrees { (x : Expr) → Stands tree.now id x →
+        Finds env.old env.new (StandsAt env.new.table) (expression_by_rules x env.old.env) result }
     // What is declared, and what numbers stand for, is as before, also after an error.
     ensures kept { Stays env.old env.new }
 {
@@ -101,7 +102,8 @@ fn operands(
 ) -> Result<(NodeId, NodeId), TypeError>
     requires left { IsExpr tree.now left }
     requires right { IsExpr tree.now right }
-    ensures agrees { (x y : Expr) → Stands tree.now left x → Stands tree.now right y → Finds env.old env.new (AreBoth env.new.table) (operands_by_rules x y env.old.env) result }
+    ensures agrees { (x y : Expr) → Stands tree.now left x → Stands tree.now right y →
+        Finds env.old env.new (AreBoth env.new.table) (operands_by_rules x y env.old.env) result }
     ensures kept { Stays env.old env.new }
 {
     let left = expression(env, tree, left)?;

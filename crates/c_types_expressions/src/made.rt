@@ -42,7 +42,8 @@ pub fn binary(
 ) -> Result<NodeId, TypeError>
     requires left { IsNode env.old.table left }
     requires right { IsNode env.old.table right }
-    ensures agrees { Agrees (StandsAt env.new.table) (binary_of env.old.env from sign (node_at env.old.table left) (node_at env.old.table right)) result }
+    ensures agrees { Agrees (StandsAt env.new.table)
+        (binary_of env.old.env from sign (node_at env.old.table left) (node_at env.old.table right)) result }
     ensures kept { KeepsAll env.old env.new }
 {
     let (left, right) = values(env, left, right)?;
@@ -59,7 +60,9 @@ pub fn assignment(
 ) -> Result<NodeId, TypeError>
     requires left { IsNode env.old.table left }
     requires right { IsNode env.old.table right }
-    ensures agrees { Agrees (StandsAt env.new.table) (assignment_of env.old.env from sign (node_at env.old.table left) (node_at env.old.table right)) result }
+    ensures agrees { Agrees (StandsAt env.new.table)
+        (assignment_of env.old.env from sign (node_at env.old.table left) (node_at env.old.table right))
+        result }
     ensures kept { KeepsAll env.old env.new }
 {
     let right = env.value_of(right)?;
@@ -77,7 +80,9 @@ pub fn choice(
     requires condition { IsNode env.old.table condition }
     requires left { IsNode env.old.table left }
     requires right { IsNode env.old.table right }
-    ensures agrees { Agrees (StandsAt env.new.table) (choice_of from (node_at env.old.table condition) (node_at env.old.table left) (node_at env.old.table right)) result }
+    ensures agrees { Agrees (StandsAt env.new.table)
+        (choice_of from (node_at env.old.table condition) (node_at env.old.table left)
+        (node_at env.old.table right)) result }
     ensures kept { KeepsAll env.old env.new }
 {
     let condition = env.value_of(condition)?;
@@ -94,7 +99,8 @@ pub fn subscript(
 ) -> Result<NodeId, TypeError>
     requires left { IsNode env.old.table left }
     requires right { IsNode env.old.table right }
-    ensures agrees { Agrees (StandsAt env.new.table) (subscript_of env.old.env from (node_at env.old.table left) (node_at env.old.table right)) result }
+    ensures agrees { Agrees (StandsAt env.new.table)
+        (subscript_of env.old.env from (node_at env.old.table left) (node_at env.old.table right)) result }
     ensures kept { KeepsAll env.old env.new }
 {
     let (left, right) = values(env, left, right)?;
@@ -110,7 +116,8 @@ pub fn cast(
 ) -> Result<NodeId, TypeError>
     requires ty { ty.0 < length env.old.table.types }
     requires operand { IsNode env.old.table operand }
-    ensures agrees { Agrees (StandsAt env.new.table) (cast_of from (type_at env.old.table.types ty) (node_at env.old.table operand)) result }
+    ensures agrees { Agrees (StandsAt env.new.table)
+        (cast_of from (type_at env.old.table.types ty) (node_at env.old.table operand)) result }
     ensures kept { KeepsAll env.old env.new }
 {
     let value = env.value_of(operand)?;
@@ -125,7 +132,8 @@ pub fn arrow(
     name: &[u8],
 ) -> Result<NodeId, TypeError>
     requires { IsNode env.old.table operand }
-    ensures agrees { Agrees (StandsAt env.new.table) (arrow_from env.old.env from (node_at env.old.table operand) name.now) result }
+    ensures agrees { Agrees (StandsAt env.new.table)
+        (arrow_from env.old.env from (node_at env.old.table operand) name.now) result }
     ensures kept { KeepsAll env.old env.new }
 {
     let value = env.value_of(operand)?;
@@ -141,7 +149,8 @@ pub fn converted(
 ) -> Result<NodeId, TypeError>
     requires ty { ty.0 < length env.old.table.types }
     requires operand { IsNode env.old.table operand }
-    ensures agrees { Agrees (IsAt env.new.table) (argument from (type_at env.old.table.types ty) (node_at env.old.table operand)) result }
+    ensures agrees { Agrees (IsAt env.new.table)
+        (argument from (type_at env.old.table.types ty) (node_at env.old.table operand)) result }
     ensures kept { KeepsAll env.old env.new }
 {
     let value = env.value_of(operand)?;

@@ -28,7 +28,9 @@ pub fn parameter_types(
     ids: &[DeclId],
 ) -> Result<TypeIds, TypeError>
     requires { AreDecls tree.now ids.now }
-    ensures agrees { (ds : Decls) → StandDecls tree.now ids.now ds → Finds env.old env.new (AreTypes env.new.table) (parameters_by_rules ds (inner env.old.env) 0) result }
+    ensures agrees { (ds : Decls) → StandDecls tree.now ids.now ds →
+        Finds env.old env.new (AreTypes env.new.table) (parameters_by_rules ds (inner env.old.env) 0)
+        result }
     ensures kept { Stays env.old env.new }
 {
     env.open_scope()?;
@@ -41,7 +43,8 @@ pub fn parameter_types(
 #[cycle(walk)]
 fn types_here(env: &mut Environment, tree: &Tree, ids: &[DeclId]) -> Result<TypeIds, TypeError>
     requires { AreDecls tree.now ids.now }
-    ensures agrees { (ds : Decls) → StandDecls tree.now ids.now ds → Finds env.old env.new (AreTypes env.new.table) (parameters_by_rules ds env.old.env 0) result }
+    ensures agrees { (ds : Decls) → StandDecls tree.now ids.now ds →
+        Finds env.old env.new (AreTypes env.new.table) (parameters_by_rules ds env.old.env 0) result }
     ensures kept { StaysAround env.old env.new }
 {
     let mut types = Vec::with_capacity(env.alloc(), ids.len())?;
@@ -57,7 +60,8 @@ fn types_here(env: &mut Environment, tree: &Tree, ids: &[DeclId]) -> Result<Type
 #[cycle(walk)]
 fn parameter_type(env: &mut Environment, tree: &Tree, id: DeclId) -> Result<TypeId, TypeError>
     requires { IsDecl tree.now id }
-    ensures agrees { (d : Decl) → StandsDecl tree.now id d → Finds env.old env.new (IsType env.new.table) (parameter_by_rules d env.old.env) result }
+    ensures agrees { (d : Decl) → StandsDecl tree.now id d →
+        Finds env.old env.new (IsType env.new.table) (parameter_by_rules d env.old.env) result }
     ensures kept { Stays env.old env.new }
 {
     let decl = tree.decl(id);
@@ -77,7 +81,9 @@ fn declare(
 ) -> Result<(), TypeError>
     requires id { IsDecl tree.now id }
     requires ty { ty.0 < length env.old.table.types }
-    ensures agrees { (d : Decl) → StandsDecl tree.now id d → Finds env.old env.new (λ e _. env.new.env ≡ e) (parameter_scope d env.old.env place (type_at env.old.table.types ty)) result }
+    ensures agrees { (d : Decl) → StandsDecl tree.now id d →
+        Finds env.old env.new (λ e _. env.new.env ≡ e)
+        (parameter_scope d env.old.env place (type_at env.old.table.types ty)) result }
     ensures kept { StaysAround env.old env.new }
 {
     let decl = tree.decl(id);

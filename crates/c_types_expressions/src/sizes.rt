@@ -21,7 +21,8 @@ use r2_num::IntKind;
 /// That a type whose size is asked for is that of a complete object. `Rule` names the rule that another breaks, with `from`.
 pub fn sized(env: &Environment, from: u32, ty: TypeId) -> Result<(), TypeError>
     requires { ty.0 < length env.now.table.types }
-    ensures { Agrees IsNothing (sized_by_rules (extents env.now.env) from (type_at env.now.table.types ty)) result }
+    ensures { Agrees IsNothing (sized_by_rules (extents env.now.env) from (type_at env.now.table.types ty))
+        result }
 {
     match env.size_of(ty) {
         Some(_size) => Ok(()),
@@ -32,7 +33,8 @@ pub fn sized(env: &Environment, from: u32, ty: TypeId) -> Result<(), TypeError>
 /// The size of a type in bytes, as a constant. `Rule` names the rule that an incomplete type breaks, with `from`.
 pub fn size_of_type(env: &mut Environment, from: u32, ty: TypeId) -> Result<NodeId, TypeError>
     requires { ty.0 < length env.old.table.types }
-    ensures agrees { Agrees (StandsAt env.new.table) (size_constant (extents env.old.env) from (type_at env.old.table.types ty)) result }
+    ensures agrees { Agrees (StandsAt env.new.table)
+        (size_constant (extents env.old.env) from (type_at env.old.table.types ty)) result }
     ensures kept { KeepsAll env.old env.new }
 {
     let Some(size) = env.size_of(ty) else {
@@ -44,7 +46,8 @@ pub fn size_of_type(env: &mut Environment, from: u32, ty: TypeId) -> Result<Node
 /// The size of what an operand is, before it is converted.
 pub fn size_of_node(env: &mut Environment, from: u32, operand: NodeId) -> Result<NodeId, TypeError>
     requires { IsNode env.old.table operand }
-    ensures agrees { Agrees (StandsAt env.new.table) (size_constant (extents env.old.env) from (typed_type (node_at env.old.table operand))) result }
+    ensures agrees { Agrees (StandsAt env.new.table)
+        (size_constant (extents env.old.env) from (typed_type (node_at env.old.table operand))) result }
     ensures kept { KeepsAll env.old env.new }
 {
     let ty = env.type_of(operand);
@@ -56,7 +59,8 @@ pub fn note_size(env: &mut Environment, ty: TypeId)
     requires { ty.0 < length env.old.table.types }
     ensures table { env.new.table ≡ env.old.table }
     ensures env { env.new.env ≡ env.old.env }
-    ensures noted { env.new.found_large ≡ (not (is_small (extents env.old.env) (type_at env.old.table.types ty)) || env.old.found_large) }
+    ensures noted { env.new.found_large ≡ (not
+        (is_small (extents env.old.env) (type_at env.old.table.types ty)) || env.old.found_large) }
 {
     if !env.is_small(ty) {
         env.note_large();
@@ -72,7 +76,8 @@ pub fn array_of_length(
 ) -> Result<TypeId, TypeError>
     requires element { element.0 < length env.old.table.types }
     requires size { IsNode env.old.table size }
-    ensures agrees { Agrees (IsType env.new.table) (array_of from (type_at env.old.table.types element) (node_at env.old.table size)) result }
+    ensures agrees { Agrees (IsType env.new.table)
+        (array_of from (type_at env.old.table.types element) (node_at env.old.table size)) result }
     ensures kept { KeepsAll env.old env.new }
 {
     let value = env.value_of(size)?;
@@ -95,7 +100,8 @@ pub fn is_result(env: &Environment, ty: TypeId) -> bool
 /// rule that it breaks where it isn't scalar, with `from`.
 pub fn adjusted(env: &mut Environment, from: u32, ty: TypeId) -> Result<TypeId, TypeError>
     requires { ty.0 < length env.old.table.types }
-    ensures agrees { Agrees (IsType env.new.table) (parameter_by_rules from (type_at env.old.table.types ty)) result }
+    ensures agrees { Agrees (IsType env.new.table)
+        (parameter_by_rules from (type_at env.old.table.types ty)) result }
     ensures kept { KeepsAll env.old env.new }
 {
     match env.table().types().get(ty) {

@@ -51,7 +51,8 @@ pub fn global_known(env: &Environment, node: NodeId) -> Option<Known>
 pub fn known_by(env: &Environment, tree: &Tree, id: ExprId, node: NodeId) -> Option<Known>
     requires id { IsExpr tree.now id }
     requires node { IsNode env.now.table node }
-    ensures { (x : Expr) → Stands tree.now id x → option_map known_in result ≡ known_by_rules x (node_at env.now.table node) }
+    ensures { (x : Expr) → Stands tree.now id x →
+        option_map known_in result ≡ known_by_rules x (node_at env.now.table node) }
 {
     match &tree.expr(id).kind {
         ExprKind::Name(_) | ExprKind::Text(_) => address_known(env, node),

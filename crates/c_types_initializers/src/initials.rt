@@ -33,7 +33,9 @@ pub fn initial(
     requires value { IsValue tree.now value.now }
     requires ty { ty.0 < length env.old.table.types }
     // Where it stands for x, the answer is what the rules say of x.
-    ensures agrees { (x : Written) → StandsValue tree.now value.now x → Finds env.old env.new IsInitial (initial_by_rules x env.old.env (type_at env.old.table.types ty)) result }
+    ensures agrees { (x : Written) → StandsValue tree.now value.now x →
+        Finds env.old env.new IsInitial (initial_by_rules x env.old.env (type_at env.old.table.types ty))
+        result }
     // What is declared, and what numbers stand for, is as before, also after an error.
     ensures kept { Stays env.old env.new }
 {
@@ -52,7 +54,9 @@ fn plain_initial(
 ) -> Result<Initial, TypeError>
     requires id { IsExpr tree.now id }
     requires ty { ty.0 < length env.old.table.types }
-    ensures agrees { (x : Expr) → Stands tree.now id x → Finds env.old env.new IsInitial (plain_by_rules env.old.env (type_at env.old.table.types ty) x) result }
+    ensures agrees { (x : Expr) → Stands tree.now id x →
+        Finds env.old env.new IsInitial (plain_by_rules env.old.env (type_at env.old.table.types ty) x)
+        result }
     ensures kept { Stays env.old env.new }
 {
     match env.table().types().get(ty) {
@@ -73,7 +77,9 @@ fn listed(
 ) -> Result<Initial, TypeError>
     requires values { AreValues tree.now values.now }
     requires ty { ty.0 < length env.old.table.types }
-    ensures agrees { (xs : Writtens) → StandValues tree.now values.now xs → Finds env.old env.new IsInitial (initial_by_rules (Braces from xs) env.old.env (type_at env.old.table.types ty)) result }
+    ensures agrees { (xs : Writtens) → StandValues tree.now values.now xs →
+        Finds env.old env.new IsInitial (initial_by_rules (Braces from xs) env.old.env
+        (type_at env.old.table.types ty)) result }
     ensures kept { Stays env.old env.new }
 {
     match env.table().types().get(ty) {
@@ -111,7 +117,9 @@ fn elements(
 ) -> Result<Vec<Initial>, TypeError>
     requires values { AreValues tree.now values.now }
     requires element { element.0 < length env.old.table.types }
-    ensures agrees { (xs : Writtens) → StandValues tree.now values.now xs → Finds env.old env.new (λ ys v. AreInitials ys v.items) (elements_by_rules xs env.old.env count (type_at env.old.table.types element)) result }
+    ensures agrees { (xs : Writtens) → StandValues tree.now values.now xs →
+        Finds env.old env.new (λ ys v. AreInitials ys v.items)
+        (elements_by_rules xs env.old.env count (type_at env.old.table.types element)) result }
     ensures kept { Stays env.old env.new }
 {
     let mut found = Vec::with_capacity(env.alloc(), values.len())?;
@@ -134,7 +142,9 @@ fn members(
     number: StructId,
 ) -> Result<Vec<Initial>, TypeError>
     requires values { AreValues tree.now values.now }
-    ensures agrees { (xs : Writtens) → StandValues tree.now values.now xs → Finds env.old env.new (λ ys v. AreInitials ys v.items) (members_by_rules xs env.old.env (types_in env.old.env.structs number.0)) result }
+    ensures agrees { (xs : Writtens) → StandValues tree.now values.now xs →
+        Finds env.old env.new (λ ys v. AreInitials ys v.items)
+        (members_by_rules xs env.old.env (types_in env.old.env.structs number.0)) result }
     ensures kept { Stays env.old env.new }
 {
     let mut found = Vec::with_capacity(env.alloc(), values.len())?;

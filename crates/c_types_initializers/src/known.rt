@@ -27,7 +27,9 @@ use r2_num::wrap;
 pub fn known(env: &mut Environment, tree: &Tree, id: ExprId, ty: TypeId) -> Result<Known, TypeError>
     requires id { IsExpr tree.now id }
     requires ty { ty.0 < length env.old.table.types }
-    ensures agrees { (x : Expr) → Stands tree.now id x → Finds env.old env.new IsKnown (known_by_rules env.old.env (type_at env.old.table.types ty) x) result }
+    ensures agrees { (x : Expr) → Stands tree.now id x →
+        Finds env.old env.new IsKnown (known_by_rules env.old.env (type_at env.old.table.types ty) x)
+        result }
     ensures kept { Stays env.old env.new }
 {
     let from = tree.expr(id).from;
@@ -69,7 +71,9 @@ fn known_before(
 ) -> Result<Known, TypeError>
     requires id { IsExpr tree.now id }
     requires node { IsNode env.old.table node }
-    ensures agrees { (x : Expr) → Stands tree.now id x → Finds env.old env.new IsKnown (known_before_by_rules env.old.env x (node_at env.old.table node)) result }
+    ensures agrees { (x : Expr) → Stands tree.now id x →
+        Finds env.old env.new IsKnown (known_before_by_rules env.old.env x (node_at env.old.table node))
+        result }
     ensures kept { Stays env.old env.new }
 {
     let value = env.value_of(node)?;
@@ -88,7 +92,9 @@ fn address_in(
 ) -> Result<Known, TypeError>
     requires id { IsExpr tree.now id }
     requires node { IsNode env.old.table node }
-    ensures agrees { (x : Expr) → Stands tree.now id x → Finds env.old env.new IsKnown (address_by_rules env.old.env x (node_at env.old.table node) (named_by_rules x)) result }
+    ensures agrees { (x : Expr) → Stands tree.now id x →
+        Finds env.old env.new IsKnown (address_by_rules env.old.env x (node_at env.old.table node)
+        (named_by_rules x)) result }
     ensures kept { Stays env.old env.new }
 {
     let from = tree.expr(id).from;

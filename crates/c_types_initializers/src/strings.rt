@@ -40,7 +40,9 @@ pub fn string_initial(
 ) -> Result<Initial, TypeError>
     requires id { IsExpr tree.now id }
     requires element { element.0 < length env.now.table.types }
-    ensures { (x : Expr) → Stands tree.now id x → Agrees IsInitial (plain_by_rules env.now.env (ArrayOf count (type_at env.now.table.types element)) x) result }
+    ensures { (x : Expr) → Stands tree.now id x →
+        Agrees IsInitial (plain_by_rules env.now.env (ArrayOf count (type_at env.now.table.types element))
+        x) result }
 {
     let expr = tree.expr(id);
     match &expr.kind {

@@ -1,4 +1,5 @@
--- Sizes, alignments and offsets in bytes (C11 6.2.8, 6.5.3.4, 6.7.2.1). The sizes of scalars are this language's.
+-- Sizes, alignments and offsets in bytes (C11 6.2.8, 6.5.3.4, 6.7.2.1). The sizes of scalars are this
+-- language's.
 use Rattle.std.specs.Prelude.{ℕ, ◌+◌, ◌-◌, ◌*◌, ◌/◌, ◌^◌, ◌<◌, max, min, List, [], ◌∷◌, Option, Some, None, slice_get}
 use Rattle.std.specs.Int.{next_multiple_of}
 use Rattle.std.specs.Option.{option_map}
@@ -25,7 +26,8 @@ repeated n e = record { size = n * e.size; align = e.align }
 -- where members lie from an offset on: each at the next multiple of its alignment (C11 6.7.2.1, 14 and 15)
 abbrev pub offsets_from : ℕ → List Extent → List ℕ
 offsets_from at [] = []
-offsets_from at (m ∷ ms) = let offset = next_multiple_of at m.align in offset ∷ offsets_from (offset + m.size) ms
+offsets_from at (m ∷ ms) = let offset = next_multiple_of at m.align in offset ∷
+    offsets_from (offset + m.size) ms
 
 -- where the last of them ends
 abbrev pub end_from : ℕ → List Extent → ℕ
@@ -39,9 +41,14 @@ greatest_align (m ∷ ms) = max m.align (greatest_align ms)
 
 -- a struct with these members has the greatest alignment, to which its size is rounded up (C11 6.7.2.1, 17)
 abbrev pub struct_of : List Extent → Extent
-struct_of ms = record { size = next_multiple_of (end_from 0 ms) (greatest_align ms); align = greatest_align ms }
+struct_of ms = record {
+  size = next_multiple_of (end_from 0 ms) (greatest_align ms);
+  align =
+      greatest_align ms;
+}
 
--- size and alignment of a complete object type, where `structs` has those of the defined structs; None of any other type
+-- size and alignment of a complete object type, where `structs` has those of the defined structs; None of
+-- any other type
 abbrev pub extent_of : (structs : List Extent) → CType → Option Extent
 extent_of structs Void = None
 extent_of structs (Integer k) = Some (kind_extent k)

@@ -14,7 +14,10 @@ pub fn offsets_are_least_multiples()
 
 /// A law: where a size that is too great for 64 bits counts as 2^64 - 1, what it is a part of comes out as if it hadn't.
 pub fn large_sizes_stay_large()
-    ensures arrays { (n : ℕ) (e : Extent) → capped_extent (repeated n (capped_extent e)) ≡ capped_extent (repeated n e) }
-    ensures structs { (ms : List Extent) → capped_extent (struct_of (map capped_extent ms)) ≡ capped_extent (struct_of ms) }
-    ensures offsets { (ms : List Extent) → map capped (offsets_from 0 (map capped_extent ms)) ≡ map capped (offsets_from 0 ms) }
+    ensures arrays { (n : ℕ) (e : Extent) → capped_extent (repeated n (capped_extent e)) ≡
+        capped_extent (repeated n e) }
+    ensures structs { (ms : List Extent) → capped_extent (struct_of (map capped_extent ms)) ≡
+        capped_extent (struct_of ms) }
+    ensures offsets { (ms : List Extent) → map capped (offsets_from 0 (map capped_extent ms)) ≡
+        map capped (offsets_from 0 ms) }
 {}

@@ -82,8 +82,10 @@ impl Layout {
     /// The first limit that a struct of this layout exceeds; `None` where it exceeds none.
     pub fn limit(&self) -> Option<Limit>
         ensures members { (result ≡ Some Limit.Members) ↔ (most_members < length self.now.offsets) }
-        ensures object { (result ≡ Some Limit.Object) ↔ ((length self.now.offsets ≤ most_members) × (greatest_object < self.now.size)) }
-        ensures none { (result ≡ None) ↔ ((length self.now.offsets ≤ most_members) × (self.now.size ≤ greatest_object)) }
+        ensures object { (result ≡ Some Limit.Object) ↔ ((length self.now.offsets ≤ most_members) ×
+            (greatest_object < self.now.size)) }
+        ensures none { (result ≡ None) ↔ ((length self.now.offsets ≤ most_members) ×
+            (self.now.size ≤ greatest_object)) }
     {
         if self.offsets.as_slice().len() > MOST_MEMBERS {
             Some(Limit::Members)

@@ -34,7 +34,8 @@ abbrev pub given_in : Given → tree.Given
 given_in givens.New = tree.New
 given_in givens.Old = tree.Old
 
--- the parts of what stands at a number, where it is an object, a value or a function; `made` reads only such
+-- the parts of what stands at a number, where it is an object, a value or a function; `made` reads only
+-- such
 abbrev pub object_in : Option Typed → Object
 object_in (Some (AnObject o)) = o
 object_in _ = tree.GlobalObject 0 0 Void
@@ -98,8 +99,10 @@ made ts xs (nodes.Convert t v) = AValue (tree.Convert (at ts t) (value xs v))
 made ts xs (nodes.Negate k v) = AValue (tree.Negate k (value xs v))
 made ts xs (nodes.Complement k v) = AValue (tree.Complement k (value xs v))
 made ts xs (nodes.Arithmetic op k a b) = AValue (tree.Arithmetic op k (value xs a) (value xs b))
-made ts xs (nodes.PointerSum s p i size) = AValue (tree.PointerSum (sum_in s) (value xs p) (value xs i) size)
-made ts xs (nodes.PointerDifference a b size) = AValue (tree.PointerDifference (value xs a) (value xs b) size)
+made ts xs (nodes.PointerSum s p i size) = AValue
+    (tree.PointerSum (sum_in s) (value xs p) (value xs i) size)
+made ts xs (nodes.PointerDifference a b size) =
+    AValue (tree.PointerDifference (value xs a) (value xs b) size)
 made ts xs (nodes.PointerComparison op a b) = AValue (tree.PointerComparison op (value xs a) (value xs b))
 made ts xs (nodes.Not v) = AValue (tree.Not (value xs v))
 made ts xs (nodes.Both a b) = AValue (tree.Both (value xs a) (value xs b))
@@ -118,7 +121,8 @@ IsRightType Shl k t = (j : IntKind) × (t ≡ Integer j)
 IsRightType Shr k t = (j : IntKind) × (t ≡ Integer j)
 IsRightType op k t = t ≡ Integer k
 
--- the parts of a node are among n types and `xs`, and each is what the node has there; a constant is in the range of its
+-- the parts of a node are among n types and `xs`, and each is what the node has there; a constant is in the
+-- range of its
 -- kind, operands are of the kind of their operator, and both arms of a choice have one type
 abbrev pub IsMadeOf : (n : ℕ) → (xs : List Typed) → Node → Type 0
 IsMadeOf n xs (nodes.GlobalObject from place t) = IsBelow n t
@@ -137,14 +141,16 @@ IsMadeOf n xs (nodes.AddressOf o t) = IsObject xs o × IsBelow n t
 IsMadeOf n xs (nodes.Convert t v) = IsAValue xs v × IsBelow n t
 IsMadeOf n xs (nodes.Negate k v) = IsAValue xs v
 IsMadeOf n xs (nodes.Complement k v) = IsAValue xs v
-IsMadeOf n xs (nodes.Arithmetic op k a b) = IsAValue xs a × IsAValue xs b × (value_type (value xs a) ≡ Integer k) × IsRightType op k (value_type (value xs b))
+IsMadeOf n xs (nodes.Arithmetic op k a b) = IsAValue xs a × IsAValue xs b ×
+    (value_type (value xs a) ≡ Integer k) × IsRightType op k (value_type (value xs b))
 IsMadeOf n xs (nodes.PointerSum s p i size) = IsAValue xs p × IsAValue xs i
 IsMadeOf n xs (nodes.PointerDifference a b size) = IsAValue xs a × IsAValue xs b
 IsMadeOf n xs (nodes.PointerComparison op a b) = IsAValue xs a × IsAValue xs b
 IsMadeOf n xs (nodes.Not v) = IsAValue xs v
 IsMadeOf n xs (nodes.Both a b) = IsAValue xs a × IsAValue xs b
 IsMadeOf n xs (nodes.Either a b) = IsAValue xs a × IsAValue xs b
-IsMadeOf n xs (nodes.Choice c a b) = IsAValue xs c × IsAValue xs a × IsAValue xs b × (value_type (value xs a) ≡ value_type (value xs b))
+IsMadeOf n xs (nodes.Choice c a b) = IsAValue xs c × IsAValue xs a × IsAValue xs b ×
+    (value_type (value xs a) ≡ value_type (value xs b))
 IsMadeOf n xs (nodes.Sequence a b) = IsAValue xs a × IsAValue xs b
 IsMadeOf n xs (nodes.Assigned o v) = IsObject xs o × IsAValue xs v
 IsMadeOf n xs (nodes.Changed o op k v) = IsObject xs o × IsAValue xs v

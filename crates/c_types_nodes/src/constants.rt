@@ -56,7 +56,8 @@ impl TypedTable {
         requires { IsValueAt self.now id }
         ensures value { result ≡ constant_value_of (value_at self.now id) }
         ensures any { IfSome result IsAnyValue }
-        ensures range { (k : IntKind) → value_type (value_at self.now id) ≡ Integer k → IfSome result (IsValue k) }
+        ensures range { (k : IntKind) → value_type (value_at self.now id) ≡ Integer k →
+            IfSome result (IsValue k) }
     {
         match self.get(id) {
             Node::Constant(_, value) => Some(*value),
@@ -113,7 +114,8 @@ impl TypedTable {
     pub fn integer_constant(&self, id: NodeId) -> Option<i128>
         requires { IsValueAt self.now id }
         ensures value { result ≡ integer_constant_of (value_at self.now id) }
-        ensures range { (k : IntKind) → value_type (value_at self.now id) ≡ Integer k → IfSome result (IsValue k) }
+        ensures range { (k : IntKind) → value_type (value_at self.now id) ≡ Integer k →
+            IfSome result (IsValue k) }
     {
         if self.is_of_constants(id) {
             self.constant_value(id)

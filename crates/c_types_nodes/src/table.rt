@@ -74,7 +74,8 @@ impl TypedTable {
     /// `AllocError` where there is no memory, or no number, for one more.
     pub fn add_type(&mut self, ty: Ty) -> Result<TypeId, AllocError>
         requires parts { IsTypeMadeOf (length self.old.types) ty }
-        ensures names { IfOk result (λ id. Names self.new.types id (made_type (types_of self.old.types) ty)) }
+        ensures names { IfOk result (λ id. Names self.new.types id
+            (made_type (types_of self.old.types) ty)) }
         ensures kept { Keeps self.old self.new }
     {
         named(&mut self.types, ty)
@@ -107,7 +108,8 @@ impl TypedTable {
     // The type of what a node stands for, put into the table where it isn't there.
     fn own_type(&mut self, node: &Node) -> Result<TypeId, AllocError>
         requires parts { CanHold self.old node.now }
-        ensures names { IfOk result (λ ty. Names self.new.types ty (typed_type (made_in self.old node.now))) }
+        ensures names { IfOk result (λ ty. Names self.new.types ty
+            (typed_type (made_in self.old node.now))) }
         ensures kept { Keeps self.old self.new }
     {
         match node.type_source() {

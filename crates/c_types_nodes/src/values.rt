@@ -31,7 +31,8 @@ impl TypedTable {
     /// `AllocError` where there is no memory, or no number, for one more node.
     pub fn value_of(&mut self, id: NodeId) -> Result<NodeId, AllocError>
         requires inside { IsNode self.old id }
-        ensures value { IfOk result (λ v. typed_at self.new v ≡ Some (AValue (value_of_typed (node_at self.old id)))) }
+        ensures value { IfOk result (λ v. typed_at self.new v ≡
+            Some (AValue (value_of_typed (node_at self.old id)))) }
         ensures kept { Keeps self.old self.new }
     {
         match self.get(id).value_source() {
@@ -49,7 +50,8 @@ impl TypedTable {
     // What an object is converted to.
     fn read(&mut self, id: NodeId) -> Result<NodeId, AllocError>
         requires inside { IsObjectAt self.old id }
-        ensures value { IfOk result (λ v. typed_at self.new v ≡ Some (AValue (value_of_typed (node_at self.old id)))) }
+        ensures value { IfOk result (λ v. typed_at self.new v ≡
+            Some (AValue (value_of_typed (node_at self.old id)))) }
         ensures kept { Keeps self.old self.new }
     {
         match element(self.types().get(self.type_of(id))) {
@@ -62,7 +64,8 @@ impl TypedTable {
     fn decay(&mut self, id: NodeId, element: TypeId) -> Result<NodeId, AllocError>
         requires inside { IsObjectAt self.old id }
         requires element { element.0 < length self.old.types }
-        ensures value { IfOk result (λ v. typed_at self.new v ≡ Some (AValue (AddressOf (object_at self.old id) (PointerTo (type_at self.old.types element))))) }
+        ensures value { IfOk result (λ v. typed_at self.new v ≡
+            Some (AValue (AddressOf (object_at self.old id) (PointerTo (type_at self.old.types element))))) }
         ensures kept { Keeps self.old self.new }
     {
         let pointer = self.add_type(Ty::Pointer(element))?;

@@ -14,7 +14,8 @@ use Rattle.c_types_nodes.specs.Tables.{Table, typed_at}
 use Rattle.c_types_operators.specs.declared.error.TypeError.{TypeError}
 use Rattle.c_types_operators.specs.declared.error.TypeError.TheVariants.{Rule, Memory}
 
--- what is found is there, or the rule that is broken is named, with the offset of its node; of memory nothing is said
+-- what is found is there, or the rule that is broken is named, with the offset of its node; of memory
+-- nothing is said
 abbrev pub Agrees : {A B : Type 0} → (A → B → Type 0) → Checked A → Result B TypeError → Type 0
 Agrees is c (Err Memory) = Unit {0}
 Agrees is (Fine x) (Ok y) = is x y

@@ -20,7 +20,8 @@ simple from o b = do
   v ← assigned from (object_type o) b
   Fine (Assigned o v)
 
--- the kinds that the sides of an operator are converted to: to their common kind, but each side of a shift by itself
+-- the kinds that the sides of an operator are converted to: to their common kind, but each side of a shift
+-- by itself
 -- (C11 6.3.1.8; 6.5.7, 3)
 abbrev pub left_kind : Op → IntKind → IntKind → IntKind
 left_kind Shl j k = promoted j

@@ -24,7 +24,8 @@ types_after (suc n) (MoreTypes t ts) = types_after n ts
 
 -- the n-th of these types, from 0 on; None past the last
 abbrev pub IsParameter : (types : List Ty) → CTypes → ℕ → Option TypeId → Type 0
-IsParameter types ts n (Some p) = (p.0 < length types) × (types_after n ts ≡ MoreTypes (type_at types p) (types_after (suc n) ts))
+IsParameter types ts n (Some p) = (p.0 < length types) ×
+    (types_after n ts ≡ MoreTypes (type_at types p) (types_after (suc n) ts))
 IsParameter types ts n None = types_after n ts ≡ NoTypes
 
 -- the numbers of types stand for these of builtins, one after another

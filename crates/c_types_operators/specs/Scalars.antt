@@ -15,7 +15,8 @@ IsScalar types c (Some (scalars.Integer k)) = c ≡ Integer k
 IsScalar types c (Some (scalars.Pointer t)) = (t.0 < length types) × (c ≡ PointerTo (type_at types t))
 IsScalar types c None = is_scalar c ≡ false
 
--- by how much `++` and `--` change an object: an integer by 1, a pointer to a complete object by the object's size
+-- by how much `++` and `--` change an object: an integer by 1, a pointer to a complete object by the
+-- object's size
 abbrev pub step_in : (structs : List Extent) → CType → Option ℕ
 step_in structs (Integer k) = Some 1
 step_in structs (PointerTo t) = if is_complete structs t then Some (size_in structs t) else None

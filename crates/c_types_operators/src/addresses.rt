@@ -15,7 +15,8 @@ use std::alloc::AllocError;
 // The address of an object.
 fn of_object(table: &mut TypedTable, object: NodeId) -> Result<NodeId, AllocError>
     requires { IsObjectAt table.old object }
-    ensures added { IfOk result (IsAt table.new (AddressOf (object_at table.old object) (PointerTo (object_type (object_at table.old object))))) }
+    ensures added { IfOk result (IsAt table.new
+        (AddressOf (object_at table.old object) (PointerTo (object_type (object_at table.old object))))) }
     ensures kept { Keeps table.old table.new }
 {
     let target = table.type_of(object);

@@ -37,7 +37,9 @@ fn on_kinds(
     requires left { IsValueAt table.old left }
     requires right { IsValueAt table.old right }
     requires kinds { IsRightType op left_kind (Integer right_kind) }
-    ensures added { IfOk result (IsAt table.new (Arithmetic op left_kind (to_kind left_kind (value_at table.old left)) (to_kind right_kind (value_at table.old right)))) }
+    ensures added { IfOk result (IsAt table.new
+        (Arithmetic op left_kind (to_kind left_kind (value_at table.old left))
+        (to_kind right_kind (value_at table.old right)))) }
     ensures kept { Keeps table.old table.new }
 {
     let left = to_kind(table, left_kind, left)?;
@@ -55,7 +57,8 @@ pub fn arithmetic(
 ) -> Result<NodeId, TypeError>
     requires left { IsValueAt table.old left }
     requires right { IsValueAt table.old right }
-    ensures agrees { Agrees (IsAt table.new) (arithmetic_of from op (value_at table.old left) (value_at table.old right)) result }
+    ensures agrees { Agrees (IsAt table.new) (arithmetic_of from op (value_at table.old left)
+        (value_at table.old right)) result }
     ensures kept { Keeps table.old table.new }
 {
     let Some(left_kind) = kind_of(table, left) else {
@@ -79,7 +82,8 @@ pub fn shift(
     requires op { (op ≡ Shl) ⊎ (op ≡ Shr) }
     requires left { IsValueAt table.old left }
     requires right { IsValueAt table.old right }
-    ensures agrees { Agrees (IsAt table.new) (shift_of from op (value_at table.old left) (value_at table.old right)) result }
+    ensures agrees { Agrees (IsAt table.new) (shift_of from op (value_at table.old left)
+        (value_at table.old right)) result }
     ensures kept { Keeps table.old table.new }
 {
     let Some(left_kind) = kind_of(table, left) else {

@@ -27,7 +27,9 @@ fn step_value(
     operand: NodeId,
 ) -> Result<NodeId, TypeError>
     requires { IsNode table.old operand }
-    ensures agrees { Agrees (StandsAt table.new) (a_value (step_by_rules structs.now from (way_in way) (given_in given) (node_at table.old operand))) result }
+    ensures agrees { Agrees (StandsAt table.new)
+        (a_value (step_by_rules structs.now from (way_in way) (given_in given)
+        (node_at table.old operand))) result }
     ensures kept { Keeps table.old table.new }
 {
     step(table, structs, from, way, given, operand)
@@ -41,7 +43,8 @@ fn at_value(
     operand: NodeId,
 ) -> Result<NodeId, TypeError>
     requires { IsNode table.old operand }
-    ensures agrees { Agrees (StandsAt table.new) (pointed_by_rules structs.now from (value_of (node_at table.old operand))) result }
+    ensures agrees { Agrees (StandsAt table.new)
+        (pointed_by_rules structs.now from (value_of (node_at table.old operand))) result }
     ensures kept { Keeps table.old table.new }
 {
     let value = table.value_of(operand)?;
@@ -56,7 +59,8 @@ fn of_value(
     operand: NodeId,
 ) -> Result<NodeId, TypeError>
     requires { IsNode table.old operand }
-    ensures agrees { Agrees (StandsAt table.new) (a_value (signed_operand_by_rules from sign (value_of (node_at table.old operand)))) result }
+    ensures agrees { Agrees (StandsAt table.new)
+        (a_value (signed_operand_by_rules from sign (value_of (node_at table.old operand)))) result }
     ensures kept { Keeps table.old table.new }
 {
     let value = table.value_of(operand)?;
@@ -75,7 +79,8 @@ pub fn prefixed(
     operand: NodeId,
 ) -> Result<NodeId, TypeError>
     requires { IsNode table.old operand }
-    ensures agrees { Agrees (StandsAt table.new) (prefixed_by_rules structs.now from sign (node_at table.old operand)) result }
+    ensures agrees { Agrees (StandsAt table.new)
+        (prefixed_by_rules structs.now from sign (node_at table.old operand)) result }
     ensures kept { Keeps table.old table.new }
 {
     match sign {
@@ -96,7 +101,8 @@ pub fn postfixed(
     operand: NodeId,
 ) -> Result<NodeId, TypeError>
     requires { IsNode table.old operand }
-    ensures agrees { Agrees (StandsAt table.new) (postfixed_by_rules structs.now from sign (node_at table.old operand)) result }
+    ensures agrees { Agrees (StandsAt table.new)
+        (postfixed_by_rules structs.now from sign (node_at table.old operand)) result }
     ensures kept { Keeps table.old table.new }
 {
     match sign {

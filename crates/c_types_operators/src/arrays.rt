@@ -36,7 +36,8 @@ pub fn complete(
     ty: TypeId,
 ) -> Result<(), TypeError>
     requires { ty.0 < length table.now.types }
-    ensures agrees { Agrees IsNothing (complete_by_rules structs.now from (type_at table.now.types ty)) result }
+    ensures agrees { Agrees IsNothing (complete_by_rules structs.now from (type_at table.now.types ty))
+        result }
     ensures memory { result ≢ Err TypeError.Memory }
 {
     match size_of(table, structs, ty) {

@@ -55,7 +55,8 @@ fn simple(
 ) -> Result<NodeId, TypeError>
     requires object { IsObjectAt table.old object }
     requires value { IsValueAt table.old value }
-    ensures agrees { Agrees (IsAt table.new) (simple_by_rules from (object_at table.old object) (value_at table.old value)) result }
+    ensures agrees { Agrees (IsAt table.new) (simple_by_rules from (object_at table.old object)
+        (value_at table.old value)) result }
     ensures kept { Keeps table.old table.new }
 {
     let ty = table.type_of(object);
@@ -77,7 +78,8 @@ pub fn assignment(
 ) -> Result<NodeId, TypeError>
     requires left { IsNode table.old left }
     requires value { IsValueAt table.old value }
-    ensures agrees { Agrees (IsAt table.new) (assignment_by_rules structs.now from sign (node_at table.old left) (value_at table.old value)) result }
+    ensures agrees { Agrees (IsAt table.new) (assignment_by_rules structs.now from sign
+        (node_at table.old left) (value_at table.old value)) result }
     ensures kept { Keeps table.old table.new }
 {
     if !is_scalar_object(table, left) {

@@ -29,7 +29,8 @@ pub fn binary(
 ) -> Result<NodeId, TypeError>
     requires left { IsValueAt table.old left }
     requires right { IsValueAt table.old right }
-    ensures agrees { Agrees (IsAt table.new) (binary_of structs.now from sign (value_at table.old left) (value_at table.old right)) result }
+    ensures agrees { Agrees (IsAt table.new) (binary_of structs.now from sign (value_at table.old left)
+        (value_at table.old right)) result }
     ensures kept { Keeps table.old table.new }
 {
     match sign {

@@ -47,7 +47,8 @@ fn of_function(table: &TypedTable, from: u32, callee: NodeId) -> Result<CallTarg
 // The call through a value, which must be a pointer to a function.
 fn through(table: &mut TypedTable, from: u32, value: NodeId) -> Result<CallTarget, TypeError>
     requires { IsValueAt table.old value }
-    ensures agrees { Agrees (IsCalled table.new) (called_value from (value_at table.old value) (value_type (value_at table.old value))) result }
+    ensures agrees { Agrees (IsCalled table.new)
+        (called_value from (value_at table.old value) (value_type (value_at table.old value))) result }
     ensures kept { Keeps table.old table.new }
 {
     let Some(target) = target_of(table, value) else {
@@ -83,7 +84,8 @@ pub fn builtin_called(
     from: u32,
     builtin: Builtin,
 ) -> Result<CallTarget, TypeError>
-    ensures agrees { Agrees (IsCalled table.new) (called_by_rules from (AFunction (BuiltinFunction from builtin) (prototype_of builtin))) result }
+    ensures agrees { Agrees (IsCalled table.new)
+        (called_by_rules from (AFunction (BuiltinFunction from builtin) (prototype_of builtin))) result }
     ensures kept { Keeps table.old table.new }
 {
     let ty = add_prototype(alloc, table, builtin)?;

@@ -29,7 +29,9 @@ fn like_the_first(
     requires condition { IsValueAt table.old condition }
     requires a { IsValueAt table.old a }
     requires b { IsValueAt table.old b }
-    ensures added { IfOk result (IsAt table.new (Choice (value_at table.old condition) (value_at table.old a) (Convert (value_type (value_at table.old a)) (value_at table.old b)))) }
+    ensures added { IfOk result (IsAt table.new
+        (Choice (value_at table.old condition) (value_at table.old a)
+        (Convert (value_type (value_at table.old a)) (value_at table.old b)))) }
     ensures kept { Keeps table.old table.new }
 {
     let ty = table.type_of(a);
@@ -47,7 +49,9 @@ fn like_the_second(
     requires condition { IsValueAt table.old condition }
     requires a { IsValueAt table.old a }
     requires b { IsValueAt table.old b }
-    ensures added { IfOk result (IsAt table.new (Choice (value_at table.old condition) (Convert (value_type (value_at table.old b)) (value_at table.old a)) (value_at table.old b))) }
+    ensures added { IfOk result (IsAt table.new
+        (Choice (value_at table.old condition)
+        (Convert (value_type (value_at table.old b)) (value_at table.old a)) (value_at table.old b))) }
     ensures kept { Keeps table.old table.new }
 {
     let ty = table.type_of(b);
@@ -64,12 +68,16 @@ fn pointers(
     a: NodeId,
     b: NodeId,
 ) -> Result<NodeId, TypeError>
-    requires first_target { (targets.0.0 < length table.old.types) × (value_type (value_at table.old a) ≡ PointerTo (type_at table.old.types targets.0)) }
-    requires second_target { (targets.1.0 < length table.old.types) × (value_type (value_at table.old b) ≡ PointerTo (type_at table.old.types targets.1)) }
+    requires first_target { (targets.0.0 < length table.old.types) ×
+        (value_type (value_at table.old a) ≡ PointerTo (type_at table.old.types targets.0)) }
+    requires second_target { (targets.1.0 < length table.old.types) ×
+        (value_type (value_at table.old b) ≡ PointerTo (type_at table.old.types targets.1)) }
     requires condition { IsValueAt table.old condition }
     requires a { IsValueAt table.old a }
     requires b { IsValueAt table.old b }
-    ensures agrees { Agrees (IsAt table.new) (pointers_chosen from (value_at table.old condition) (value_at table.old a) (value_at table.old b) (type_at table.old.types targets.0) (type_at table.old.types targets.1)) result }
+    ensures agrees { Agrees (IsAt table.new) (pointers_chosen from (value_at table.old condition)
+        (value_at table.old a) (value_at table.old b) (type_at table.old.types targets.0)
+        (type_at table.old.types targets.1)) result }
     ensures kept { Keeps table.old table.new }
 {
     if matches!(table.types().get(targets.0), Ty::Void) {
@@ -92,7 +100,9 @@ fn null_on_the_right(
     requires condition { IsValueAt table.old condition }
     requires a { IsValueAt table.old a }
     requires b { IsValueAt table.old b }
-    ensures agrees { Agrees (IsAt table.new) (if_kept from 20 (is_null (value_at table.old b)) (Fine (Choice (value_at table.old condition) (value_at table.old a) (Convert (value_type (value_at table.old a)) (value_at table.old b))))) result }
+    ensures agrees { Agrees (IsAt table.new) (if_kept from 20 (is_null (value_at table.old b))
+        (Fine (Choice (value_at table.old condition) (value_at table.old a)
+        (Convert (value_type (value_at table.old a)) (value_at table.old b))))) result }
     ensures kept { Keeps table.old table.new }
 {
     if !table.is_null(b) {
@@ -111,7 +121,10 @@ fn null_on_the_left(
     requires condition { IsValueAt table.old condition }
     requires a { IsValueAt table.old a }
     requires b { IsValueAt table.old b }
-    ensures agrees { Agrees (IsAt table.new) (if_kept from 20 (is_null (value_at table.old a)) (Fine (Choice (value_at table.old condition) (Convert (value_type (value_at table.old b)) (value_at table.old a)) (value_at table.old b)))) result }
+    ensures agrees { Agrees (IsAt table.new) (if_kept from 20 (is_null (value_at table.old a))
+        (Fine (Choice (value_at table.old condition)
+        (Convert (value_type (value_at table.old b)) (value_at table.old a)) (value_at table.old b))))
+        result }
     ensures kept { Keeps table.old table.new }
 {
     if !table.is_null(a) {
@@ -131,7 +144,8 @@ fn integers(
     requires condition { IsValueAt table.old condition }
     requires a { IsValueAt table.old a }
     requires b { IsValueAt table.old b }
-    ensures agrees { Agrees (IsAt table.new) (integers_chosen from (value_at table.old condition) (value_at table.old a) (value_at table.old b)) result }
+    ensures agrees { Agrees (IsAt table.new) (integers_chosen from (value_at table.old condition)
+        (value_at table.old a) (value_at table.old b)) result }
     ensures kept { Keeps table.old table.new }
 {
     let Some(left) = kind_of(table, a) else {
@@ -157,7 +171,9 @@ fn unlike(
     requires condition { IsValueAt table.old condition }
     requires a { IsValueAt table.old a }
     requires b { IsValueAt table.old b }
-    ensures agrees { Agrees (IsAt table.new) (unlike_chosen from (value_at table.old condition) (value_at table.old a) (value_at table.old b) (value_type (value_at table.old a)) (value_type (value_at table.old b))) result }
+    ensures agrees { Agrees (IsAt table.new) (unlike_chosen from (value_at table.old condition)
+        (value_at table.old a) (value_at table.old b) (value_type (value_at table.old a))
+        (value_type (value_at table.old b))) result }
     ensures kept { Keeps table.old table.new }
 {
     match target_of(table, a) {
@@ -176,7 +192,8 @@ fn unlike(
 fn is_settled(table: &TypedTable, a: NodeId, b: NodeId) -> bool
     requires a { IsValueAt table.now a }
     requires b { IsValueAt table.now b }
-    ensures { result ≡ is_settled_types (value_type (value_at table.now a)) (value_type (value_at table.now b)) }
+    ensures { result ≡ is_settled_types (value_type (value_at table.now a))
+        (value_type (value_at table.now b)) }
 {
     are_equal(table, table.type_of(a), table.type_of(b)) && !is_integer(table, a)
 }
@@ -192,7 +209,8 @@ pub fn choice(
     requires condition { IsValueAt table.old condition }
     requires a { IsValueAt table.old a }
     requires b { IsValueAt table.old b }
-    ensures agrees { Agrees (IsAt table.new) (choice_by_rules from (value_at table.old condition) (value_at table.old a) (value_at table.old b)) result }
+    ensures agrees { Agrees (IsAt table.new) (choice_by_rules from (value_at table.old condition)
+        (value_at table.old a) (value_at table.old b)) result }
     ensures kept { Keeps table.old table.new }
 {
     if !is_scalar(table, condition) {

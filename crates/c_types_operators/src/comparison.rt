@@ -40,7 +40,9 @@ fn two_pointers(
     requires right_target { targets.1.0 < length table.old.types }
     requires left { IsValueAt table.old left }
     requires right { IsValueAt table.old right }
-    ensures agrees { Agrees (IsAt table.new) (if_kept from 5 (are_comparable_types (type_at table.old.types targets.0) (type_at table.old.types targets.1)) (Fine (PointerComparison op (value_at table.old left) (value_at table.old right)))) result }
+    ensures agrees { Agrees (IsAt table.new) (if_kept from 5
+        (are_comparable_types (type_at table.old.types targets.0) (type_at table.old.types targets.1))
+        (Fine (PointerComparison op (value_at table.old left) (value_at table.old right)))) result }
     ensures kept { Keeps table.old table.new }
 {
     if !are_comparable(table, targets.0, targets.1) {
@@ -59,7 +61,9 @@ fn null_on_the_right(
 ) -> Result<NodeId, TypeError>
     requires left { IsValueAt table.old left }
     requires right { IsValueAt table.old right }
-    ensures agrees { Agrees (IsAt table.new) (if_kept from 5 (is_null (value_at table.old right)) (Fine (PointerComparison op (value_at table.old left) (Convert (value_type (value_at table.old left)) (value_at table.old right))))) result }
+    ensures agrees { Agrees (IsAt table.new) (if_kept from 5 (is_null (value_at table.old right))
+        (Fine (PointerComparison op (value_at table.old left)
+        (Convert (value_type (value_at table.old left)) (value_at table.old right))))) result }
     ensures kept { Keeps table.old table.new }
 {
     if !table.is_null(right) {
@@ -79,7 +83,9 @@ fn null_on_the_left(
 ) -> Result<NodeId, TypeError>
     requires left { IsValueAt table.old left }
     requires right { IsValueAt table.old right }
-    ensures agrees { Agrees (IsAt table.new) (if_kept from 5 (is_null (value_at table.old left)) (Fine (PointerComparison op (Convert (value_type (value_at table.old right)) (value_at table.old left)) (value_at table.old right)))) result }
+    ensures agrees { Agrees (IsAt table.new) (if_kept from 5 (is_null (value_at table.old left))
+        (Fine (PointerComparison op (Convert (value_type (value_at table.old right))
+        (value_at table.old left)) (value_at table.old right)))) result }
     ensures kept { Keeps table.old table.new }
 {
     if !table.is_null(left) {
@@ -100,7 +106,8 @@ pub fn comparison(
 ) -> Result<NodeId, TypeError>
     requires left { IsValueAt table.old left }
     requires right { IsValueAt table.old right }
-    ensures agrees { Agrees (IsAt table.new) (comparison_of from op (value_at table.old left) (value_at table.old right)) result }
+    ensures agrees { Agrees (IsAt table.new) (comparison_of from op (value_at table.old left)
+        (value_at table.old right)) result }
     ensures kept { Keeps table.old table.new }
 {
     match target_of(table, left) {

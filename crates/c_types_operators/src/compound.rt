@@ -43,7 +43,8 @@ fn changed(
 ) -> Result<NodeId, TypeError>
     requires object { IsObjectAt table.old object }
     requires value { IsValueAt table.old value }
-    ensures agrees { Agrees (IsAt table.new) (changed_of from op (object_at table.old object) kind (value_at table.old value)) result }
+    ensures agrees { Agrees (IsAt table.new) (changed_of from op (object_at table.old object) kind
+        (value_at table.old value)) result }
     ensures kept { Keeps table.old table.new }
 {
     let Some(other) = kind_of(table, value) else {
@@ -67,7 +68,8 @@ fn moved(
     requires object { IsObjectAt table.old object }
     requires target { target.0 < length table.old.types }
     requires index { IsValueAt table.old index }
-    ensures agrees { Agrees (IsAt table.new) (moved_of structs.now from (way_in way) (object_at table.old object) (type_at table.old.types target) (value_at table.old index)) result }
+    ensures agrees { Agrees (IsAt table.new) (moved_of structs.now from (way_in way)
+        (object_at table.old object) (type_at table.old.types target) (value_at table.old index)) result }
     ensures kept { Keeps table.old table.new }
 {
     let Some(size) = size_of(table, structs, target) else {
@@ -98,7 +100,8 @@ fn on_pointer(
     requires object { IsObjectAt table.old object }
     requires target { target.0 < length table.old.types }
     requires value { IsValueAt table.old value }
-    ensures agrees { Agrees (IsAt table.new) (compound_of structs.now from op (object_at table.old object) (PointerTo (type_at table.old.types target)) (value_at table.old value)) result }
+    ensures agrees { Agrees (IsAt table.new) (compound_of structs.now from op (object_at table.old object)
+        (PointerTo (type_at table.old.types target)) (value_at table.old value)) result }
     ensures kept { Keeps table.old table.new }
 {
     match op {
@@ -112,7 +115,8 @@ fn on_pointer(
 fn sum_is_pointer(table: &TypedTable, structs: &[Extent], left: TypeId, target: TypeId) -> bool
     requires left { left.0 < length table.now.types }
     requires target { target.0 < length table.now.types }
-    ensures { result ≡ sum_is_pointer_of structs.now (type_at table.now.types left) (PointerTo (type_at table.now.types target)) }
+    ensures { result ≡ sum_is_pointer_of structs.now (type_at table.now.types left)
+        (PointerTo (type_at table.now.types target)) }
 {
     match scalar_in(table, left) {
         Some(Scalar::Integer(_)) => size_of(table, structs, target).is_some(),
@@ -129,7 +133,8 @@ fn difference_is_integer(
 ) -> bool
     requires left { left.0 < length table.now.types }
     requires target { target.0 < length table.now.types }
-    ensures { result ≡ difference_is_integer_of structs.now (type_at table.now.types left) (PointerTo (type_at table.now.types target)) }
+    ensures { result ≡ difference_is_integer_of structs.now (type_at table.now.types left)
+        (PointerTo (type_at table.now.types target)) }
 {
     match scalar_in(table, left) {
         Some(Scalar::Pointer(own)) => are_equal(table, own, target)
@@ -148,7 +153,8 @@ fn rule_of_right(
 ) -> u8
     requires object { IsObjectAt table.now object }
     requires value { IsValueAt table.now value }
-    ensures { result ≡ rule_of_right_by structs.now op (object_type (object_at table.now object)) (value_type (value_at table.now value)) }
+    ensures { result ≡ rule_of_right_by structs.now op (object_type (object_at table.now object))
+        (value_type (value_at table.now value)) }
 {
     let Some(target) = target_of(table, value) else {
         return 5;
@@ -173,7 +179,8 @@ fn on_object(
 ) -> Result<NodeId, TypeError>
     requires object { IsObjectAt table.old object }
     requires value { IsValueAt table.old value }
-    ensures agrees { Agrees (IsAt table.new) (compound_of structs.now from op (object_at table.old object) (object_type (object_at table.old object)) (value_at table.old value)) result }
+    ensures agrees { Agrees (IsAt table.new) (compound_of structs.now from op (object_at table.old object)
+        (object_type (object_at table.old object)) (value_at table.old value)) result }
     ensures kept { Keeps table.old table.new }
 {
     match scalar_in(table, table.type_of(object)) {
@@ -196,7 +203,8 @@ pub fn compound(
 ) -> Result<NodeId, TypeError>
     requires object { IsObjectAt table.old object }
     requires value { IsValueAt table.old value }
-    ensures agrees { Agrees (IsAt table.new) (assignment_of structs.now from (Some op) (object_at table.old object) (value_at table.old value)) result }
+    ensures agrees { Agrees (IsAt table.new) (assignment_of structs.now from (Some op)
+        (object_at table.old object) (value_at table.old value)) result }
     ensures kept { Keeps table.old table.new }
 {
     if !is_integer(table, value) {

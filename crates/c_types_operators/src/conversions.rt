@@ -46,7 +46,8 @@ pub fn cast(
 ) -> Result<NodeId, TypeError>
     requires ty { ty.0 < length table.old.types }
     requires value { IsValueAt table.old value }
-    ensures agrees { Agrees (IsAt table.new) (cast_of from (type_at table.old.types ty) (value_at table.old value)) result }
+    ensures agrees { Agrees (IsAt table.new) (cast_of from (type_at table.old.types ty)
+        (value_at table.old value)) result }
     ensures kept { Keeps table.old table.new }
 {
     if !can_cast(table, ty, value) {
@@ -79,7 +80,8 @@ fn are_compatible(table: &TypedTable, a: TypeId, b: TypeId) -> bool
 fn fits(table: &TypedTable, ty: TypeId, value: NodeId) -> bool
     requires ty { ty.0 < length table.now.types }
     requires value { IsValueAt table.now value }
-    ensures { result ≡ fits_types (type_at table.now.types ty) (value_type (value_at table.now value)) (value_at table.now value) }
+    ensures { result ≡ fits_types (type_at table.now.types ty) (value_type (value_at table.now value))
+        (value_at table.now value) }
 {
     let of = table.types().get(table.type_of(value));
     match table.types().get(ty) {
@@ -102,7 +104,8 @@ pub fn assigned(
 ) -> Result<NodeId, TypeError>
     requires ty { ty.0 < length table.old.types }
     requires value { IsValueAt table.old value }
-    ensures agrees { Agrees (IsAt table.new) (assigned_of from (type_at table.old.types ty) (value_at table.old value)) result }
+    ensures agrees { Agrees (IsAt table.new) (assigned_of from (type_at table.old.types ty)
+        (value_at table.old value)) result }
     ensures kept { Keeps table.old table.new }
 {
     if !fits(table, ty, value) {

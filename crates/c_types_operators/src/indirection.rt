@@ -17,7 +17,8 @@ pub fn pointed(
     value: NodeId,
 ) -> Result<NodeId, TypeError>
     requires { IsValueAt table.old value }
-    ensures agrees { Agrees (StandsAt table.new) (pointed_of structs.now from (value_at table.old value)) result }
+    ensures agrees { Agrees (StandsAt table.new) (pointed_of structs.now from (value_at table.old value))
+        result }
     ensures kept { Keeps table.old table.new }
 {
     let Some(target) = target_of(table, value) else {

@@ -20,7 +20,8 @@ pub fn both(
 ) -> Result<NodeId, TypeError>
     requires left { IsValueAt table.old left }
     requires right { IsValueAt table.old right }
-    ensures agrees { Agrees (IsAt table.new) (logical from Both (value_at table.old left) (value_at table.old right)) result }
+    ensures agrees { Agrees (IsAt table.new) (logical from Both (value_at table.old left)
+        (value_at table.old right)) result }
     ensures kept { Keeps table.old table.new }
 {
     if !is_scalar(table, left) {
@@ -41,7 +42,8 @@ pub fn either(
 ) -> Result<NodeId, TypeError>
     requires left { IsValueAt table.old left }
     requires right { IsValueAt table.old right }
-    ensures agrees { Agrees (IsAt table.new) (logical from Either (value_at table.old left) (value_at table.old right)) result }
+    ensures agrees { Agrees (IsAt table.new) (logical from Either (value_at table.old left)
+        (value_at table.old right)) result }
     ensures kept { Keeps table.old table.new }
 {
     if !is_scalar(table, left) {
@@ -57,7 +59,8 @@ pub fn either(
 pub fn sequence(table: &mut TypedTable, left: NodeId, right: NodeId) -> Result<NodeId, TypeError>
     requires left { IsValueAt table.old left }
     requires right { IsValueAt table.old right }
-    ensures agrees { Agrees (IsAt table.new) (Fine (Sequence (value_at table.old left) (value_at table.old right))) result }
+    ensures agrees { Agrees (IsAt table.new) (Fine
+        (Sequence (value_at table.old left) (value_at table.old right))) result }
     ensures kept { Keeps table.old table.new }
 {
     Ok(table.add(Node::Sequence(left, right))?)

@@ -28,7 +28,8 @@ pub fn pointer_sum(
     requires target { target.0 < length table.old.types }
     requires pointer { IsValueAt table.old pointer }
     requires index { IsValueAt table.old index }
-    ensures agrees { Agrees (IsAt table.new) (pointer_sum_of structs.now from 5 (sum_in sum) (type_at table.old.types target) (value_at table.old pointer) (value_at table.old index)) result }
+    ensures agrees { Agrees (IsAt table.new) (pointer_sum_of structs.now from 5 (sum_in sum)
+        (type_at table.old.types target) (value_at table.old pointer) (value_at table.old index)) result }
     ensures kept { Keeps table.old table.new }
 {
     let Some(size) = size_of(table, structs, target) else {
@@ -56,7 +57,8 @@ pub fn sum(
 ) -> Result<NodeId, TypeError>
     requires left { IsValueAt table.old left }
     requires right { IsValueAt table.old right }
-    ensures agrees { Agrees (IsAt table.new) (sum_of structs.now from (value_at table.old left) (value_at table.old right)) result }
+    ensures agrees { Agrees (IsAt table.new) (sum_of structs.now from (value_at table.old left)
+        (value_at table.old right)) result }
     ensures kept { Keeps table.old table.new }
 {
     match target_of(table, left) {
@@ -89,7 +91,9 @@ pub fn pointer_difference(
     requires right_target { targets.1.0 < length table.old.types }
     requires left { IsValueAt table.old left }
     requires right { IsValueAt table.old right }
-    ensures agrees { Agrees (IsAt table.new) (pointer_difference_of structs.now from (type_at table.old.types targets.0) (type_at table.old.types targets.1) (value_at table.old left) (value_at table.old right)) result }
+    ensures agrees { Agrees (IsAt table.new) (pointer_difference_of structs.now from
+        (type_at table.old.types targets.0) (type_at table.old.types targets.1) (value_at table.old left)
+        (value_at table.old right)) result }
     ensures kept { Keeps table.old table.new }
 {
     if !are_equal(table, targets.0, targets.1) {
@@ -111,7 +115,8 @@ pub fn difference(
 ) -> Result<NodeId, TypeError>
     requires left { IsValueAt table.old left }
     requires right { IsValueAt table.old right }
-    ensures agrees { Agrees (IsAt table.new) (difference_of structs.now from (value_at table.old left) (value_at table.old right)) result }
+    ensures agrees { Agrees (IsAt table.new) (difference_of structs.now from (value_at table.old left)
+        (value_at table.old right)) result }
     ensures kept { Keeps table.old table.new }
 {
     match target_of(table, left) {

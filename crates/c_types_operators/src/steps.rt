@@ -37,7 +37,8 @@ fn stepped(
     object: NodeId,
 ) -> Result<NodeId, TypeError>
     requires { IsObjectAt table.old object }
-    ensures agrees { Agrees (IsAt table.new) (step_of structs.now from (way_in way) (given_in given) (object_at table.old object) (object_type (object_at table.old object))) result }
+    ensures agrees { Agrees (IsAt table.new) (step_of structs.now from (way_in way) (given_in given)
+        (object_at table.old object) (object_type (object_at table.old object))) result }
     ensures kept { Keeps table.old table.new }
 {
     let Some(size) = step_size(table, structs, table.type_of(object)) else {
@@ -65,7 +66,8 @@ pub fn step(
     operand: NodeId,
 ) -> Result<NodeId, TypeError>
     requires { IsNode table.old operand }
-    ensures agrees { Agrees (IsAt table.new) (step_by_rules structs.now from (way_in way) (given_in given) (node_at table.old operand)) result }
+    ensures agrees { Agrees (IsAt table.new) (step_by_rules structs.now from (way_in way) (given_in given)
+        (node_at table.old operand)) result }
     ensures kept { Keeps table.old table.new }
 {
     match table.sort_of(operand) {

@@ -28,7 +28,9 @@ fn element(
     requires target { target.0 < length table.old.types }
     requires pointer { IsValueAt table.old pointer }
     requires index { IsValueAt table.old index }
-    ensures agrees { Agrees (StandsAt table.new) (element_of structs.now from (sum_in sum) (type_at table.old.types target) (value_at table.old pointer) (value_at table.old index)) result }
+    ensures agrees { Agrees (StandsAt table.new)
+        (element_of structs.now from (sum_in sum) (type_at table.old.types target)
+        (value_at table.old pointer) (value_at table.old index)) result }
     ensures kept { Keeps table.old table.new }
 {
     let Some(_size) = size_of(table, structs, target) else {
@@ -56,7 +58,8 @@ pub fn subscript(
 ) -> Result<NodeId, TypeError>
     requires left { IsValueAt table.old left }
     requires right { IsValueAt table.old right }
-    ensures agrees { Agrees (StandsAt table.new) (subscript_of structs.now from (value_at table.old left) (value_at table.old right)) result }
+    ensures agrees { Agrees (StandsAt table.new)
+        (subscript_of structs.now from (value_at table.old left) (value_at table.old right)) result }
     ensures kept { Keeps table.old table.new }
 {
     match target_of(table, left) {

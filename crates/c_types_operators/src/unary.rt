@@ -16,7 +16,8 @@ use r2_num::promote;
 // `+`
 fn promoted(table: &mut TypedTable, from: u32, value: NodeId) -> Result<NodeId, TypeError>
     requires { IsValueAt table.old value }
-    ensures agrees { Agrees (IsAt table.new) (promoted_operand from as_it_is (value_at table.old value)) result }
+    ensures agrees { Agrees (IsAt table.new) (promoted_operand from as_it_is (value_at table.old value))
+        result }
     ensures kept { Keeps table.old table.new }
 {
     let Some(kind) = kind_of(table, value) else {
@@ -29,7 +30,8 @@ fn promoted(table: &mut TypedTable, from: u32, value: NodeId) -> Result<NodeId, 
 // `-`
 fn negated(table: &mut TypedTable, from: u32, value: NodeId) -> Result<NodeId, TypeError>
     requires { IsValueAt table.old value }
-    ensures agrees { Agrees (IsAt table.new) (promoted_operand from Negate (value_at table.old value)) result }
+    ensures agrees { Agrees (IsAt table.new) (promoted_operand from Negate (value_at table.old value))
+        result }
     ensures kept { Keeps table.old table.new }
 {
     let Some(kind) = kind_of(table, value) else {
@@ -43,7 +45,8 @@ fn negated(table: &mut TypedTable, from: u32, value: NodeId) -> Result<NodeId, T
 // `~`
 fn complemented(table: &mut TypedTable, from: u32, value: NodeId) -> Result<NodeId, TypeError>
     requires { IsValueAt table.old value }
-    ensures agrees { Agrees (IsAt table.new) (promoted_operand from Complement (value_at table.old value)) result }
+    ensures agrees { Agrees (IsAt table.new) (promoted_operand from Complement (value_at table.old value))
+        result }
     ensures kept { Keeps table.old table.new }
 {
     let Some(kind) = kind_of(table, value) else {
@@ -57,7 +60,8 @@ fn complemented(table: &mut TypedTable, from: u32, value: NodeId) -> Result<Node
 // `!`
 fn logical_not(table: &mut TypedTable, from: u32, value: NodeId) -> Result<NodeId, TypeError>
     requires { IsValueAt table.old value }
-    ensures agrees { Agrees (IsAt table.new) (signed_operand_of from Sign.Exclamation (value_at table.old value)) result }
+    ensures agrees { Agrees (IsAt table.new) (signed_operand_of from Sign.Exclamation
+        (value_at table.old value)) result }
     ensures kept { Keeps table.old table.new }
 {
     if !is_scalar(table, value) {
@@ -74,7 +78,8 @@ pub fn signed_operand(
     value: NodeId,
 ) -> Result<NodeId, TypeError>
     requires { IsValueAt table.old value }
-    ensures agrees { Agrees (IsAt table.new) (signed_operand_of from sign (value_at table.old value)) result }
+    ensures agrees { Agrees (IsAt table.new) (signed_operand_of from sign (value_at table.old value))
+        result }
     ensures kept { Keeps table.old table.new }
 {
     match sign {

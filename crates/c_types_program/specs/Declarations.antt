@@ -55,22 +55,41 @@ abbrev pub types_in : List Ty → List TypeId → List CType
 types_in types ids = map (type_at types) ids
 
 abbrev pub body_in : Table → Body → tree.Body
-body_in t b = record { from = b.from; locals = types_in t.types b.locals; statements = statement_in t b.statements }
+body_in t b = record {
+  from = b.from;
+  locals = types_in t.types b.locals;
+  statements =
+      statement_in t b.statements;
+}
 
 abbrev pub function_in : Table → Function → sources.Function
-function_in t f = record { name = f.name; type = type_at t.types f.ty; body = option_map (body_in t) f.body }
+function_in t f = record {
+  name = f.name;
+  type = type_at t.types f.ty;
+  body =
+      option_map (body_in t) f.body;
+}
 
 abbrev pub global_in : List Ty → Global → sources.Global
-global_in types g = record { name = g.name; type = type_at types g.ty; value = option_map initial_in g.value }
+global_in types g = record {
+  name = g.name;
+  type = type_at types g.ty;
+  value =
+      option_map initial_in g.value;
+}
 
 -- the struct of a number, whose size and alignment these are
 abbrev pub struct_in : List Ty → List MemberList → (number : ℕ) → Extent → environment.Struct
-struct_in types mss number e = record { members = read_members (type_at types) (members_at mss number); extent = e }
+struct_in types mss number e = record {
+  members = read_members (type_at types) (members_at mss number);
+  extent = e;
+}
 
 -- the structs from a number on, whose sizes and alignments these are
 abbrev pub structs_from : List Ty → List MemberList → (number : ℕ) → List Extent → List environment.Struct
 structs_from types mss number [] = []
-structs_from types mss number (e ∷ es) = struct_in types mss number e ∷ structs_from types mss (suc number) es
+structs_from types mss number (e ∷ es) = struct_in types mss number e ∷
+    structs_from types mss (suc number) es
 
 abbrev pub structs_in : List Ty → Definitions → List environment.Struct
 structs_in types ds = structs_from types ds.members 0 ds.extents

@@ -18,12 +18,15 @@ abbrev mutual
   pub statement_in : Table → Statement → tree.Statement
   statement_in t (statements.Block' shape ss) = tree.Block (row_in t ss)
   statement_in t (statements.Evaluate v) = tree.Evaluate (value_at t v)
-  statement_in t (statements.Initialise place ty v) = tree.Initialise place (type_at t.types ty) (value_at t v)
+  statement_in t (statements.Initialise place ty v) =
+      tree.Initialise place (type_at t.types ty) (value_at t v)
   statement_in t (statements.If' v p s) = tree.If (value_at t v) (statement_in t s)
-  statement_in t (statements.IfElse' v p s q z) = tree.IfElse (value_at t v) (statement_in t s) (statement_in t z)
+  statement_in t (statements.IfElse' v p s q z) =
+      tree.IfElse (value_at t v) (statement_in t s) (statement_in t z)
   statement_in t (statements.While' from v p s) = tree.While from (value_at t v) (statement_in t s)
   statement_in t (statements.Do' from p s v) = tree.Do from (statement_in t s) (value_at t v)
-  statement_in t (statements.For' from shape first v last p s) = tree.For from (row_in t first) (maybe_at t v) (maybe_at t last) (statement_in t s)
+  statement_in t (statements.For' from shape first v last p s) =
+      tree.For from (row_in t first) (maybe_at t v) (maybe_at t last) (statement_in t s)
   statement_in t statements.Break = tree.Break
   statement_in t statements.Continue = tree.Continue
   statement_in t (statements.Return from v) = tree.Return from (maybe_at t v)
@@ -53,7 +56,8 @@ abbrev mutual
   IsStatement t (statements.IfElse' v p s q z) = IsValueAt t v × IsStatement t s × IsStatement t z
   IsStatement t (statements.While' from v p s) = IsValueAt t v × IsStatement t s
   IsStatement t (statements.Do' from p s v) = IsStatement t s × IsValueAt t v
-  IsStatement t (statements.For' from shape first v last p s) = AreStatements t first × IsMaybeAt t v × IsMaybeAt t last × IsStatement t s
+  IsStatement t (statements.For' from shape first v last p s) = AreStatements t first × IsMaybeAt t v ×
+      IsMaybeAt t last × IsStatement t s
   IsStatement t statements.Break = Unit {0}
   IsStatement t statements.Continue = Unit {0}
   IsStatement t (statements.Return from v) = IsMaybeAt t v

@@ -7,6 +7,7 @@ ghost use Rattle.c_types_program.specs.Statements.{IsStatement, statement_in};
 
 /// A law: while a table grows, the statements that are made of what is in it keep what they stand for.
 pub fn statements_keep_their_meaning()
-    ensures meaning { (t u : Table) (s : Statement) → Keeps t u → IsStatement t s → statement_in u s ≡ statement_in t s }
+    ensures meaning { (t u : Table) (s : Statement) → Keeps t u → IsStatement t s →
+        statement_in u s ≡ statement_in t s }
     ensures inside { (t u : Table) (s : Statement) → Keeps t u → IsStatement t s → IsStatement u s }
 {}

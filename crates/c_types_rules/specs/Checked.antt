@@ -1,7 +1,8 @@
 -- What is found where a rule may be broken.
 use Rattle.std.specs.Prelude.{ℕ, Bool, true, false, Option, Some, None}
 
--- a value; a value on whose way stands an object that is too large; or a rule that is broken, and the offset of the node that breaks it
+-- a value; a value on whose way stands an object that is too large; or a rule that is broken, and the
+-- offset of the node that breaks it
 pub data Checked (A : Type 0) : Type 0 where
   Fine : A → Checked A
   Large : A → Checked A

@@ -38,7 +38,8 @@ extents env = map (λ s. s.extent) env.structs
 -- the place of a name in a list
 abbrev pub place_from : ℕ → List ℕ → List (List ℕ) → Option ℕ
 place_from at name [] = None
-place_from at name (other ∷ names) = if same_name name other then Some at else place_from (suc at) name names
+place_from at name (other ∷ names) = if same_name name other then Some at else place_from (suc at) name
+    names
 
 abbrev pub place_in : List ℕ → List (List ℕ) → Option ℕ
 place_in name names = place_from 0 name names
@@ -49,8 +50,10 @@ struct_type tag None = UndefinedStruct tag
 
 -- an integer type of 1, 2, 4 or 8 bytes
 abbrev pub kind_of_bytes : ℕ → Bool → IntKind
-kind_of_bytes bytes true = if bytes == 1 then I8 else if bytes == 2 then I16 else if bytes == 4 then I32 else I64
-kind_of_bytes bytes false = if bytes == 1 then U8 else if bytes == 2 then U16 else if bytes == 4 then U32 else U64
+kind_of_bytes bytes true = if bytes == 1 then I8 else if bytes == 2 then I16 else if bytes == 4 then I32
+    else I64
+kind_of_bytes bytes false = if bytes == 1 then U8 else if bytes == 2 then U16 else if bytes == 4 then U32
+    else U64
 
 -- the type that the words of a declaration make (C11 6.7.2)
 abbrev pub base_type : Environment → Base → CType

@@ -58,7 +58,8 @@ named env from name = meant from name (meaning_of name env.scopes)
 -- the type of a number is the first of its list that can represent it (C11 6.4.4.1, 5)
 abbrev pub number_kind : (value : ℕ) → Suffix → (decimal : Bool) → IntKind
 number_kind n suffixes.Plain true = if nat_lt n (2 ^ 31) then I32 else I64
-number_kind n suffixes.Plain false = if nat_lt n (2 ^ 31) then I32 else if nat_lt n (2 ^ 32) then U32 else if nat_lt n (2 ^ 63) then I64 else U64
+number_kind n suffixes.Plain false = if nat_lt n (2 ^ 31) then I32 else if nat_lt n (2 ^ 32) then U32 else
+    if nat_lt n (2 ^ 63) then I64 else U64
 number_kind n suffixes.U decimal = if nat_lt n (2 ^ 32) then U32 else U64
 number_kind n suffixes.L true = I64
 number_kind n suffixes.L false = if nat_lt n (2 ^ 63) then I64 else U64
@@ -72,7 +73,10 @@ constant k n = Fine (AValue (Constant k n))
 -- the number and the type of a member
 abbrev pub member_from : ℕ → List ℕ → List (List ℕ × CType) → Option (ℕ × CType)
 member_from at name [] = None
-member_from at name ((other, t) ∷ members) = if same_name name other then Some (at, t) else member_from (at + 1) name members
+member_from at name ((other, t) ∷ members) = if same_name name other then Some (
+  at,
+  t,
+) else member_from (at + 1) name members
 
 abbrev pub member_in : List Struct → ℕ → List ℕ → Option (ℕ × CType)
 member_in [] number name = None
@@ -100,20 +104,23 @@ arrow_of env from v t name = Broken from 13
 
 abbrev pub pointed_of : (structs : List Extent) → (from : ℕ) → Value → CType → Checked Typed
 pointed_of structs from v (PointerTo (FunctionOf r ps)) = Fine (AFunction (Through v) (FunctionOf r ps))
-pointed_of structs from v (PointerTo t) = keep from 14 (is_complete structs t) >> Fine (AnObject (Pointed v t))
+pointed_of structs from v (PointerTo t) = keep from 14 (is_complete structs t) >> Fine
+    (AnObject (Pointed v t))
 pointed_of structs from v t = Broken from 14
 
 -- `*` and its operand
 abbrev pub pointed : (structs : List Extent) → (from : ℕ) → Value → Checked Typed
 pointed structs from v = pointed_of structs from v (value_type v)
 
-abbrev pub element : (structs : List Extent) → (from : ℕ) → Sum → (target : CType) → (pointer index : Value) → Checked Typed
+abbrev pub element : (structs : List Extent) → (from : ℕ) → Sum → (target : CType) →
+    (pointer index : Value) → Checked Typed
 element structs from s t p i = do
   keep from 14 (is_complete structs t)
   keep from 14 (is_integer (value_type i))
   Fine (AnObject (Element s p (to_kind I64 i) t))
 
-abbrev pub subscript_of : (structs : List Extent) → (from : ℕ) → Value → Value → CType → CType → Checked Typed
+abbrev pub subscript_of : (structs : List Extent) → (from : ℕ) → Value → Value → CType → CType →
+    Checked Typed
 subscript_of structs from a b (PointerTo t) u = element structs from PointerPlus t a b
 subscript_of structs from a b t (PointerTo u) = element structs from PlusPointer u b a
 subscript_of structs from a b t u = Broken from 14
@@ -259,7 +266,11 @@ abbrev mutual
     b ← expression y env
     subscript (extents env) from (value_of a) (value_of b)
   expression (Call from x xs) env = do
-    f ← elim (builtin_in env x) [ Some b ↦ builtin_called (start_of x) b | None ↦ expression x env >>= called from ]
+    f ← elim (builtin_in env x) [
+      | Some b ↦ builtin_called (start_of x) b
+      | None ↦ expression x env >>=
+          called from
+    ]
     vs ← arguments xs env from f.2
     Fine (AValue (CallOf f.0 vs f.1))
   expression (Member from x name) env = do
@@ -287,7 +298,8 @@ abbrev mutual
     small (is_small (extents env) t)
     Fine t
 
-  -- the type of a declarator, from the part farthest from the name to the nearest; what a pointer leads to and an array consists of is small
+  -- the type of a declarator, from the part farthest from the name to the nearest; what a pointer leads to
+  -- and an array consists of is small
   pub declarator_type : Parts → Environment → CType → Checked CType
   declarator_type NoParts env t = Fine t
   declarator_type (Pointer from ps) env t = do

@@ -66,9 +66,11 @@ abbrev pub number_or : Option ℤ → Checked Known → Checked Known
 number_or (Some n) c = Fine (Number n)
 number_or None c = c
 
--- what is known before a run, whatever the type of its object: an integer constant expression, or an address
+-- what is known before a run, whatever the type of its object: an integer constant expression, or an
+-- address
 abbrev pub known_before : Environment → Expr → Typed → Checked Known
-known_before env x a = number_or (integer_constant (value_of a)) (address_in env x a (named_under_address x))
+known_before env x a = number_or (integer_constant (value_of a))
+    (address_in env x a (named_under_address x))
 
 -- a number as an object of a type has it
 abbrev pub number_as : CType → ℤ → ℤ

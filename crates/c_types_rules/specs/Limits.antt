@@ -75,7 +75,8 @@ first_limit small p =
     if small then
     if nat_le (globals_end p) greatest_object then
     if all_keep (small_frame p) p.functions then None
-    else Some Frame else Some Globals else Some Object else Some Members else Some Params else Some Functions
+    else Some Frame else Some Globals else Some Object else Some Members else Some Params else Some
+    Functions
 
 abbrev pub unless : Program → Option Which → Outcome
 unless p (Some w) = Limit w

@@ -1,4 +1,5 @@
--- What operators make of values, and which rules they break (C11 6.3 and 6.5). `from` is the offset of the node.
+-- What operators make of values, and which rules they break (C11 6.3 and 6.5). `from` is the offset of the
+-- node.
 use Rattle.std.specs.Prelude.{ℕ, Bool, true, false, ◌&&◌, ◌||◌, not, if◌then◌else◌, List, Option, Some, None}
 use Rattle.r2_num.specs.declared.kinds.IntKind.{IntKind}
 use Rattle.r2_num.specs.declared.kinds.IntKind.TheVariants.{I64, U64}
@@ -41,7 +42,8 @@ shift from op a b = do
   Fine (Arithmetic op (promoted j) (to_kind (promoted j) a) (to_kind (promoted k) b))
 
 -- a pointer to a complete object and an integer (C11 6.5.6, 2 and 3)
-abbrev pub pointer_sum : (structs : List Extent) → (from rule : ℕ) → Sum → (target : CType) → (pointer index : Value) → Checked Value
+abbrev pub pointer_sum : (structs : List Extent) → (from rule : ℕ) → Sum → (target : CType) →
+    (pointer index : Value) → Checked Value
 pointer_sum structs from rule s t p i = do
   keep from rule (is_complete structs t)
   keep from rule (is_integer (value_type i))
@@ -55,12 +57,14 @@ sum_of structs from a b t u = arithmetic from Add a b
 abbrev pub sum : (structs : List Extent) → (from : ℕ) → Value → Value → Checked Value
 sum structs from a b = sum_of structs from a b (value_type a) (value_type b)
 
-abbrev pub pointer_difference : (structs : List Extent) → (from : ℕ) → CType → CType → Value → Value → Checked Value
+abbrev pub pointer_difference : (structs : List Extent) → (from : ℕ) → CType → CType → Value → Value →
+    Checked Value
 pointer_difference structs from t u a b = do
   keep from 5 (same_type t u && is_complete structs t)
   Fine (PointerDifference a b (size_in structs t))
 
-abbrev pub difference_of : (structs : List Extent) → (from : ℕ) → Value → Value → CType → CType → Checked Value
+abbrev pub difference_of : (structs : List Extent) → (from : ℕ) → Value → Value → CType → CType →
+    Checked Value
 difference_of structs from a b (PointerTo t) (PointerTo u) = pointer_difference structs from t u a b
 difference_of structs from a b (PointerTo t) u = pointer_sum structs from 5 PointerMinus t a b
 difference_of structs from a b t u = arithmetic from Sub a b
@@ -73,9 +77,12 @@ abbrev pub are_comparable : CType → CType → Bool
 are_comparable t u = same_type t u || (is_void t || is_void u)
 
 abbrev pub comparison_of : (from : ℕ) → Op → Value → Value → CType → CType → Checked Value
-comparison_of from op a b (PointerTo t) (PointerTo u) = keep from 5 (are_comparable t u) >> Fine (PointerComparison op a b)
-comparison_of from op a b (PointerTo t) u = keep from 5 (is_null b) >> Fine (PointerComparison op a (Convert (PointerTo t) b))
-comparison_of from op a b t (PointerTo u) = keep from 5 (is_null a) >> Fine (PointerComparison op (Convert (PointerTo u) a) b)
+comparison_of from op a b (PointerTo t) (PointerTo u) =
+    keep from 5 (are_comparable t u) >> Fine (PointerComparison op a b)
+comparison_of from op a b (PointerTo t) u = keep from 5 (is_null b) >> Fine
+    (PointerComparison op a (Convert (PointerTo t) b))
+comparison_of from op a b t (PointerTo u) = keep from 5 (is_null a) >> Fine
+    (PointerComparison op (Convert (PointerTo u) a) b)
 comparison_of from op a b t u = arithmetic from op a b
 
 -- integers, or pointers, or a pointer and the constant 0 (C11 6.5.8, 6.5.9)
@@ -134,7 +141,8 @@ signed_operand from _ v = Broken from 5
 -- a value of this type may be assigned to an object of that one (C11 6.5.16.1)
 abbrev pub fits : CType → CType → Value → Bool
 fits (Integer j) (Integer k) v = true
-fits (PointerTo t) (PointerTo u) v = same_type t u || ((is_void t && is_object u) || (is_object t && is_void u))
+fits (PointerTo t) (PointerTo u) v = same_type t u ||
+    ((is_void t && is_object u) || (is_object t && is_void u))
 fits (PointerTo t) (Integer k) v = is_null v
 fits _ _ v = false
 
@@ -174,7 +182,8 @@ changed from op o j b = do
   k ← integer_kind from b
   Fine (Changed o op (common_of j k) (to_kind (common_of j k) b))
 
-abbrev pub moved : (structs : List Extent) → (from : ℕ) → Way → Object → (target : CType) → Value → Checked Value
+abbrev pub moved : (structs : List Extent) → (from : ℕ) → Way → Object → (target : CType) → Value →
+    Checked Value
 moved structs from w o t i = do
   keep from 5 (is_complete structs t)
   keep from 5 (is_integer (value_type i))
@@ -186,7 +195,8 @@ compound_of structs from Add o (PointerTo t) b = moved structs from Up o t b
 compound_of structs from Sub o (PointerTo t) b = moved structs from Down o t b
 compound_of structs from op o t b = Broken from 5
 
--- whether the sum of these is a pointer, and the difference of these an integer: neither fits the object on the left (C11 6.5.6)
+-- whether the sum of these is a pointer, and the difference of these an integer: neither fits the object on
+-- the left (C11 6.5.6)
 abbrev pub sum_is_pointer : (structs : List Extent) → (left right : CType) → Bool
 sum_is_pointer structs (Integer j) (PointerTo u) = is_complete structs u
 sum_is_pointer structs _ _ = false
@@ -220,7 +230,8 @@ assignment structs from s a b = do
 
 abbrev pub step_of : (structs : List Extent) → (from : ℕ) → Way → Given → Object → CType → Checked Value
 step_of structs from w g o (Integer k) = Fine (Stepped o w g 1)
-step_of structs from w g o (PointerTo t) = keep from 8 (is_complete structs t) >> Fine (Stepped o w g (size_in structs t))
+step_of structs from w g o (PointerTo t) = keep from 8 (is_complete structs t) >> Fine
+    (Stepped o w g (size_in structs t))
 step_of structs from w g o t = Broken from 8
 
 -- `++` and `--` (C11 6.5.2.4, 6.5.3.1)
@@ -234,10 +245,13 @@ pointers_chosen from c a b t Void = Fine (Choice c (Convert (PointerTo Void) a) 
 pointers_chosen from c a b t u = Broken from 20
 
 abbrev pub unlike_chosen : (from : ℕ) → Value → Value → Value → CType → CType → Checked Value
-unlike_chosen from c a b (Integer j) (Integer k) = Fine (Choice c (to_kind (common_of j k) a) (to_kind (common_of j k) b))
+unlike_chosen from c a b (Integer j) (Integer k) =
+    Fine (Choice c (to_kind (common_of j k) a) (to_kind (common_of j k) b))
 unlike_chosen from c a b (PointerTo t) (PointerTo u) = pointers_chosen from c a b t u
-unlike_chosen from c a b (PointerTo t) u = keep from 20 (is_null b) >> Fine (Choice c a (Convert (PointerTo t) b))
-unlike_chosen from c a b t (PointerTo u) = keep from 20 (is_null a) >> Fine (Choice c (Convert (PointerTo u) a) b)
+unlike_chosen from c a b (PointerTo t) u = keep from 20 (is_null b) >> Fine
+    (Choice c a (Convert (PointerTo t) b))
+unlike_chosen from c a b t (PointerTo u) = keep from 20 (is_null a) >> Fine
+    (Choice c (Convert (PointerTo u) a) b)
 unlike_chosen from c a b t u = Broken from 20
 
 -- arms of equal type stay as they are, but integers are converted to their common kind
@@ -248,7 +262,8 @@ is_settled t u = same_type t u && not (is_integer t)
 abbrev pub choice : (from : ℕ) → Value → Value → Value → Checked Value
 choice from c a b = do
   scalar from c
-  if is_settled (value_type a) (value_type b) then Fine (Choice c a b) else unlike_chosen from c a b (value_type a) (value_type b)
+  if is_settled (value_type a) (value_type b) then Fine (Choice c a b) else unlike_chosen from c a b
+      (value_type a) (value_type b)
 
 -- to void, among integers, among pointers, and between pointer and long or unsigned long
 abbrev pub can_cast : CType → CType → Bool

@@ -137,12 +137,20 @@ abbrev pub is_main : List ℕ → CType → Bool
 is_main name t = not (same_name name main) || same_type t main_type
 
 -- a function that was declared before is declared again with an equal type (C11 6.7, 4)
-abbrev pub declared_again : Program → (from : ℕ) → CType → Option Meaning → (name : List ℕ) → Checked (ℕ × Program)
-declared_again p from t (Some (FunctionNamed number u)) name = keep from 1 (same_type t u) >> Fine (number, p)
+abbrev pub declared_again : Program → (from : ℕ) → CType → Option Meaning → (name : List ℕ) →
+    Checked (ℕ × Program)
+declared_again p from t (Some (FunctionNamed number u)) name =
+    keep from 1 (same_type t u) >> Fine (number, p)
 declared_again p from t (Some m) name = Broken from 1
 declared_again p from t None name =
     let number = length p.functions + first_source_function in
-    Fine (number, record p { functions = p.functions ++ record { name = name; type = t; body = None } ∷ []; names = (name, FunctionNamed number t) ∷ p.names })
+    Fine (
+      number,
+      record p {
+        functions = p.functions ++ record { name = name; type = t; body = None } ∷ [];
+        names = (name, FunctionNamed number t) ∷ p.names;
+      },
+    )
 
 -- the number of a function, and what is declared with it
 abbrev pub function_declared : Program → (from : ℕ) → CType → (name : List ℕ) → Checked (ℕ × Program)
@@ -179,31 +187,36 @@ block_of s p d = statement s p d
 abbrev pub body_of : Environment → CType → Parts → Stmt → Checked typed.Body
 body_of env t ps s = do
   within ← parameters (nearest ps) (inner env) 0 (params_of t)
-  a ← block_of s (record { result = result_of t; in_loop = false }) (record { env = within; locals = listed (params_of t) })
+  a ← block_of s (record { result = result_of t; in_loop = false })
+      (record { env = within; locals = listed (params_of t) })
   Fine (record { from = start_of_stmt s; locals = a.0; statements = a.1 })
 
 -- a function that has a body once at most
-abbrev pub function_defined : List (List ℕ) → Program → (from place : ℕ) → (name : List ℕ) → CType → Parts → Stmt → Checked Program
+abbrev pub function_defined : List (List ℕ) → Program → (from place : ℕ) → (name : List ℕ) → CType →
+    Parts → Stmt → Checked Program
 function_defined tags p from place name t ps s = do
   keep from 21 (not (is_some (body_at p.functions place)))
   keep from 18 (is_main name t)
   b ← body_of (at_file tags p) t ps s
   Fine (record p { functions = with_body p.functions place b })
 
-abbrev pub function_rest : List (List ℕ) → Program → (from place : ℕ) → (name : List ℕ) → CType → Parts → Rest → Checked Program
+abbrev pub function_rest : List (List ℕ) → Program → (from place : ℕ) → (name : List ℕ) → CType → Parts →
+    Rest → Checked Program
 function_rest tags p from place name t ps NoRest = Fine p
 function_rest tags p from place name t ps (Initial v) = Broken from 16
 function_rest tags p from place name t ps (Body s) = function_defined tags p from place name t ps s
 function_rest tags p from place name t ps (Members ds) = Broken from 3
 
-abbrev pub function : List (List ℕ) → Program → (from : ℕ) → (name : List ℕ) → CType → Parts → Rest → Checked Program
+abbrev pub function : List (List ℕ) → Program → (from : ℕ) → (name : List ℕ) → CType → Parts → Rest →
+    Checked Program
 function tags p from name t ps r = do
   a ← function_declared p from t name
   function_rest tags a.1 from (a.0 - first_source_function) name t ps r
 
 -- ---- globals
 
-abbrev pub global_value : List (List ℕ) → Program → (from : ℕ) → CType → Rest → Checked (Option initials.Initial)
+abbrev pub global_value : List (List ℕ) → Program → (from : ℕ) → CType → Rest →
+    Checked (Option initials.Initial)
 global_value tags p from t NoRest = Fine None
 global_value tags p from t (Initial v) = do
   x ← initials.initial v (at_file tags p) t
@@ -222,12 +235,15 @@ global tags p from name t r = do
 
 -- ---- sources
 
-abbrev pub function_or_global : List (List ℕ) → Program → (from : ℕ) → (name : List ℕ) → CType → Parts → Rest → Checked Program
-function_or_global tags p from name (FunctionOf r ts) ps rest = function tags p from name (FunctionOf r ts) ps rest
+abbrev pub function_or_global : List (List ℕ) → Program → (from : ℕ) → (name : List ℕ) → CType → Parts →
+    Rest → Checked Program
+function_or_global tags p from name (FunctionOf r ts) ps rest =
+    function tags p from name (FunctionOf r ts) ps rest
 function_or_global tags p from name t ps rest = global tags p from name t rest
 
 abbrev pub declaration : List (List ℕ) → Program → Decl → Checked Program
-declaration tags p (Declare from an (bases.Struct tag) ps n (Members ds)) = struct_defined tags p from tag ds
+declaration tags p (Declare from an (bases.Struct tag) ps n (Members ds)) =
+    struct_defined tags p from tag ds
 declaration tags p (Declare from an b ps n r) = do
   annotation_types an (at_file tags p)
   t ← declared_type (Declare from an b ps n r) (at_file tags p)

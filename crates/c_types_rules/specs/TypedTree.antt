@@ -28,7 +28,8 @@ mutual
   pub data Object : Type 0 where
     -- the global of this place, in the order of the source, where its name stands at this offset
     GlobalObject : (from place : ℕ) → CType → Object
-    -- the parameter or local of this place: first the parameters and then all locals of the function, in the order of the source
+    -- the parameter or local of this place: first the parameters and then all locals of the function, in
+    -- the order of the source
     LocalObject : (place : ℕ) → CType → Object
     -- the string that stands at this offset, without its ending zero so long
     TextObject : (from length : ℕ) → Object
@@ -118,7 +119,8 @@ abbrev pub joined : Statements → Statements → Statements
 joined NoStatements b = b
 joined (MoreStatements s a) b = MoreStatements s (joined a b)
 
--- what a function does: the offset of its outermost block, the types of its parameters and locals by place, and its statements
+-- what a function does: the offset of its outermost block, the types of its parameters and locals by place,
+-- and its statements
 pub record Body : Type 0 where
   pub from : ℕ
   pub locals : List CType
@@ -180,7 +182,8 @@ typed_type (AnObject o) = object_type o
 typed_type (AFunction f t) = t
 typed_type (AValue v) = value_type v
 
--- an array is converted to the address of its first element, any other object to what it holds (C11 6.3.2.1, 2 and 3)
+-- an array is converted to the address of its first element, any other object to what it holds (C11
+-- 6.3.2.1, 2 and 3)
 abbrev pub read_as : Object → CType → Value
 read_as o (ArrayOf n t) = AddressOf o (PointerTo t)
 read_as o t = ReadOf o

@@ -35,13 +35,15 @@ local_type env (Declare from an b ps n r) = do
   Fine t
 
 -- where a local's first value stands
-abbrev pub local_scope : Environment → (from : ℕ) → Option (List ℕ) → (place : ℕ) → CType → Checked Environment
+abbrev pub local_scope : Environment → (from : ℕ) → Option (List ℕ) → (place : ℕ) → CType →
+    Checked Environment
 local_scope env from n place t = do
   declarable env from (declared_name n)
   Fine (with_name env (declared_name n) (LocalNamed place t))
 
 -- a `for` at an offset, in the scope where its names stand
-abbrev pub for_here : (from : ℕ) → First → (x y : MaybeExpr) → Stmt → Surroundings → Declared → Checked (List CType × Statement)
+abbrev pub for_here : (from : ℕ) → First → (x y : MaybeExpr) → Stmt → Surroundings → Declared →
+    Checked (List CType × Statement)
 for_here from f x y s p d = do
   a ← first f p d
   c ← maybe_condition a.0.env x
@@ -53,5 +55,6 @@ for_here from f x y s p d = do
 abbrev pub body_here : Environment → CType → Decls → Stmt → Checked typed.Body
 body_here env t ds s = do
   within ← parameters ds env 0 (params_of t)
-  a ← block_of s (record { result = result_of t; in_loop = false }) (record { env = within; locals = listed (params_of t) })
+  a ← block_of s (record { result = result_of t; in_loop = false })
+      (record { env = within; locals = listed (params_of t) })
   Fine (record { from = start_of_stmt s; locals = a.0; statements = a.1 })

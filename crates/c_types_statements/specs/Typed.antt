@@ -74,7 +74,8 @@ abbrev pub AreAdded : Table → typed.Statements → (old new : List Statement) 
 AreAdded t xs old new = (more : List Statement) × (new ≡ old ++ more) × StatementsStand t xs more
 
 -- the same, with what is declared after them
-abbrev pub AddsDeclared : State → List TypeId → (old new : List Statement) → Declared × typed.Statements → Unit {0} → Type 0
+abbrev pub AddsDeclared : State → List TypeId → (old new : List Statement) → Declared × typed.Statements →
+    Unit {0} → Type 0
 AddsDeclared s locals old new x y = (declared_in s locals ≡ x.0) × AreAdded s.table x.1 old new
 
 -- the types that a function of this type gives and takes

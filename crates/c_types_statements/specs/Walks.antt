@@ -1,4 +1,5 @@
--- Which numbers stand for parts of a source that hold statements. All numbers that are written in these are such as types can represent.
+-- Which numbers stand for parts of a source that hold statements. All numbers that are written in these are
+-- such as types can represent.
 use Rattle.std.specs.Prelude.{List, Option}
 use Rattle.c_syntax.specs.declared.id.ExprId.{ExprId}
 use Rattle.c_syntax.specs.declared.id.StmtId.{StmtId}

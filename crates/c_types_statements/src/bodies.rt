@@ -35,7 +35,9 @@ fn outermost(
     requires id { IsStmt tree.now id }
     requires place { IsBelow (length env.old.table.types) place.result }
     requires locals { All (IsBelow (length env.old.table.types)) locals.old.items }
-    ensures agrees { (s : Stmt) → StandsStmt tree.now id s → Finds env.old env.new (IsTyped env.new locals.new.items) (block_of s (place_in env.old place) (declared_in env.old locals.old.items)) result }
+    ensures agrees { (s : Stmt) → StandsStmt tree.now id s →
+        Finds env.old env.new (IsTyped env.new locals.new.items)
+        (block_of s (place_in env.old place) (declared_in env.old locals.old.items)) result }
     ensures kept { StaysAround env.old env.new }
     ensures locals { All (IsBelow (length env.new.table.types)) locals.new.items }
 {
@@ -60,7 +62,9 @@ fn body_here(
     requires id { IsStmt tree.now id }
     requires result { IsBelow (length env.old.table.types) signature.result }
     requires params { All (IsBelow (length env.old.table.types)) signature.params.items }
-    ensures agrees { (c : CType) (ds : Decls) (s : Stmt) → IsSignature env.old.table.types c signature → StandDecls tree.now ids.now ds → StandsStmt tree.now id s → Finds env.old env.new (BodyStands env.new.table) (body_here_by_rules env.old.env c ds s) result }
+    ensures agrees { (c : CType) (ds : Decls) (s : Stmt) → IsSignature env.old.table.types c signature →
+        StandDecls tree.now ids.now ds → StandsStmt tree.now id s →
+        Finds env.old env.new (BodyStands env.new.table) (body_here_by_rules env.old.env c ds s) result }
     ensures kept { StaysAround env.old env.new }
 {
     let mut locals = signature.params;
@@ -93,7 +97,9 @@ pub fn body(
     requires parts { AreParts tree.now parts.now }
     requires id { IsStmt tree.now id }
     // Where they stand for ps and s, the answer is what the rules say of these.
-    ensures agrees { (ps : Parts) (s : Stmt) → StandParts tree.now parts.now ps → StandsStmt tree.now id s → Finds env.old env.new (BodyStands env.new.table) (body_of env.old.env (type_at env.old.table.types ty) ps s) result }
+    ensures agrees { (ps : Parts) (s : Stmt) → StandParts tree.now parts.now ps →
+        StandsStmt tree.now id s → Finds env.old env.new (BodyStands env.new.table)
+        (body_of env.old.env (type_at env.old.table.types ty) ps s) result }
     // What is declared, and what numbers stand for, is as before, also after an error.
     ensures kept { Stays env.old env.new }
 {

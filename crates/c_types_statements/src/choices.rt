@@ -35,7 +35,10 @@ pub fn choice(
     requires then { IsStmt tree.now then }
     requires place { IsBelow (length env.old.table.types) place.result }
     requires locals { All (IsBelow (length env.old.table.types)) locals.old.items }
-    ensures agrees { (x : Expr) (s : Stmt) → Stands tree.now test x → StandsStmt tree.now then s → Finds env.old env.new (IsTyped env.new locals.new.items) (statement_by_rules (If 0 x s) (place_in env.old place) (declared_in env.old locals.old.items)) result }
+    ensures agrees { (x : Expr) (s : Stmt) → Stands tree.now test x → StandsStmt tree.now then s →
+        Finds env.old env.new (IsTyped env.new locals.new.items)
+        (statement_by_rules (If 0 x s) (place_in env.old place) (declared_in env.old locals.old.items))
+        result }
     ensures kept { Stays env.old env.new }
     ensures locals { All (IsBelow (length env.new.table.types)) locals.new.items }
 {
@@ -60,7 +63,10 @@ pub fn choice_of_two(
     requires otherwise { IsStmt tree.now otherwise }
     requires place { IsBelow (length env.old.table.types) place.result }
     requires locals { All (IsBelow (length env.old.table.types)) locals.old.items }
-    ensures agrees { (x : Expr) (s z : Stmt) → Stands tree.now test x → StandsStmt tree.now then s → StandsStmt tree.now otherwise z → Finds env.old env.new (IsTyped env.new locals.new.items) (statement_by_rules (IfElse 0 x s z) (place_in env.old place) (declared_in env.old locals.old.items)) result }
+    ensures agrees { (x : Expr) (s z : Stmt) → Stands tree.now test x → StandsStmt tree.now then s →
+        StandsStmt tree.now otherwise z → Finds env.old env.new (IsTyped env.new locals.new.items)
+        (statement_by_rules (IfElse 0 x s z) (place_in env.old place)
+        (declared_in env.old locals.old.items)) result }
     ensures kept { Stays env.old env.new }
     ensures locals { All (IsBelow (length env.new.table.types)) locals.new.items }
 {

@@ -29,7 +29,8 @@ use std::alloc::AllocError;
 // The type of a local, which is that of a complete object (C11 6.7, 7).
 fn local_type(env: &mut Environment, tree: &Tree, id: DeclId) -> Result<TypeId, TypeError>
     requires { IsDecl tree.now id }
-    ensures agrees { (d : Decl) → StandsDecl tree.now id d → Finds env.old env.new (IsType env.new.table) (local_type_by_rules env.old.env d) result }
+    ensures agrees { (d : Decl) → StandsDecl tree.now id d →
+        Finds env.old env.new (IsType env.new.table) (local_type_by_rules env.old.env d) result }
     ensures kept { Stays env.old env.new }
 {
     let ty = declared_type(env, tree, id)?;
@@ -63,7 +64,9 @@ fn declare(
     ty: TypeId,
 ) -> Result<u32, TypeError>
     requires { ty.0 < length env.old.table.types }
-    ensures agrees { Finds env.old env.new (λ e place. (env.new.env ≡ e) × (place ≡ before)) (local_scope env.old.env from name.now before (type_at env.old.table.types ty)) result }
+    ensures agrees { Finds env.old env.new (λ e place. (env.new.env ≡ e) ×
+        (place ≡ before)) (local_scope env.old.env from name.now before (type_at env.old.table.types ty))
+        result }
     ensures kept { StaysAround env.old env.new }
 {
     let place = place_after(before)?;
@@ -82,7 +85,10 @@ fn initial(
 ) -> Result<Statement, TypeError>
     requires value { IsExpr tree.now value }
     requires ty { ty.0 < length env.old.table.types }
-    ensures agrees { (x : Expr) → Stands tree.now value x → Finds env.old env.new (λ xs s. StatementsStand env.new.table xs (s ∷ [])) (first_value_by_rules env.old.env from place (type_at env.old.table.types ty) (Initial (Plain x))) result }
+    ensures agrees { (x : Expr) → Stands tree.now value x →
+        Finds env.old env.new (λ xs s. StatementsStand env.new.table xs (s ∷ []))
+        (first_value_by_rules env.old.env from place (type_at env.old.table.types ty) (Initial (Plain x)))
+        result }
     ensures kept { Stays env.old env.new }
 {
     if !is_scalar(env, ty) {
@@ -103,7 +109,9 @@ fn first_value(
 ) -> Result<Option<Statement>, TypeError>
     requires rest { IsRest tree.now rest.now }
     requires ty { ty.0 < length env.old.table.types }
-    ensures agrees { (r : syntax.Rest) → StandsRest tree.now rest.now r → Finds env.old env.new (λ xs o. StatementsStand env.new.table xs (listed o)) (first_value_by_rules env.old.env from place (type_at env.old.table.types ty) r) result }
+    ensures agrees { (r : syntax.Rest) → StandsRest tree.now rest.now r →
+        Finds env.old env.new (λ xs o. StatementsStand env.new.table xs (listed o))
+        (first_value_by_rules env.old.env from place (type_at env.old.table.types ty) r) result }
     ensures kept { Stays env.old env.new }
 {
     match rest {
@@ -127,7 +135,9 @@ fn local(
 ) -> Result<Option<Statement>, TypeError>
     requires id { IsDecl tree.now id }
     requires locals { All (IsBelow (length env.old.table.types)) locals.old.items }
-    ensures agrees { (d : Decl) → StandsDecl tree.now id d → Finds env.old env.new (IsLocal env.new locals.new.items) (local_by_rules d (declared_in env.old locals.old.items)) result }
+    ensures agrees { (d : Decl) → StandsDecl tree.now id d →
+        Finds env.old env.new (IsLocal env.new locals.new.items)
+        (local_by_rules d (declared_in env.old locals.old.items)) result }
     ensures kept { StaysAround env.old env.new }
     ensures locals { All (IsBelow (length env.new.table.types)) locals.new.items }
 {
@@ -162,7 +172,9 @@ pub fn declare_locals(
 ) -> Result<(), TypeError>
     requires ids { AreDecls tree.now ids.now }
     requires locals { All (IsBelow (length env.old.table.types)) locals.old.items }
-    ensures agrees { (ds : Decls) → StandDecls tree.now ids.now ds → Finds env.old env.new (AddsDeclared env.new locals.new.items statements.old.items statements.new.items) (locals_by_rules ds (declared_in env.old locals.old.items)) result }
+    ensures agrees { (ds : Decls) → StandDecls tree.now ids.now ds →
+        Finds env.old env.new (AddsDeclared env.new locals.new.items statements.old.items
+        statements.new.items) (locals_by_rules ds (declared_in env.old locals.old.items)) result }
     ensures kept { StaysAround env.old env.new }
     ensures locals { All (IsBelow (length env.new.table.types)) locals.new.items }
 {

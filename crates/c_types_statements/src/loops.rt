@@ -41,7 +41,10 @@ pub fn while_loop(
     requires body { IsStmt tree.now body }
     requires place { IsBelow (length env.old.table.types) place.result }
     requires locals { All (IsBelow (length env.old.table.types)) locals.old.items }
-    ensures agrees { (x : Expr) (s : Stmt) → Stands tree.now test x → StandsStmt tree.now body s → Finds env.old env.new (IsTyped env.new locals.new.items) (statement_by_rules (While from x s) (place_in env.old place) (declared_in env.old locals.old.items)) result }
+    ensures agrees { (x : Expr) (s : Stmt) → Stands tree.now test x → StandsStmt tree.now body s →
+        Finds env.old env.new (IsTyped env.new locals.new.items)
+        (statement_by_rules (While from x s) (place_in env.old place)
+        (declared_in env.old locals.old.items)) result }
     ensures kept { Stays env.old env.new }
     ensures locals { All (IsBelow (length env.new.table.types)) locals.new.items }
 {
@@ -65,7 +68,10 @@ pub fn do_loop(
     requires test { IsExpr tree.now test }
     requires place { IsBelow (length env.old.table.types) place.result }
     requires locals { All (IsBelow (length env.old.table.types)) locals.old.items }
-    ensures agrees { (s : Stmt) (x : Expr) → StandsStmt tree.now body s → Stands tree.now test x → Finds env.old env.new (IsTyped env.new locals.new.items) (statement_by_rules (Do from s x) (place_in env.old place) (declared_in env.old locals.old.items)) result }
+    ensures agrees { (s : Stmt) (x : Expr) → StandsStmt tree.now body s → Stands tree.now test x →
+        Finds env.old env.new (IsTyped env.new locals.new.items)
+        (statement_by_rules (Do from s x) (place_in env.old place) (declared_in env.old locals.old.items))
+        result }
     ensures kept { Stays env.old env.new }
     ensures locals { All (IsBelow (length env.new.table.types)) locals.new.items }
 {
@@ -99,7 +105,11 @@ pub fn for_loop(
     requires body { IsStmt tree.now body }
     requires place { IsBelow (length env.old.table.types) place.result }
     requires locals { All (IsBelow (length env.old.table.types)) locals.old.items }
-    ensures agrees { (f : syntax.First) (x y : MaybeExpr) (s : Stmt) → StandsFirst tree.now first.now f → StandsMaybe tree.now head.test x → StandsMaybe tree.now head.last y → StandsStmt tree.now body s → Finds env.old env.new (IsTyped env.new locals.new.items) (statement_by_rules (For head.from f x y s) (place_in env.old place) (declared_in env.old locals.old.items)) result }
+    ensures agrees { (f : syntax.First) (x y : MaybeExpr) (s : Stmt) → StandsFirst tree.now first.now f →
+        StandsMaybe tree.now head.test x → StandsMaybe tree.now head.last y → StandsStmt tree.now body s →
+        Finds env.old env.new (IsTyped env.new locals.new.items)
+        (statement_by_rules (For head.from f x y s) (place_in env.old place)
+        (declared_in env.old locals.old.items)) result }
     ensures kept { Stays env.old env.new }
     ensures locals { All (IsBelow (length env.new.table.types)) locals.new.items }
 {
@@ -126,7 +136,11 @@ fn for_here(
     requires body { IsStmt tree.now body }
     requires place { IsBelow (length env.old.table.types) place.result }
     requires locals { All (IsBelow (length env.old.table.types)) locals.old.items }
-    ensures agrees { (f : syntax.First) (x y : MaybeExpr) (s : Stmt) → StandsFirst tree.now first.now f → StandsMaybe tree.now head.test x → StandsMaybe tree.now head.last y → StandsStmt tree.now body s → Finds env.old env.new (IsTyped env.new locals.new.items) (for_by_rules head.from f x y s (place_in env.old place) (declared_in env.old locals.old.items)) result }
+    ensures agrees { (f : syntax.First) (x y : MaybeExpr) (s : Stmt) → StandsFirst tree.now first.now f →
+        StandsMaybe tree.now head.test x → StandsMaybe tree.now head.last y → StandsStmt tree.now body s →
+        Finds env.old env.new (IsTyped env.new locals.new.items)
+        (for_by_rules head.from f x y s (place_in env.old place) (declared_in env.old locals.old.items))
+        result }
     ensures kept { StaysAround env.old env.new }
     ensures locals { All (IsBelow (length env.new.table.types)) locals.new.items }
 {
@@ -146,7 +160,9 @@ fn first_part(
 ) -> Result<Vec<Statement>, TypeError>
     requires first { IsFirst tree.now first.now }
     requires locals { All (IsBelow (length env.old.table.types)) locals.old.items }
-    ensures agrees { (f : syntax.First) (p : rules.Surroundings) → StandsFirst tree.now first.now f → Finds env.old env.new (AreDeclaring env.new locals.new.items) (first_by_rules f p (declared_in env.old locals.old.items)) result }
+    ensures agrees { (f : syntax.First) (p : rules.Surroundings) → StandsFirst tree.now first.now f →
+        Finds env.old env.new (AreDeclaring env.new locals.new.items)
+        (first_by_rules f p (declared_in env.old locals.old.items)) result }
     ensures kept { StaysAround env.old env.new }
     ensures locals { All (IsBelow (length env.new.table.types)) locals.new.items }
 {

@@ -14,14 +14,16 @@ use std::alloc::{AllocError, Global};
 
 /// Statements one after another.
 pub fn block(statements: Vec<Statement>) -> Statement
-    ensures { (t : Table) (xs : Statements) → StatementsStand t xs statements.items → StatementStands t (tree.Block xs) result }
+    ensures { (t : Table) (xs : Statements) → StatementsStand t xs statements.items →
+        StatementStands t (tree.Block xs) result }
 {
     Statement::Block(statements)
 }
 
 /// A value that isn't used, where there is one.
 pub fn evaluated(alloc: Global, value: Option<NodeId>) -> Statement
-    ensures { (t : Table) (x : MaybeValue) → MaybeStands t x value → StatementStands t (evaluated_by_rules x) result }
+    ensures { (t : Table) (x : MaybeValue) → MaybeStands t x value →
+        StatementStands t (evaluated_by_rules x) result }
 {
     match value {
         None => Statement::Block(Vec::new(alloc)),
@@ -31,7 +33,8 @@ pub fn evaluated(alloc: Global, value: Option<NodeId>) -> Statement
 
 /// `if`
 pub fn choice(alloc: Global, condition: NodeId, then: Statement) -> Result<Statement, AllocError>
-    ensures { IfOk result (λ s. (t : Table) (x : Value) (a : tree.Statement) → IsAt t x condition → StatementStands t a then → StatementStands t (tree.If x a) s) }
+    ensures { IfOk result (λ s. (t : Table) (x : Value) (a : tree.Statement) → IsAt t x condition →
+        StatementStands t a then → StatementStands t (tree.If x a) s) }
 {
     let then = Box::new(alloc, then)?;
     Ok(Statement::If(condition, then))
@@ -44,7 +47,8 @@ pub fn choice_of_two(
     then: Statement,
     otherwise: Statement,
 ) -> Result<Statement, AllocError>
-    ensures { IfOk result (λ s. (t : Table) (x : Value) (a b : tree.Statement) → IsAt t x condition → StatementStands t a then → StatementStands t b otherwise → StatementStands t (tree.IfElse x a b) s) }
+    ensures { IfOk result (λ s. (t : Table) (x : Value) (a b : tree.Statement) → IsAt t x condition →
+        StatementStands t a then → StatementStands t b otherwise → StatementStands t (tree.IfElse x a b) s) }
 {
     let then = Box::new(alloc, then)?;
     let otherwise = Box::new(alloc, otherwise)?;
@@ -58,7 +62,8 @@ pub fn while_loop(
     condition: NodeId,
     body: Statement,
 ) -> Result<Statement, AllocError>
-    ensures { IfOk result (λ s. (t : Table) (x : Value) (a : tree.Statement) → IsAt t x condition → StatementStands t a body → StatementStands t (tree.While from x a) s) }
+    ensures { IfOk result (λ s. (t : Table) (x : Value) (a : tree.Statement) → IsAt t x condition →
+        StatementStands t a body → StatementStands t (tree.While from x a) s) }
 {
     let body = Box::new(alloc, body)?;
     Ok(Statement::While {
@@ -75,7 +80,8 @@ pub fn do_loop(
     body: Statement,
     condition: NodeId,
 ) -> Result<Statement, AllocError>
-    ensures { IfOk result (λ s. (t : Table) (x : Value) (a : tree.Statement) → IsAt t x condition → StatementStands t a body → StatementStands t (tree.Do from a x) s) }
+    ensures { IfOk result (λ s. (t : Table) (x : Value) (a : tree.Statement) → IsAt t x condition →
+        StatementStands t a body → StatementStands t (tree.Do from a x) s) }
 {
     let body = Box::new(alloc, body)?;
     Ok(Statement::Do {
@@ -94,7 +100,9 @@ pub fn for_loop(
     last: Option<NodeId>,
     body: Statement,
 ) -> Result<Statement, AllocError>
-    ensures { IfOk result (λ s. (t : Table) (xs : Statements) (x y : MaybeValue) (a : tree.Statement) → StatementsStand t xs first.items → MaybeStands t x condition → MaybeStands t y last → StatementStands t a body → StatementStands t (tree.For from xs x y a) s) }
+    ensures { IfOk result (λ s. (t : Table) (xs : Statements) (x y : MaybeValue) (a : tree.Statement) →
+        StatementsStand t xs first.items → MaybeStands t x condition → MaybeStands t y last →
+        StatementStands t a body → StatementStands t (tree.For from xs x y a) s) }
 {
     let body = Box::new(alloc, body)?;
     Ok(Statement::For {

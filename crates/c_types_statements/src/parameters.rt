@@ -25,7 +25,9 @@ fn parameter(
 ) -> Result<(), TypeError>
     requires id { IsDecl tree.now id }
     requires ty { ty.0 < length env.old.table.types }
-    ensures agrees { (d : Decl) → StandsDecl tree.now id d → Finds env.old env.new (λ e _. env.new.env ≡ e) (parameter_by_rules d env.old.env place (type_at env.old.table.types ty)) result }
+    ensures agrees { (d : Decl) → StandsDecl tree.now id d →
+        Finds env.old env.new (λ e _. env.new.env ≡ e)
+        (parameter_by_rules d env.old.env place (type_at env.old.table.types ty)) result }
     ensures kept { StaysAround env.old env.new }
 {
     let decl = tree.decl(id);
@@ -47,7 +49,9 @@ pub fn declare_parameters(
 ) -> Result<(), TypeError>
     requires ids { AreDecls tree.now ids.now }
     requires types { All (IsBelow (length env.old.table.types)) types.now }
-    ensures agrees { (ds : Decls) → StandDecls tree.now ids.now ds → Finds env.old env.new (λ e _. env.new.env ≡ e) (parameters_by_rules ds env.old.env 0 (all_at (types_of env.old.table.types) types.now)) result }
+    ensures agrees { (ds : Decls) → StandDecls tree.now ids.now ds →
+        Finds env.old env.new (λ e _. env.new.env ≡ e)
+        (parameters_by_rules ds env.old.env 0 (all_at (types_of env.old.table.types) types.now)) result }
     ensures kept { StaysAround env.old env.new }
 {
     for (place, ty) in types.iter().enumerate() {

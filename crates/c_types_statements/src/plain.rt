@@ -28,7 +28,8 @@ pub fn evaluated(
     id: Option<ExprId>,
 ) -> Result<Statement, TypeError>
     requires { IsMaybeExpr tree.now id }
-    ensures agrees { (x : MaybeExpr) → StandsMaybe tree.now id x → Finds env.old env.new (StatementStands env.new.table) (evaluated_in env.old.env x) result }
+    ensures agrees { (x : MaybeExpr) → StandsMaybe tree.now id x →
+        Finds env.old env.new (StatementStands env.new.table) (evaluated_in env.old.env x) result }
     ensures kept { Stays env.old env.new }
 {
     let value = maybe_value(env, tree, id)?;
@@ -60,7 +61,9 @@ pub fn returned(
 ) -> Result<Statement, TypeError>
     requires id { IsMaybeExpr tree.now id }
     requires ty { ty.0 < length env.old.table.types }
-    ensures agrees { (x : MaybeExpr) → StandsMaybe tree.now id x → Finds env.old env.new (StatementStands env.new.table) (returned_by_rules env.old.env from (type_at env.old.table.types ty) x) result }
+    ensures agrees { (x : MaybeExpr) → StandsMaybe tree.now id x →
+        Finds env.old env.new (StatementStands env.new.table)
+        (returned_by_rules env.old.env from (type_at env.old.table.types ty) x) result }
     ensures kept { Stays env.old env.new }
 {
     match id {

@@ -41,7 +41,8 @@ pub fn signature_of(env: &Environment, ty: TypeId) -> Result<Signature, AllocErr
 
 /// The parameters in the part of a declarator that stands nearest to its name; none where that part has none.
 pub fn nearest_params(parts: &[Part]) -> &[DeclId]
-    ensures stand { (N : Nodes) (ps : Parts) → StandParts N parts.now ps → StandDecls N result.now (nearest_by_rules ps) }
+    ensures stand { (N : Nodes) (ps : Parts) → StandParts N parts.now ps →
+        StandDecls N result.now (nearest_by_rules ps) }
     ensures inside { (N : Nodes) → AreParts N parts.now → AreDecls N result.now }
 {
     let Some(nearest) = parts.last() else {

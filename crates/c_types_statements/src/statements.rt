@@ -40,7 +40,9 @@ pub fn statement(
     requires place { IsBelow (length env.old.table.types) place.result }
     requires locals { All (IsBelow (length env.old.table.types)) locals.old.items }
     // Where it stands for s, the answer and the locals are what the rules say of s.
-    ensures agrees { (s : Stmt) → StandsStmt tree.now id s → Finds env.old env.new (IsTyped env.new locals.new.items) (statement_by_rules s (place_in env.old place) (declared_in env.old locals.old.items)) result }
+    ensures agrees { (s : Stmt) → StandsStmt tree.now id s →
+        Finds env.old env.new (IsTyped env.new locals.new.items)
+        (statement_by_rules s (place_in env.old place) (declared_in env.old locals.old.items)) result }
     // What is declared, and what numbers stand for, is as before, also after an error.
     ensures kept { Stays env.old env.new }
     ensures locals { All (IsBelow (length env.new.table.types)) locals.new.items }
@@ -83,7 +85,10 @@ fn block(
     requires items { AreEntries tree.now items.now }
     requires place { IsBelow (length env.old.table.types) place.result }
     requires locals { All (IsBelow (length env.old.table.types)) locals.old.items }
-    ensures agrees { (es : Entries) → StandEntries tree.now items.now es → Finds env.old env.new (IsTyped env.new locals.new.items) (statement_by_rules (Block 0 es) (place_in env.old place) (declared_in env.old locals.old.items)) result }
+    ensures agrees { (es : Entries) → StandEntries tree.now items.now es →
+        Finds env.old env.new (IsTyped env.new locals.new.items)
+        (statement_by_rules (Block 0 es) (place_in env.old place) (declared_in env.old locals.old.items))
+        result }
     ensures kept { Stays env.old env.new }
     ensures locals { All (IsBelow (length env.new.table.types)) locals.new.items }
 {
@@ -105,7 +110,9 @@ pub fn entries(
     requires items { AreEntries tree.now items.now }
     requires place { IsBelow (length env.old.table.types) place.result }
     requires locals { All (IsBelow (length env.old.table.types)) locals.old.items }
-    ensures agrees { (es : Entries) → StandEntries tree.now items.now es → Finds env.old env.new (AreTyped env.new locals.new.items) (entries_by_rules es (place_in env.old place) (declared_in env.old locals.old.items)) result }
+    ensures agrees { (es : Entries) → StandEntries tree.now items.now es →
+        Finds env.old env.new (AreTyped env.new locals.new.items)
+        (entries_by_rules es (place_in env.old place) (declared_in env.old locals.old.items)) result }
     ensures kept { StaysAround env.old env.new }
     ensures locals { All (IsBelow (length env.new.table.types)) locals.new.items }
 {
@@ -129,7 +136,10 @@ fn entry(
     requires item { IsEntry tree.now item.now }
     requires place { IsBelow (length env.old.table.types) place.result }
     requires locals { All (IsBelow (length env.old.table.types)) locals.old.items }
-    ensures agrees { (e : syntax.Entry) → StandsEntry tree.now item.now e → Finds env.old env.new (AddsDeclared env.new locals.new.items statements.old.items statements.new.items) (entry_by_rules e (place_in env.old place) (declared_in env.old locals.old.items)) result }
+    ensures agrees { (e : syntax.Entry) → StandsEntry tree.now item.now e →
+        Finds env.old env.new (AddsDeclared env.new locals.new.items statements.old.items
+        statements.new.items) (entry_by_rules e (place_in env.old place)
+        (declared_in env.old locals.old.items)) result }
     ensures kept { StaysAround env.old env.new }
     ensures locals { All (IsBelow (length env.new.table.types)) locals.new.items }
 {

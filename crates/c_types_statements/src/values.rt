@@ -24,7 +24,8 @@ use c_types_table::TypeId;
 /// where an object is too large.
 pub fn value(env: &mut Environment, tree: &Tree, id: ExprId) -> Result<NodeId, TypeError>
     requires { IsExpr tree.now id }
-    ensures agrees { (x : Expr) → Stands tree.now id x → Finds env.old env.new (IsAt env.new.table) (value_in env.old.env x) result }
+    ensures agrees { (x : Expr) → Stands tree.now id x →
+        Finds env.old env.new (IsAt env.new.table) (value_in env.old.env x) result }
     ensures kept { Stays env.old env.new }
 {
     let node = expression(env, tree, id)?;
@@ -40,7 +41,9 @@ pub fn converted(
 ) -> Result<NodeId, TypeError>
     requires id { IsExpr tree.now id }
     requires ty { ty.0 < length env.old.table.types }
-    ensures agrees { (x : Expr) → Stands tree.now id x → Finds env.old env.new (IsAt env.new.table) (converted_in env.old.env (type_at env.old.table.types ty) x) result }
+    ensures agrees { (x : Expr) → Stands tree.now id x →
+        Finds env.old env.new (IsAt env.new.table)
+        (converted_in env.old.env (type_at env.old.table.types ty) x) result }
     ensures kept { Stays env.old env.new }
 {
     let value = value(env, tree, id)?;
@@ -50,7 +53,8 @@ pub fn converted(
 /// What decides between two ways: an integer or a pointer. Errors are as for `value`.
 pub fn condition(env: &mut Environment, tree: &Tree, id: ExprId) -> Result<NodeId, TypeError>
     requires { IsExpr tree.now id }
-    ensures agrees { (x : Expr) → Stands tree.now id x → Finds env.old env.new (IsAt env.new.table) (condition_in env.old.env x) result }
+    ensures agrees { (x : Expr) → Stands tree.now id x →
+        Finds env.old env.new (IsAt env.new.table) (condition_in env.old.env x) result }
     ensures kept { Stays env.old env.new }
 {
     let value = value(env, tree, id)?;
@@ -68,7 +72,8 @@ pub fn maybe_value(
     id: Option<ExprId>,
 ) -> Result<Option<NodeId>, TypeError>
     requires { IsMaybeExpr tree.now id }
-    ensures agrees { (x : MaybeExpr) → StandsMaybe tree.now id x → Finds env.old env.new (MaybeStands env.new.table) (maybe_in env.old.env x) result }
+    ensures agrees { (x : MaybeExpr) → StandsMaybe tree.now id x →
+        Finds env.old env.new (MaybeStands env.new.table) (maybe_in env.old.env x) result }
     ensures kept { Stays env.old env.new }
 {
     match id {
@@ -87,7 +92,8 @@ pub fn maybe_condition(
     id: Option<ExprId>,
 ) -> Result<Option<NodeId>, TypeError>
     requires { IsMaybeExpr tree.now id }
-    ensures agrees { (x : MaybeExpr) → StandsMaybe tree.now id x → Finds env.old env.new (MaybeStands env.new.table) (maybe_condition_in env.old.env x) result }
+    ensures agrees { (x : MaybeExpr) → StandsMaybe tree.now id x →
+        Finds env.old env.new (MaybeStands env.new.table) (maybe_condition_in env.old.env x) result }
     ensures kept { Stays env.old env.new }
 {
     match id {

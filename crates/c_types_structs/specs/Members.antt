@@ -9,7 +9,8 @@ use Rattle.c_types_table.specs.declared.ids.TypeId.{TypeId}
 abbrev pub MemberList : Type 0
 MemberList = List (List ℕ × TypeId)
 
--- the structs that are defined, in the order of their numbers: their members, and their sizes and alignments
+-- the structs that are defined, in the order of their numbers: their members, and their sizes and
+-- alignments
 pub record Definitions : Type 0 where
   pub members : List MemberList
   pub extents : List Extent

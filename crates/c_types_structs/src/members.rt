@@ -80,7 +80,8 @@ impl Members {
 
     /// The place of the member of this name, counted from 0, and its type; `None` where none has the name.
     pub fn find(&self, name: &[u8]) -> Option<(u32, TypeId)>
-        ensures found { (read : TypeId → CType) → read_found read result ≡ member_from 0 name.now (read_members read self.now) }
+        ensures found { (read : TypeId → CType) →
+            read_found read result ≡ member_from 0 name.now (read_members read self.now) }
         ensures stands { IfSome result (λ m. type_of_member self.now m.0 ≡ Some m.1) }
     {
         let (place, _, ty) = self.types.get_full(name)?;

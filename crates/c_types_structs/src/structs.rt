@@ -64,8 +64,11 @@ impl Structs {
     /// The place of a struct's member of this name, counted from 0, and its type; `None` where the struct has no such member, or
     /// isn't defined (C11 6.5.2.3).
     pub fn member(&self, number: StructId, name: &[u8]) -> Option<(u32, TypeId)>
-        ensures found { (read : TypeId → CType) → read_found read result ≡ member_from 0 name.now (read_members read (members_at self.now.members number.0)) }
-        ensures stands { IfSome result (λ m. type_of_member (members_at self.now.members number.0) m.0 ≡ Some m.1) }
+        ensures found { (read : TypeId → CType) →
+            read_found read result ≡ member_from 0 name.now
+            (read_members read (members_at self.now.members number.0)) }
+        ensures stands { IfSome result (λ m. type_of_member (members_at self.now.members number.0) m.0 ≡
+            Some m.1) }
     {
         let members = self.members.get(number.0 as usize)?;
         members.find(name)

@@ -8,7 +8,10 @@ use mathlib.Core.Path.{ap}
 use Rattle.c_types_table.specs.declared.ids.TypeId.{TypeId}
 
 id_decides : (a b : TypeId) → Decides (on (λ (t : TypeId). t.0) nat_eq a b) (a ≡ b)
-id_decides a b = (λ e. ap (λ n. record { 0 = n }) ((unsigned_Decides a.0 b.0).0 e), λ e. (unsigned_Decides a.0 b.0).1 (ap (λ (t : TypeId). t.0) e))
+id_decides a b = (
+  λ e. ap (λ n. record { 0 = n }) ((unsigned_Decides a.0 b.0).0 e),
+  λ e. (unsigned_Decides a.0 b.0).1 (ap (λ (t : TypeId). t.0) e),
+)
 
 pub ids_decide : (a b : List TypeId) → Decides (pointwise (on (λ (t : TypeId). t.0) nat_eq) a b) (a ≡ b)
 ids_decide = pointwise_decides id_decides

@@ -49,7 +49,8 @@ impl Types {
         requires parts { IsMadeOf (length self.old) ty }
         ensures inside { IfOk result (λ id. id.0 < length self.new) }
         ensures added { IfOk result (λ id. type_at self.new id ≡ made (types_of self.old) ty) }
-        ensures kept { OnOk result ((id : TypeId) → id.0 < length self.old → type_at self.new id ≡ type_at self.old id) }
+        ensures kept { OnOk result ((id : TypeId) → id.0 < length self.old →
+            type_at self.new id ≡ type_at self.old id) }
         ensures grows { length self.old ≤ length self.new }
         ensures err { OnErr result (self.new ≡ self.old) }
     {

@@ -47,7 +47,8 @@ fault_in thread (Some kind) = Some (shown.Fault kind thread)
 -- the fault of the first thread that has one, among the threads from a number on
 abbrev pub fault_from_thread : ℕ → List (List Record) → Option Shown
 fault_from_thread thread [] = None
-fault_from_thread thread (rs ∷ more) = or_else (fault_in thread (thread_fault rs)) (fault_from_thread (suc thread) more)
+fault_from_thread thread (rs ∷ more) = or_else (fault_in thread (thread_fault rs))
+    (fault_from_thread (suc thread) more)
 
 -- ---- threads that are done
 
@@ -76,7 +77,8 @@ is_spawn (Some func) = func == number_of Spawn
 -- the thread that an event gave: a return of `r2_spawn` gives that of its number, where this is not below 0
 abbrev pub spawned : List ℕ → Event → Option ℕ
 spawned active (Call func args) = None
-spawned active (Ret same result outs) = if is_spawn (innermost active) && is_natural result then Some result else None
+spawned active (Ret same result outs) = if is_spawn (innermost active) &&
+    is_natural result then Some result else None
 spawned active (Up func args) = None
 spawned active (UpRet result) = None
 spawned active (Alloc size addr) = None
@@ -91,7 +93,8 @@ has_begun threads (Some thread) = has_up (slice_get threads thread)
 -- each thread that these events gave, which come after earlier ones of their thread, has an Up
 abbrev pub have_begun : List (List Record) → List Record → List Record → Bool
 have_begun threads earlier [] = true
-have_begun threads earlier (r ∷ rs) = has_begun threads (spawned (opened earlier) r.event) && have_begun threads (earlier ++ r ∷ []) rs
+have_begun threads earlier (r ∷ rs) = has_begun threads (spawned (opened earlier) r.event) &&
+    have_begun threads (earlier ++ r ∷ []) rs
 
 -- the threads that a thread gave have an Up each, and each of its calls and callbacks has returned
 abbrev pub is_over : List (List Record) → List Record → Bool
@@ -113,6 +116,7 @@ abbrev pub ending_of : List (List Record) → Shown
 ending_of threads = ending_or (fault_from_thread 0 threads) (is_done threads)
 
 abbrev pub ending_text : Shown → List ℕ
-ending_text (shown.Fault kind thread) = codes "fault " ++ fault_text (fault_from kind) ++ codes " thread " ++ decimal thread
+ending_text (shown.Fault kind thread) = codes "fault " ++ fault_text (fault_from kind) ++
+    codes " thread " ++ decimal thread
 ending_text shown.Done = codes "done"
 ending_text shown.Halted = codes "halted"

@@ -33,7 +33,8 @@ value_text Pointer n = address_text n
 abbrev pub more_args_text : List Shape → List ℕ → List ℕ
 more_args_text [] args = []
 more_args_text (shape ∷ shapes) [] = []
-more_args_text (shape ∷ shapes) (arg ∷ args) = codes ", " ++ value_text shape arg ++ more_args_text shapes args
+more_args_text (shape ∷ shapes) (arg ∷ args) = codes ", " ++ value_text shape arg ++
+    more_args_text shapes args
 
 -- arguments of these types
 abbrev pub args_text : List Shape → List ℕ → List ℕ
@@ -94,10 +95,12 @@ reason_text (Fault n) = fault_text (fault_from n)
 
 -- ---- events
 
--- what an event's text has after the word of its kind, where calls and callbacks of these functions are open
+-- what an event's text has after the word of its kind, where calls and callbacks of these functions are
+-- open
 abbrev pub detail_text : Flat → List ℕ → Event → List ℕ
 detail_text code active (Call func args) = call_text (func_of code func) args
-detail_text code active (Ret same result outs) = return_text (info_of code (innermost active)) result ++ flat_map piece_text outs
+detail_text code active (Ret same result outs) = return_text (info_of code (innermost active)) result ++
+    flat_map piece_text outs
 detail_text code active (Up func args) = call_text (func_of code func) args
 detail_text code active (UpRet result) = return_text (info_of code (innermost active)) result
 detail_text code active (Alloc size addr) = decimal size ++ codes " = " ++ address_text addr

@@ -35,7 +35,8 @@ is_live_row memory addr = list_any is_live (row_of memory addr)
 unfoldable pub rows_text : SpaceState → ℕ → ℕ → List ℕ
 rows_text memory addr zero = []
 rows_text memory addr (suc rows) =
-    (if is_live_row memory addr then row_text addr (row_of memory addr) ++ codes "\n" else []) ++ rows_text memory (addr + 16) rows
+    (if is_live_row memory addr then row_text addr (row_of memory addr) ++ codes "\n" else []) ++
+    rows_text memory (addr + 16) rows
 
 -- the end of the memory above the cut
 abbrev pub rows_end : ℕ

@@ -17,7 +17,8 @@ use std::alloc::AllocError;
 
 /// Adds the name of the function and the arguments.
 fn put_call(text: &mut Vec<u8>, info: Option<&FuncInfo>, args: &[u64]) -> Result<(), AllocError>
-    ensures { OnOk result (text.new.items ≡ text.old.items ++ call_text (option_copied info.entry) args.now) }
+    ensures { OnOk result (text.new.items ≡ text.old.items ++
+        call_text (option_copied info.entry) args.now) }
 {
     let Some(info) = info else {
         return Ok(());
@@ -96,7 +97,8 @@ fn reason_word(reason: Reason) -> &'static str
 
 /// Adds the size and the address of a block.
 fn put_block(text: &mut Vec<u8>, size: u64, addr: u64) -> Result<(), AllocError>
-    ensures { OnOk result (text.new.items ≡ text.old.items ++ (decimal size ++ codes " = " ++ address_text addr)) }
+    ensures { OnOk result (text.new.items ≡ text.old.items ++
+        (decimal size ++ codes " = " ++ address_text addr)) }
 {
     put_dec(text, i128::from(size))?;
     text.extend_from_slice(b" = ")?;
@@ -133,7 +135,8 @@ pub fn put_event(
     active: &Crossings,
     event: &Event,
 ) -> Result<(), AllocError>
-    ensures { OnOk result (text.new.items ≡ text.old.items ++ open_event_text code.now active.now event.now) }
+    ensures { OnOk result (text.new.items ≡ text.old.items ++
+        open_event_text code.now active.now event.now) }
 {
     text.extend_from_slice(kind_word(event).as_bytes())?;
     text.push(b' ')?;

@@ -14,7 +14,9 @@ use std::alloc::AllocError;
 
 /// Adds the index, the clock and the steps of an event, each with a space after it.
 fn put_numbers(text: &mut Vec<u8>, index: usize, entry: &Record) -> Result<(), AllocError>
-    ensures { OnOk result (text.new.items ≡ text.old.items ++ (decimal index ++ codes " " ++ decimal entry.now.clock ++ codes " " ++ decimal entry.now.steps ++ codes " ")) }
+    ensures { OnOk result (text.new.items ≡ text.old.items ++
+        (decimal index ++ codes " " ++ decimal entry.now.clock ++ codes " " ++ decimal entry.now.steps ++
+        codes " ")) }
 {
     let mut buffer = PrependBuffer::new();
     buffer.put_byte(b' ');
@@ -34,7 +36,8 @@ fn put_line(
     index: usize,
     entry: &Record,
 ) -> Result<(), AllocError>
-    ensures { OnOk result (text.new.items ≡ text.old.items ++ event_line code.now active.now index entry.now) }
+    ensures { OnOk result (text.new.items ≡ text.old.items ++
+        event_line code.now active.now index entry.now) }
 {
     put_numbers(text, index, entry)?;
     put_event(text, code, active, &entry.event)?;

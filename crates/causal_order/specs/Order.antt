@@ -1,4 +1,5 @@
--- Causal order (Lamport 1978), over any kind of event that is numbered among those with which it has something in common.
+-- Causal order (Lamport 1978), over any kind of event that is numbered among those with which it has
+-- something in common.
 use Rattle.std.specs.Prelude.{◌≡◌, ◌⊎◌, ℕ, suc, ◌≤◌, Bool, false, ◌&&◌, ◌||◌, cond, eqb, List, [], ◌∷◌}
 use Rattle.run_events.specs.Class.{number_of}
 use Rattle.run_events.specs.declared.key.Key.{Key}
@@ -26,7 +27,8 @@ abbrev pub In : {E : Type 0} → E → List E → Type 0
 In x [] = ⊥
 In x (y ∷ ys) = (x ≡ y) ⊎ In x ys
 
--- how events are numbered: that an event has a link, and so many events with the link come before it. Of a thread the
+-- how events are numbered: that an event has a link, and so many events with the link come before it. Of a
+-- thread the
 -- number is the event's index, of a key its ticket
 abbrev pub Numbers : Type 0 → Type 1
 Numbers E = E → Link → ℕ → Type 0

@@ -25,7 +25,8 @@ name_text name = decimal name.thread ++ codes "." ++ decimal name.index
 
 -- a space, then CLASS:VALUE@TICKET
 abbrev pub key_text : KeyMark → List ℕ
-key_text m = codes " " ++ word_of m.key.class ++ codes ":" ++ decimal m.key.value ++ codes "@" ++ decimal m.ticket
+key_text m = codes " " ++ word_of m.key.class ++ codes ":" ++ decimal m.key.value ++ codes "@" ++
+    decimal m.ticket
 
 -- a space, KIND, a space, STEPS
 abbrev pub kind_text : Record → List ℕ
@@ -33,7 +34,8 @@ kind_text r = codes " " ++ kind_word r.event ++ codes " " ++ decimal r.steps
 
 -- CLOCK THREAD.INDEX KIND STEPS, then the keys
 abbrev pub event_line : LogEvent → List ℕ
-event_line e = decimal e.entry.clock ++ codes " " ++ name_text e.name ++ kind_text e.entry ++ flat_map key_text e.entry.keys ++ codes "\n"
+event_line e = decimal e.entry.clock ++ codes " " ++ name_text e.name ++ kind_text e.entry ++
+    flat_map key_text e.entry.keys ++ codes "\n"
 
 -- lines, one after the other
 abbrev pub lines_text : List (List ℕ) → List ℕ

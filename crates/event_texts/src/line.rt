@@ -24,7 +24,9 @@ pub struct Line<'a> {
 impl<'a> Model for Line<'a> {
     ghost Value = { List ℕ };
 
-    ghost view = { λ l. decimal l.clock ++ codes " " ++ name_text l.name ++ (codes " " ++ l.kind.now ++ codes " " ++ decimal l.steps) ++ flat_map key_text l.keys.now ++ codes "\n" };
+    ghost view = { λ l. decimal l.clock ++ codes " " ++ name_text l.name ++
+        (codes " " ++ l.kind.now ++ codes " " ++ decimal l.steps) ++ flat_map key_text l.keys.now ++
+        codes "\n" };
 
     ghost invariant = { λ l. length l.kind.now ≤ 8 };
 }

@@ -26,7 +26,8 @@ use Rattle.front_end.specs.declared.error.SourceError.TheVariants.{Memory}
 use Rattle.front_end.specs.declared.source.CheckedSource.{CheckedSource}
 use Rattle.front_end.specs.Sources.{IsRight, IsWrong, too_large}
 
--- the tree is that of these declarations, which keep all rules and limits of types, and this is what they are, with the strings among
+-- the tree is that of these declarations, which keep all rules and limits of types, and this is what they
+-- are, with the strings among
 -- the tokens
 pub record IsTyped (N : Nodes) (ts : List Token) (ds : Decls) (s : TypedSource) : Type 0 where
   pub program : Program
@@ -36,15 +37,18 @@ pub record IsTyped (N : Nodes) (ts : List Token) (ds : Decls) (s : TypedSource) 
   pub is : IsTypedAs (tags_of ds) program s
   pub texts : s.texts ≡ texts_among ts
 
--- the flat code of a program: it makes exactly the marks of the source, wherever its objects lie, and names no more than the source does
+-- the flat code of a program: it makes exactly the marks of the source, wherever its objects lie, and names
+-- no more than the source does
 pub record IsCode (p : Declared) (c : Flat) : Type 0 where
   pub lowered_is : c ≡ lowered p
   pub marks : (s : Source) → IsSourceOf p s → MakesTheMarks s c
   pub names : NamesNoMore p c
 
--- the typed program, its strings, the interface of the cut and the code are what these declarations and tokens say
+-- the typed program, its strings, the interface of the cut and the code are what these declarations and
+-- tokens say
 abbrev pub SaysOf : (cut : List ℕ) → List Token → Decls → Outcome → CheckedSource → Type 0
-SaysOf cut ts ds (Typed p) c = IsProgram c.program p × (c.program.texts ≡ texts_among ts) × IsInterface cut (annotations ds p) (Ok c.interface) × IsCode c.program c.code
+SaysOf cut ts ds (Typed p) c = IsProgram c.program p × (c.program.texts ≡ texts_among ts) ×
+    IsInterface cut (annotations ds p) (Ok c.interface) × IsCode c.program c.code
 SaysOf cut ts ds o c = ⊥
 
 -- nothing is wrong with the source that the bytes are, and this is what it says
@@ -62,9 +66,12 @@ abbrev pub IsTooLarge : Decls → SourceError → Type 0
 IsTooLarge ds Memory = Unit {0}
 IsTooLarge ds error = too_large ds ≡ Some error
 
--- the program with these strings, and the interface of the cut, are what the source says, or its annotations are wrong in this way
-abbrev pub IsRead : (bytes cut : List ℕ) → Decls → Program → List TextLiteral → Result (Declared × Interface) SourceError → Type 0
-IsRead bytes cut ds p texts (Ok found) = IsProgram found.0 p × (found.0.texts ≡ texts) × IsInterface cut (annotations ds p) (Ok found.1)
+-- the program with these strings, and the interface of the cut, are what the source says, or its
+-- annotations are wrong in this way
+abbrev pub IsRead : (bytes cut : List ℕ) → Decls → Program → List TextLiteral →
+    Result (Declared × Interface) SourceError → Type 0
+IsRead bytes cut ds p texts (Ok found) = IsProgram found.0 p × (found.0.texts ≡ texts) ×
+    IsInterface cut (annotations ds p) (Ok found.1)
 IsRead bytes cut ds p texts (Err error) = IsSourceError bytes cut error
 
 -- the source is accepted, or wrong in this way

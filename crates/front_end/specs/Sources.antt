@@ -1,4 +1,5 @@
--- What the bytes of a source and the name of a cut say: that the source is accepted, or what is wrong with it.
+-- What the bytes of a source and the name of a cut say: that the source is accepted, or what is wrong with
+-- it.
 use Rattle.std.specs.Prelude.{◌≡◌, ℕ, Bool, true, false, ◌||◌, nat_lt, if◌then◌else◌, List, [], ◌∷◌, Option, Some, None}
 use Rattle.c_lexer.specs.declared.token.Token.{Token}
 use Rattle.c_lexer.specs.declared.error.LexError.{LexError}
@@ -44,7 +45,8 @@ is_wide [] = false
 is_wide (n ∷ ns) = nat_lt most_values n || is_wide ns
 
 abbrev pub unless_large : (nodes : ℕ) → (depth : List ℕ) → Option SourceError
-unless_large nodes depth = if nat_lt most_nodes nodes then Some (Limit Nodes) else if is_wide depth then Some (Limit Values) else None
+unless_large nodes depth = if nat_lt most_nodes nodes then Some (Limit Nodes) else if is_wide depth then
+    Some (Limit Values) else None
 
 -- what there is too much of to make flat code of a source
 abbrev pub too_large : Decls → Option SourceError
@@ -64,17 +66,23 @@ fault_of_types cut ds (typing.Rule from rule) = Some (found (rules.Type rule) fr
 fault_of_types cut ds (typing.Limit which) = Some (Limit (Types (which_of which)))
 fault_of_types cut ds (typing.Typed p) = fault_of_annotations cut ds (annotations ds p)
 
--- what is wrong with a source that has a tree: its types, their limits, its annotations, that none names the cut, or that it is too large
+-- what is wrong with a source that has a tree: its types, their limits, its annotations, that none names
+-- the cut, or that it is too large
 abbrev pub fault_of : (cut : List ℕ) → Decls → Option SourceError
 fault_of cut ds = fault_of_types cut ds (outcome ds)
 
--- what is wrong with the bytes: they aren't tokens, and this is the first rule that they break; no source has the tokens, whatever the
--- offset; a node there is held by more than 200 others; or it is what is wrong with the source that they are
+-- what is wrong with the bytes: they aren't tokens, and this is the first rule that they break; no source
+-- has the tokens, whatever the
+-- offset; a node there is held by more than 200 others; or it is what is wrong with the source that they
+-- are
 pub data IsWrong (bytes cut : List ℕ) : SourceError → Type 0 where
   no_tokens : (error : LexError) → lexing.IsLexError bytes error → IsWrong bytes cut (by_tokens error)
-  no_tree : (at : ℕ) (ts : List Token) → lexing.IsTokens bytes ts → ((ds : Decls) → Spells ts ds → ⊥) → IsWrong bytes cut (found rules.Token at)
-  too_deep : (at : ℕ) (ts : List Token) (ds : Decls) → lexing.IsTokens bytes ts → Spells ts ds → IsDeepAt ds at → IsWrong bytes cut (found rules.Deep at)
-  refused : (error : SourceError) (ds : Decls) → IsSource bytes ds → fault_of cut ds ≡ Some error → IsWrong bytes cut error
+  no_tree : (at : ℕ) (ts : List Token) → lexing.IsTokens bytes ts → ((ds : Decls) → Spells ts ds → ⊥) →
+      IsWrong bytes cut (found rules.Token at)
+  too_deep : (at : ℕ) (ts : List Token) (ds : Decls) → lexing.IsTokens bytes ts → Spells ts ds →
+      IsDeepAt ds at → IsWrong bytes cut (found rules.Deep at)
+  refused : (error : SourceError) (ds : Decls) → IsSource bytes ds → fault_of cut ds ≡ Some error →
+      IsWrong bytes cut error
 
 -- nothing is wrong with the source that the bytes are
 pub record IsRight (bytes cut : List ℕ) : Type 0 where

@@ -27,10 +27,13 @@ pub(crate) fn code_of(
     tree: &Tree,
     program: &TypedProgram,
 ) -> Result<Code, SourceError>
-    requires { (ds : Decls) × (p : Program) × Holds tree.now ds × (outcome ds ≡ Typed p) × IsProgram program.now p }
-    ensures small { (ds : Decls) (p : Program) → Holds tree.now ds → outcome ds ≡ Typed p → IsProgram program.now p → OnOk result (too_large ds ≡ None) }
+    requires { (ds : Decls) × (p : Program) × Holds tree.now ds × (outcome ds ≡ Typed p) ×
+        IsProgram program.now p }
+    ensures small { (ds : Decls) (p : Program) → Holds tree.now ds → outcome ds ≡ Typed p →
+        IsProgram program.now p → OnOk result (too_large ds ≡ None) }
     ensures code { IfOk result (IsCode program.now) }
-    ensures refused { (ds : Decls) (p : Program) → Holds tree.now ds → outcome ds ≡ Typed p → IsProgram program.now p → IfErr result (IsTooLarge ds) }
+    ensures refused { (ds : Decls) (p : Program) → Holds tree.now ds → outcome ds ≡ Typed p →
+        IsProgram program.now p → IfErr result (IsTooLarge ds) }
 {
     let depth = function_depth(alloc, tree)?;
     typed_programs_fit();

@@ -46,7 +46,8 @@ fn tokens_of(alloc: Global, bytes: &[u8]) -> Result<Vec<Token>, SourceError>
 // The tree of the source that has these tokens.
 fn tree_of(alloc: Global, tokens: &[Token]) -> Result<Tree, SourceError>
     ensures tree { IfOk result (λ t. IsParsed tokens.now t) }
-    ensures refused { (bytes cut : List ℕ) → IsTokens bytes tokens.now → IfErr result (IsSourceError bytes cut) }
+    ensures refused { (bytes cut : List ℕ) → IsTokens bytes tokens.now →
+        IfErr result (IsSourceError bytes cut) }
 {
     match parse(alloc, tokens) {
         Ok(tree) => Ok(tree),
@@ -57,8 +58,10 @@ fn tree_of(alloc: Global, tokens: &[Token]) -> Result<Tree, SourceError>
 // What the source is by its types.
 fn typed(alloc: Global, tokens: &[Token], tree: &Tree) -> Result<TypedSource, SourceError>
     requires { IsFit tree.now }
-    ensures typed { (ds : Decls) → Holds tree.now ds → FitsDecls ds → IfOk result (IsTyped tree.now tokens.now ds) }
-    ensures refused { (bytes cut : List ℕ) (ds : Decls) → Holds tree.now ds → IsSource bytes ds → IfErr result (IsSourceError bytes cut) }
+    ensures typed { (ds : Decls) → Holds tree.now ds → FitsDecls ds →
+        IfOk result (IsTyped tree.now tokens.now ds) }
+    ensures refused { (bytes cut : List ℕ) (ds : Decls) → Holds tree.now ds → IsSource bytes ds →
+        IfErr result (IsSourceError bytes cut) }
 {
     match check_types(alloc, tokens, tree) {
         Ok(source) => Ok(source),
@@ -74,7 +77,8 @@ fn with_interface(
     cut: &[u8],
 ) -> Result<(TypedProgram, Iface), SourceError>
     requires { (ts : List Lexed) × (ds : Decls) × IsTyped tree.now ts ds source }
-    ensures { (bytes : List ℕ) (ds : Decls) → (s : IsSource bytes ds) → (t : IsTyped tree.now s.tokens ds source) → IsRead bytes cut.now ds t.program source.texts result }
+    ensures { (bytes : List ℕ) (ds : Decls) → (s : IsSource bytes ds) →
+        (t : IsTyped tree.now s.tokens ds source) → IsRead bytes cut.now ds t.program source.texts result }
 {
     let TypedSource {
         env,

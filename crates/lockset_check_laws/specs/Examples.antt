@@ -19,8 +19,13 @@ abbrev pub guard : ℕ → Option ℕ
 guard o = cond (eqb o 7) (Some 0) None
 
 abbrev pub event : ℕ → ℕ → EventKind → List KeyMark → Mark
-event t i kind keys = record { thread = t; side = Replay; index = i; act =
-  Made (record { kind = kind; steps = 0; keys = keys; clock = 0 }) }
+event t i kind keys = record {
+  thread = t;
+  side = Replay;
+  index = i;
+  act =
+      Made (record { kind = kind; steps = 0; keys = keys; clock = 0 });
+}
 
 abbrev pub mutex : ℕ → List KeyMark
 mutex n = record { key = key Mutex 0; ticket = n } ∷ []
@@ -56,8 +61,13 @@ pub record NumbersMustRise : Type 0 where
 -- the thread 1 takes the mutex above the cut and writes the global, code below it unlocks, and the thread 2
 -- takes the mutex
 abbrev pub unlocked_below : List Mark
-unlocked_below = locked 2 1 1 ∷ record { thread = 1; side = System; index = 2; act =
-  Step 5 (0 ∷ []) 0 [] [] [] } ∷ writes_global 1 2 ∷ locked 1 1 0 ∷ []
+unlocked_below = locked 2 1 1 ∷ record {
+  thread = 1;
+  side = System;
+  index = 2;
+  act =
+      Step 5 (0 ∷ []) 0 [] [] [];
+} ∷ writes_global 1 2 ∷ locked 1 1 0 ∷ []
 
 -- code below the cut must not give back what was taken above it: all other rules are kept and the access
 -- isn't known

@@ -11,11 +11,12 @@ use Rattle.lockset_check_laws.specs.Order.{AtEach, IsHeld}
 -- one step that unlocks
 -- only what it took below the cut
 abbrev pub HeldWant : LockCalls → (ℕ → Option ℕ) → Side → List Mark → Want → Type 0
-HeldWant l guard side mine (Loads (Some o) at width) = (k : ℕ) → guard o ≡ Some k → taken l k mine ≡ Some side
+HeldWant l guard side mine (Loads (Some o) at width) = (k : ℕ) → guard o ≡ Some k →
+    taken l k mine ≡ Some side
 HeldWant l guard side mine (Stores (Some o) at bytes) = (k : ℕ) → guard o ≡ Some k →
-  taken l k mine ≡ Some side
+    taken l k mine ≡ Some side
 HeldWant l guard side mine (Steps indirect func (k ∷ [])) = func ≡ l.unlock → func ≢ l.lock →
-  taken l k mine ≡ Some System
+    taken l k mine ≡ Some System
 HeldWant l guard side mine (Loads None at width) = Unit {0}
 HeldWant l guard side mine (Stores None at bytes) = Unit {0}
 HeldWant l guard side mine (Steps indirect func []) = Unit {0}
@@ -43,4 +44,4 @@ pub record AnswersHeld (l : LockCalls) (guard : ℕ → Option ℕ) (past : List
 -- it is enough that the wants are held
 abbrev pub HeldWantsAreEnough : LockCalls → (ℕ → Option ℕ) → Type 0
 HeldWantsAreEnough l guard = (past : List Mark) → AtEach (AnswersHeld l guard) past →
-  AtEach (IsHeld l guard) past
+    AtEach (IsHeld l guard) past

@@ -9,7 +9,8 @@ pub record LockCalls : Type 0 where
   pub lock : ℕ
   pub unlock : ℕ
 
--- what a mark does to a mutex. Above the cut the return of the lock takes it, the call of the unlock gives it
+-- what a mark does to a mutex. Above the cut the return of the lock takes it, the call of the unlock gives
+-- it
 -- back, and
 -- the return of that call frees it; below the cut one step locks, and one step both gives back and frees
 pub data Deed : Type 0 where

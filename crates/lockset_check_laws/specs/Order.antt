@@ -63,12 +63,13 @@ DropsOwn l mine (GivesBack k) = Unit {0}
 DropsOwn l mine (Frees k) = Unit {0}
 DropsOwn l mine Other = Unit {0}
 
--- a thread touches a guarded global only on the side on which it took the mutex, and gives back below the cut
+-- a thread touches a guarded global only on the side on which it took the mutex, and gives back below the
+-- cut
 -- only what
 -- it took there
 pub record IsHeld (l : LockCalls) (guard : ℕ → Option ℕ) (past : List Mark) (m : Mark) : Type 0 where
   pub guarded : (o k : ℕ) → global_of m.act ≡ Some o → guard o ≡ Some k →
-    taken l k (own m.thread past) ≡ Some m.side
+      taken l k (own m.thread past) ≡ Some m.side
   pub drops : DropsOwn l (own m.thread past) (deed l m.act)
 
 -- the numbers of a thread's marks never fall
@@ -87,20 +88,21 @@ pub record Touches (m : Mark) (o : ℕ) : Type 0 where
   pub global : global_of m.act ≡ Some o
   pub above : m.side ≡ Replay
 
--- a thread that has taken the guard above the cut knows each access of the global by the others above the cut
+-- a thread that has taken the guard above the cut knows each access of the global by the others above the
+-- cut
 abbrev pub GuardTellsOfAccesses : LockCalls → (ℕ → Option ℕ) → Type 0
 GuardTellsOfAccesses l guard =
     (past : List Mark) → GuardsKept l guard past → (a : Mark) → In a past → (o k : ℕ) → Touches a o →
-      guard o ≡ Some k → (t : ℕ) → t ≢ a.thread → taken l k (own t past) ≡ Some Replay →
-      place a < known past (OfThread t) a.thread
+    guard o ≡ Some k → (t : ℕ) → t ≢ a.thread → taken l k (own t past) ≡ Some Replay →
+    place a < known past (OfThread t) a.thread
 
 -- of two accesses above the cut of one guarded global by two threads, the later one's thread knows the
 -- earlier one
 abbrev pub GuardedAccessesAreOrdered : LockCalls → (ℕ → Option ℕ) → Type 0
 GuardedAccessesAreOrdered l guard =
     (past : List Mark) (m : Mark) → GuardsKept l guard (m ∷ past) → (a : Mark) → In a past → (o k : ℕ) →
-      Touches a o → Touches m o → guard o ≡ Some k → m.thread ≢ a.thread →
-      place a < known past (OfThread m.thread) a.thread
+    Touches a o → Touches m o → guard o ≡ Some k → m.thread ≢ a.thread →
+    place a < known past (OfThread m.thread) a.thread
 
 abbrev pub IsFree : LockCalls → List Mark → Deed → Type 0
 IsFree l mine (Takes side k) = taken l k mine ≡ None
@@ -121,7 +123,7 @@ pub record TakenIsHeld (l : LockCalls) (past : List Mark) : Type 0 where
 
 abbrev pub ExclusiveLocksAreHeld : LockCalls → Type 0
 ExclusiveLocksAreHeld l = (past : List Mark) → AtEach (IsExclusive l) past → AtEach (IsKeyed l) past →
-  TakenIsHeld l past
+    TakenIsHeld l past
 
 -- each mark has the number of its thread's events before it
 abbrev pub IsCounted : Start → List Mark → Mark → Type 0
@@ -130,4 +132,4 @@ IsCounted s past m = m.index ≡ length (events_with s (OfThread m.thread) past)
 -- marks that are counted, as those of runs are, rise
 abbrev pub CountedMarksRise : Type 0
 CountedMarksRise = (memory : ℕ → Byte) (past : List Mark) → AtEach (IsCounted (fresh memory)) past →
-  AtEach Rises past
+    AtEach Rises past

@@ -19,7 +19,9 @@ thread_count t es = count_by (λ (e : LogEvent). eqb e.name.thread t) es
 abbrev pub key_count : Key → List LogEvent → ℕ
 key_count k es = count_by (λ (e : LogEvent). is_listed (marks e) k) es
 
--- along the list each index is the number of events of the thread before it, and each ticket the number of events before it that have the key
+-- along the list each index is the number of events of the thread before it, and each ticket the number of
+-- events before it that have the key
 abbrev pub CountUp : List LogEvent → Type 0
 CountUp part = (before : List LogEvent) (e : LogEvent) (after : List LogEvent) → part ≡ before ++ e ∷ after
-    → (e.name.index ≡ thread_count e.name.thread before) × ((m : KeyMark) → In m (marks e) → m.ticket ≡ key_count m.key before)
+    → (e.name.index ≡ thread_count e.name.thread before) ×
+    ((m : KeyMark) → In m (marks e) → m.ticket ≡ key_count m.key before)

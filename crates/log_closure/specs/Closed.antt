@@ -13,7 +13,8 @@ InUnion kept e = (set : List LogEvent) × IsClosed kept set × In e set
 
 -- by clock, then by thread
 abbrev pub Precedes : LogEvent → LogEvent → Type 0
-Precedes e f = (e.entry.clock < f.entry.clock) ⊎ ((e.entry.clock ≡ f.entry.clock) × (e.name.thread < f.name.thread))
+Precedes e f = (e.entry.clock < f.entry.clock) ⊎
+    ((e.entry.clock ≡ f.entry.clock) × (e.name.thread < f.name.thread))
 
 -- each event precedes all after it
 abbrev pub Ordered : List LogEvent → Type 0

@@ -22,7 +22,10 @@ of_thread t rs = count_by (λ (r : Record). eqb r.thread t) rs
 
 -- the event of a record that stands after these in the file
 abbrev pub event_of : List Record → Record → LogEvent
-event_of before r = record { name = record { thread = r.thread; index = of_thread r.thread before }; entry = r }
+event_of before r = record {
+  name = record { thread = r.thread; index = of_thread r.thread before };
+  entry = r;
+}
 
 -- the events of records that stand after these in the file
 abbrev pub events_after : List Record → List Record → List LogEvent

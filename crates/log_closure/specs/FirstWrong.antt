@@ -34,7 +34,8 @@ clock_wrong whole name clock (Some c) = cond (eqb clock (c + 1)) None (Some (Clo
 
 -- what is wrong with the event
 abbrev pub wrong : Bool → List LogEvent → List LogEvent → LogEvent → Option OrderError
-wrong whole all before e = cond (repeats (keys_of before) (keys e)) (Some (Twice e.name)) (clock_wrong whole e.name e.entry.clock (greatest (clock_at all) (needs (ties e))))
+wrong whole all before e = cond (repeats (keys_of before) (keys e)) (Some (Twice e.name))
+    (clock_wrong whole e.name e.entry.clock (greatest (clock_at all) (needs (ties e))))
 
 abbrev pub or_else : {A : Type 0} → Option A → Option A → Option A
 or_else None r = r
@@ -43,9 +44,11 @@ or_else (Some x) r = Some x
 -- what is wrong with the first event that does not fit, of those after `before`
 abbrev pub first_wrong : Bool → List LogEvent → List LogEvent → List LogEvent → Option OrderError
 first_wrong whole all before [] = None
-first_wrong whole all before (e ∷ es) = or_else (wrong whole all before e) (first_wrong whole all (before ++ e ∷ []) es)
+first_wrong whole all before (e ∷ es) = or_else (wrong whole all before e)
+    (first_wrong whole all (before ++ e ∷ []) es)
 
 -- the place of the first event that repeats a key, of those after `before`, which begin at n
 abbrev pub first_twice : ℕ → List LogEvent → List LogEvent → Option ℕ
 first_twice n before [] = None
-first_twice n before (e ∷ es) = cond (repeats (keys_of before) (keys e)) (Some n) (first_twice (n + 1) (before ++ e ∷ []) es)
+first_twice n before (e ∷ es) = cond (repeats (keys_of before) (keys e)) (Some n)
+    (first_twice (n + 1) (before ++ e ∷ []) es)

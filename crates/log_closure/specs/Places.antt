@@ -9,7 +9,9 @@ use Rattle.log_closure.specs.declared.place.LogPlace.{LogPlace}
 use Rattle.log_closure.specs.Events.{LogEvent, Part}
 
 abbrev pub place_cmp : LogPlace → LogPlace → Ordering
-place_cmp a b = ordering_then (nat_cmp a.clock b.clock) (ordering_then (nat_cmp a.thread b.thread) (ordering_then (nat_cmp a.index b.index) (nat_cmp a.at b.at)))
+place_cmp a b = ordering_then (nat_cmp a.clock b.clock)
+    (ordering_then (nat_cmp a.thread b.thread)
+    (ordering_then (nat_cmp a.index b.index) (nat_cmp a.at b.at)))
 
 -- the place of an event that stands at n
 abbrev pub place_of : ℕ → LogEvent → LogPlace
@@ -26,7 +28,11 @@ no_record = record { thread = 0; steps = 0; clock = 0; keys = []; event = UpRet 
 
 -- the event at a place
 abbrev pub event_at : List Record → LogPlace → LogEvent
-event_at rs p = record { name = record { thread = p.thread; index = p.index }; entry = slice_index_or rs p.at no_record }
+event_at rs p = record {
+  name = record { thread = p.thread; index = p.index };
+  entry =
+      slice_index_or rs p.at no_record;
+}
 
 abbrev pub events_at : List Record → List LogPlace → List LogEvent
 events_at rs ps = map (event_at rs) ps

@@ -8,6 +8,7 @@ use Rattle.log_closure.specs.Events.{LogEvent, numbered}
 abbrev pub next : KeyMark → KeyMark
 next m = record { key = m.key; ticket = m.ticket + 1 }
 
--- the set holds the direct predecessors of the event: that of its thread, and one for each key with a ticket above 0
+-- the set holds the direct predecessors of the event: that of its thread, and one for each key with a
+-- ticket above 0
 abbrev pub HoldsPredecessors : List LogEvent → LogEvent → Type 0
 HoldsPredecessors set f = order.HoldsPredecessors numbered set f

@@ -17,7 +17,8 @@ use Rattle.log_closure.specs.Ties.{listed, ties_of}
 use Rattle.log_closure.specs.FirstWrong.{clock_at}
 
 abbrev pub tie_cmp : Tie → Tie → Ordering
-tie_cmp a b = ordering_then (nat_cmp a.class b.class) (ordering_then (nat_cmp a.value b.value) (nat_cmp a.number b.number))
+tie_cmp a b = ordering_then (nat_cmp a.class b.class)
+    (ordering_then (nat_cmp a.value b.value) (nat_cmp a.number b.number))
 
 abbrev pub key_cmp : TieKey → TieKey → Ordering
 key_cmp a b = ordering_then (nat_cmp a.class b.class) (nat_cmp a.value b.value)
@@ -49,7 +50,8 @@ AreBlank rows = All (λ (row : Vec (Option ℕ)). (n : ℕ) → slice_index_or r
 
 -- the clock in the table at a key and ticket
 abbrev pub clock_in : Numbers → Table → Tie → Option ℕ
-clock_in number table t = clock_in_row (row_at table.rows.items (number (tie_key t))) t.number (get tie_cmp table.rest t)
+clock_in number table t = clock_in_row (row_at table.rows.items (number (tie_key t))) t.number
+    (get tie_cmp table.rest t)
 
 -- these are the clocks of the first events with each key and ticket
 abbrev pub Owns : (Tie → Option ℕ) → List LogEvent → Type 0
@@ -59,7 +61,8 @@ Owns at es = (t : Tie) → 0 < t.class → at t ≡ clock_at es t
 pub record IsGrown (g : Grown) (part : List LogEvent) : Type 0 where
   pub of_keys : (t : Tie) → 0 < t.class → contains tie_cmp g.keys t ≡ listed (ties_of part) t
   pub wide : length g.lengths ≡ 256
-  pub of_threads : (t n : ℕ) → t < 256 → ltb n (slice_index_or g.lengths t 0) ≡ listed (ties_of part) (record { class = 0; value = t; number = n })
+  pub of_threads : (t n : ℕ) → t < 256 → ltb n (slice_index_or g.lengths t 0) ≡
+      listed (ties_of part) (record { class = 0; value = t; number = n })
 
 -- the error is the one that is wanted, or there was no memory
 abbrev pub Answers : {X : Type 0} → Result X OrderError → Option OrderError → Type 0

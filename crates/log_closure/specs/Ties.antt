@@ -1,4 +1,5 @@
--- What ties events to each other: the number of an event in its thread, and the ticket of each of its keys. Threads have the class 0.
+-- What ties events to each other: the number of an event in its thread, and the ticket of each of its keys.
+-- Threads have the class 0.
 use Rattle.std.specs.Prelude.{◌-◌, map, Bool, ◌&&◌, cond, eqb, List, [], ◌∷◌}
 use Rattle.std.specs.List.{list_any, flat_map}
 use Rattle.run_events.specs.Class.{number_of}

@@ -38,7 +38,10 @@ fn check_clock(
     last: u32,
 ) -> Result<(), OrderError>
     requires { length numbers.now ≡ length marks.now }
-    ensures { (number : Numbers) → HaveNumbers number marks.now numbers.now → Answers result (clock_wrong whole (record { thread = place.now.thread; index = place.now.index }) place.now.clock (both (Some last) (greatest (clock_in number table.now) (needs (map key_tie marks.now))))) }
+    ensures { (number : Numbers) → HaveNumbers number marks.now numbers.now →
+        Answers result (clock_wrong whole (record { thread = place.now.thread; index = place.now.index })
+        place.now.clock (both (Some last) (greatest (clock_in number table.now)
+        (needs (map key_tie marks.now))))) }
 {
     match greatest(table, marks, numbers, last) {
         None if whole => Err(OrderError::Missing(place.name())),

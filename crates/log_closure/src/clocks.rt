@@ -29,8 +29,13 @@ fn add(
     clock: u32,
 ) -> Result<bool, AllocError>
     requires { length numbers.now ≡ length marks.now }
-    ensures clocks { (number : Numbers) → AreApart number → HaveNumbers number marks.now numbers.now → OnOk result ((t : Tie) → clock_in number table.new t ≡ or_else (clock_in number table.old t) (cond (listed (map key_tie marks.now) t) (Some clock) None)) }
-    ensures repeats { (number : Numbers) → AreApart number → HaveNumbers number marks.now numbers.now → (before : List Tie) → ((t : Tie) → 0 < t.class → is_some (clock_in number table.old t) ≡ listed before t) → IfOk result (λ r. r ≡ repeats before (map key_tie marks.now)) }
+    ensures clocks { (number : Numbers) → AreApart number → HaveNumbers number marks.now numbers.now →
+        OnOk result ((t : Tie) → clock_in number table.new t ≡
+        or_else (clock_in number table.old t) (cond (listed (map key_tie marks.now) t) (Some clock) None)) }
+    ensures repeats { (number : Numbers) → AreApart number → HaveNumbers number marks.now numbers.now →
+        (before : List Tie) → ((t : Tie) → 0 < t.class →
+        is_some (clock_in number table.old t) ≡ listed before t) →
+        IfOk result (λ r. r ≡ repeats before (map key_tie marks.now)) }
 {
     let mut repeats = false;
     for (at, mark) in marks.iter().enumerate() {
@@ -47,7 +52,8 @@ pub fn clocks_of(
     numbering: &Numbering,
 ) -> Result<Clocks, AllocError>
     requires { IsNumbering numbering.now records.now }
-    ensures owns { IfOk result (λ c. Owns (clock_in (number_in numbering.now) c.table) (events_of records.now)) }
+    ensures owns { IfOk result (λ c. Owns (clock_in (number_in numbering.now) c.table)
+        (events_of records.now)) }
     ensures twice { IfOk result (λ c. c.twice ≡ first_twice 0 [] (events_of records.now)) }
 {
     let mut table = Table::for_counts(alloc, numbering.keys.counts.as_slice())?;
@@ -66,7 +72,8 @@ pub fn clocks_of(
 /// The greatest of `least` and the clocks at the keys, which have these numbers, with the tickets before, if each has one.
 pub fn greatest(table: &Table, marks: &[KeyMark], numbers: &[u32], least: u32) -> Option<u32>
     requires { length numbers.now ≡ length marks.now }
-    ensures { (number : Numbers) → HaveNumbers number marks.now numbers.now → result ≡ both (Some least) (greatest (clock_in number table.now) (needs (map key_tie marks.now))) }
+    ensures { (number : Numbers) → HaveNumbers number marks.now numbers.now →
+        result ≡ both (Some least) (greatest (clock_in number table.now) (needs (map key_tie marks.now))) }
 {
     let mut most = least;
     for (at, mark) in marks.iter().enumerate() {

@@ -48,7 +48,8 @@ pub(crate) fn closed_places(
 /// An empty list for each thread.
 fn empty_lists(alloc: Global) -> Result<Vec<Vec<u32>>, AllocError>
     ensures wide { IfOk result (λ v. length v.items ≡ 256) }
-    ensures empty { IfOk result (λ v. (t : ℕ) → t < 256 → (d : Vec ℕ) → (slice_index_or v.items t d).items ≡ []) }
+    ensures empty { IfOk result (λ v. (t : ℕ) → t < 256 → (d : Vec ℕ) →
+        (slice_index_or v.items t d).items ≡ []) }
 {
     let mut lists = Vec::with_capacity(alloc, 256)?;
     for _thread in 0..256u32 {
@@ -60,7 +61,8 @@ fn empty_lists(alloc: Global) -> Result<Vec<Vec<u32>>, AllocError>
 /// For each thread the places of its events in the file, by index.
 fn by_thread(alloc: Global, order: &[LogPlace]) -> Result<Vec<Vec<u32>>, AllocError>
     ensures wide { IfOk result (λ v. length v.items ≡ 256) }
-    ensures lists { IfOk result (λ v. (t : ℕ) → t < 256 → (d : Vec ℕ) → (slice_index_or v.items t d).items ≡ thread_places t order.now) }
+    ensures lists { IfOk result (λ v. (t : ℕ) → t < 256 → (d : Vec ℕ) →
+        (slice_index_or v.items t d).items ≡ thread_places t order.now) }
 {
     let mut lists = empty_lists(alloc)?;
     for place in order {
@@ -79,15 +81,19 @@ fn by_thread(alloc: Global, order: &[LogPlace]) -> Result<Vec<Vec<u32>>, AllocEr
 pub fn closed(alloc: Global, kept: Kept) -> Result<Closed, OrderError>
     // what passes fits, and what fits passes, but when out of memory
     ensures fits { OnOk result (AreRight kept.whole (events_of kept.records) (events_of kept.records)) }
-    ensures passes { AreRight kept.whole (events_of kept.records) (events_of kept.records) → IsOkUnless result Memory }
+    ensures passes { AreRight kept.whole (events_of kept.records) (events_of kept.records) →
+        IsOkUnless result Memory }
     // the error named is the first in file order, and the first is named, but when out of memory
-    ensures refused { (error : OrderError) → IsErrOf result error → error ≢ Memory → IsFirstWrong kept.whole (events_of kept.records) error }
-    ensures first { (error : OrderError) → IsFirstWrong kept.whole (events_of kept.records) error → IsErrOf result error ⊎ IsErrOf result Memory }
+    ensures refused { (error : OrderError) → IsErrOf result error → error ≢ Memory →
+        IsFirstWrong kept.whole (events_of kept.records) error }
+    ensures first { (error : OrderError) → IsFirstWrong kept.whole (events_of kept.records) error →
+        IsErrOf result error ⊎ IsErrOf result Memory }
     // the union of all closed sets, in order
     ensures part { IfOk result (λ c. IsClosedPart (events_of kept.records) c.events) }
     ensures whole { IfOk result (λ c. c.whole ≡ kept.whole) }
     // a whole log is kept whole
-    ensures all { IfOk result (λ c. IsTrue kept.whole → (e : LogEvent) → In e (events_of kept.records) → In e c.events) }
+    ensures all { IfOk result (λ c. IsTrue kept.whole → (e : LogEvent) → In e (events_of kept.records) →
+        In e c.events) }
     // each clock is the length of the longest causal chain that ends in its event
     ensures clocks { IfOk result (λ c. (e : LogEvent) → In e c.events → IsClock c.events e) }
     // indices and tickets count the events before that have the thread or key

@@ -33,7 +33,8 @@ fn holds_keys(done: &BTreeSet<Tie>, marks: &[KeyMark]) -> bool
 }
 
 fn add_keys(done: &mut BTreeSet<Tie>, marks: &[KeyMark]) -> Result<(), AllocError>
-    ensures { OnOk result ((t : Tie) → contains tie_cmp done.new t ≡ (contains tie_cmp done.old t || listed (map key_tie marks.now) t)) }
+    ensures { OnOk result ((t : Tie) → contains tie_cmp done.new t ≡
+        (contains tie_cmp done.old t || listed (map key_tie marks.now) t)) }
 {
     for mark in marks {
         done.insert(tie_of(mark))?;
@@ -51,7 +52,9 @@ struct Grown {
 impl Grown {
     /// Adds the event, if its direct predecessors were added.
     fn join(&mut self, place: &LogPlace, marks: &[KeyMark]) -> Result<bool, AllocError>
-        ensures { (part : List LogEvent) (e : LogEvent) → IsGrown self.old part → place.now.thread ≡ e.name.thread → place.now.index ≡ e.name.index → marks.now ≡ e.entry.keys → IfOk result (λ r. (r ≡ has_before part e) × IsGrown self.new (cond r (part ++ e ∷ []) part)) }
+        ensures { (part : List LogEvent) (e : LogEvent) → IsGrown self.old part →
+            place.now.thread ≡ e.name.thread → place.now.index ≡ e.name.index → marks.now ≡ e.entry.keys →
+            IfOk result (λ r. (r ≡ has_before part e) × IsGrown self.new (cond r (part ++ e ∷ []) part)) }
     {
         let thread = usize::from(place.thread);
         let length = self.lengths[thread];
@@ -75,7 +78,8 @@ pub fn grow(
     order: &[LogPlace],
 ) -> Result<Vec<LogPlace>, AllocError>
     requires { All (λ p. p.at < length records.now) order.now }
-    ensures part { IfOk result (λ v. events_at records.now v.items ≡ grow [] (events_at records.now order.now)) }
+    ensures part { IfOk result (λ v. events_at records.now v.items ≡
+        grow [] (events_at records.now order.now)) }
     ensures within { IfOk result (λ v. All (λ p. p.at < length records.now) v.items) }
     ensures few { IfOk result (λ v. length v.items ≤ length order.now) }
 {

@@ -52,7 +52,9 @@ impl Numbering {
     fn add(&mut self, marks: &[KeyMark]) -> Result<(), AllocError>
         requires { AreNumbers self.old.keys.numbers (vec_len self.old.keys.counts) }
         ensures numbers { OnOk result (AreNumbers self.new.keys.numbers (vec_len self.new.keys.counts)) }
-        ensures marks { (seen : List KeyMark) → HaveNumbers (number_in self.old) seen self.old.marks.items → OnOk result (HaveNumbers (number_in self.new) (seen ++ marks.now) self.new.marks.items) }
+        ensures marks { (seen : List KeyMark) →
+            HaveNumbers (number_in self.old) seen self.old.marks.items →
+            OnOk result (HaveNumbers (number_in self.new) (seen ++ marks.now) self.new.marks.items) }
     {
         for mark in marks {
             let number = self.keys.count(key_of(mark))?;

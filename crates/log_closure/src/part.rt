@@ -89,7 +89,10 @@ impl Closed {
     /// The record of the event with this name; None exactly where the index isn't below the thread's `len`.
     pub fn at(&self, thread: u8, index: u32) -> Option<&Record>
         ensures there { is_some result ≡ ltb index (thread_count thread self.now.events) }
-        ensures it { IfSome result (λ entry. In (record { name = record { thread = thread; index = index }; entry = entry.now }) self.now.events) }
+        ensures it { IfSome result (λ entry. In (record {
+          name = record { thread = thread; index = index };
+          entry = entry.now;
+        }) self.now.events) }
     {
         let places = self.by_thread[usize::from(thread)].as_slice();
         let index = index as usize;

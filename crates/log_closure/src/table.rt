@@ -25,7 +25,8 @@ fn rows_of(alloc: Global, counts: &[u32]) -> Result<Vec<Vec<Option<u32>>>, Alloc
 /// Puts the clock where none is; true where one is.
 fn put_in_row(row: &mut Vec<Option<u32>>, number: usize, clock: u32) -> bool
     requires { number < vec_len row.old }
-    ensures clock { row.new.items ≡ slice_set row.old.items number (or_else (slice_index_or row.old.items number None) (Some clock)) }
+    ensures clock { row.new.items ≡ slice_set row.old.items number
+        (or_else (slice_index_or row.old.items number None) (Some clock)) }
     ensures there { result ≡ is_some (slice_index_or row.old.items number None) }
 {
     let first = row[number];
@@ -35,7 +36,8 @@ fn put_in_row(row: &mut Vec<Option<u32>>, number: usize, clock: u32) -> bool
 
 /// Puts the clock where none is; true where one is.
 fn put_apart(rest: &mut BTreeMap<Tie, u32>, tie: Tie, clock: u32) -> Result<bool, AllocError>
-    ensures clock { OnOk result ((t : Tie) → get tie_cmp rest.new t ≡ cond (same tie t) (or_else (get tie_cmp rest.old t) (Some clock)) (get tie_cmp rest.old t)) }
+    ensures clock { OnOk result ((t : Tie) → get tie_cmp rest.new t ≡
+        cond (same tie t) (or_else (get tie_cmp rest.old t) (Some clock)) (get tie_cmp rest.old t)) }
     ensures there { IfOk result (λ r. r ≡ is_some (get tie_cmp rest.old tie)) }
 {
     if let Some(first) = rest.insert(tie, clock)? {
@@ -66,8 +68,12 @@ impl Table {
 
     /// Puts the clock at the key, which has this number, and the ticket, if none is there; true where one is.
     pub fn put(&mut self, key: u32, tie: Tie, clock: u32) -> Result<bool, AllocError>
-        ensures clock { (number : Numbers) → AreApart number → number (tie_key tie) ≡ Some key → OnOk result ((t : Tie) → clock_in number self.new t ≡ cond (same tie t) (or_else (clock_in number self.old t) (Some clock)) (clock_in number self.old t)) }
-        ensures there { (number : Numbers) → number (tie_key tie) ≡ Some key → IfOk result (λ r. r ≡ is_some (clock_in number self.old tie)) }
+        ensures clock { (number : Numbers) → AreApart number → number (tie_key tie) ≡ Some key →
+            OnOk result ((t : Tie) → clock_in number self.new t ≡
+            cond (same tie t) (or_else (clock_in number self.old t) (Some clock))
+            (clock_in number self.old t)) }
+        ensures there { (number : Numbers) → number (tie_key tie) ≡ Some key →
+            IfOk result (λ r. r ≡ is_some (clock_in number self.old tie)) }
     {
         let ticket = tie.number as usize;
         if let Some(row) = self.rows.get_mut(key as usize) {
@@ -80,7 +86,8 @@ impl Table {
 
     /// The clock at the key, which has this number, and the ticket.
     pub fn get(&self, key: u32, tie: Tie) -> Option<u32>
-        ensures { (number : Numbers) → number (tie_key tie) ≡ Some key → result ≡ clock_in number self.now tie }
+        ensures { (number : Numbers) → number (tie_key tie) ≡ Some key →
+            result ≡ clock_in number self.now tie }
     {
         let ticket = tie.number as usize;
         if let Some(row) = self.rows.get(key as usize) {

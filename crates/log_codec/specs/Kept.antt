@@ -21,12 +21,14 @@ module _ (number : Width → ℕ → List ℕ) where
   -- of records spelled one after the other, those that end within n bytes
   abbrev pub records_within : ℕ → List Record → List Record
   records_within n [] = []
-  records_within n (r ∷ rs) = if nat_le (length (record_text number r)) n then r ∷ records_within (n - length (record_text number r)) rs else []
+  records_within n (r ∷ rs) = if nat_le (length (record_text number r)) n then r ∷
+      records_within (n - length (record_text number r)) rs else []
 
   -- the same of chunks
   abbrev pub chunks_within : ℕ → List Chunk → List Record
   chunks_within n [] = []
-  chunks_within n (c ∷ cs) = records_within (n - length (chunk_head number c)) c.records ++ chunks_within (n - length (chunk_text number c)) cs
+  chunks_within n (c ∷ cs) = records_within (n - length (chunk_head number c)) c.records ++
+      chunks_within (n - length (chunk_text number c)) cs
 
 -- the same of a log
 abbrev pub log_within : Version → ℕ → List Chunk → List Record
@@ -34,7 +36,8 @@ log_within v n cs = chunks_within v.number (n - length (head_text v)) cs
 
 -- these records stand in the bytes in full, whatever log text begins with the bytes
 abbrev pub StandInFull : List ℕ → List Record → Type 0
-StandInFull bytes rs = (cs : List Chunk) (more : List ℕ) → IsLogOf (bytes ++ more) cs → rs ≡ log_within version_1 (length bytes) cs
+StandInFull bytes rs = (cs : List Chunk) (more : List ℕ) → IsLogOf (bytes ++ more) cs →
+    rs ≡ log_within version_1 (length bytes) cs
 
 -- these are all the records of the log text that the bytes are
 abbrev pub AreAll : List ℕ → List Record → Type 0

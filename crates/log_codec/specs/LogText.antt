@@ -66,7 +66,8 @@ module _ (number : Width → ℕ → List ℕ) where
   body_text (Stop reason) = reason_number reason ∷ []
 
   abbrev pub record_text : Record → List ℕ
-  record_text r = kind_number r.event ∷ (number w32 r.steps ++ number w32 r.clock ++ counted key_text r.keys ++ body_text r.event)
+  record_text r = kind_number r.event ∷ (number w32 r.steps ++ number w32 r.clock ++
+      counted key_text r.keys ++ body_text r.event)
 
   -- the letter C, the thread, and how many records follow
   abbrev pub chunk_head : Chunk → List ℕ
@@ -85,7 +86,8 @@ head_text v = 82 ∷ 50 ∷ 76 ∷ 79 ∷ 71 ∷ v.byte ∷ []
 
 -- the text of a log: the head, the chunks, the end
 abbrev pub log_text : Version → List Chunk → List ℕ
-log_text v cs = head_text v ++ flat_map (chunk_text v.number) cs ++ end_text v.number (length (records_of cs))
+log_text v cs = head_text v ++ flat_map (chunk_text v.number) cs ++
+    end_text v.number (length (records_of cs))
 
 -- ---- what can be spelled
 

@@ -1,4 +1,5 @@
--- What becomes of records that are put into a log: a return that repeats the one before is put without its result and pieces.
+-- What becomes of records that are put into a log: a return that repeats the one before is put without its
+-- result and pieces.
 use Rattle.std.specs.Prelude.{ℕ, true, false, List, [], ◌++◌, length, map}
 use Rattle.std.specs.List.{flat_map}
 use Rattle.run_events.specs.declared.event.Event.{Event}

@@ -122,7 +122,10 @@ module _ (n : Numbers) where
     clock ← n.at w32 steps.1
     keys ← counted_at key_at 16 clock.1
     event ← body_at kind.0 keys.1
-    Done (record { thread = thread; steps = steps.0; clock = clock.0; keys = keys.0; event = event.0 }, event.1)
+    Done (
+      record { thread = thread; steps = steps.0; clock = clock.0; keys = keys.0; event = event.0 },
+      event.1,
+    )
 
   -- the thread and the count of a chunk, after its letter
   unfoldable pub chunk_head_at : List ℕ → Reading (ℕ × ℕ)
@@ -164,11 +167,17 @@ module _ (n : Numbers) where
 
 -- ---- what a function does that adds the records of a part of a log
 
-abbrev pub AddsChunk : {X : Type 0} → Numbers → (X → List ℕ) → List Record → List Record → Result X Stop → List ℕ → Type 0
-AddsChunk n view old new (Ok rest) bytes = (c : Chunk) × (chunk_at n bytes ≡ Done (c, view rest)) × (new ≡ old ++ c.records)
+abbrev pub AddsChunk : {X : Type 0} → Numbers → (X → List ℕ) → List Record → List Record → Result X Stop →
+    List ℕ → Type 0
+AddsChunk n view old new (Ok rest) bytes = (c : Chunk) × (chunk_at n bytes ≡ Done (c, view rest)) ×
+    (new ≡ old ++ c.records)
 AddsChunk n view old new (Err e) bytes = StopsAfter old new e (chunk_at n bytes) (read_chunk n bytes)
 
-abbrev pub AddsItem : {X : Type 0} → Numbers → (X → List ℕ) → List Record → List Record → Result (Section × X) Stop → List ℕ → Type 0
-AddsItem n view old new (Ok (mark.Chunk, rest)) bytes = (c : Chunk) × (item_at n (length old) bytes ≡ Done (Some c, view rest)) × (new ≡ old ++ c.records)
-AddsItem n view old new (Ok (mark.End, rest)) bytes = (item_at n (length old) bytes ≡ Done (None, view rest)) × (new ≡ old)
-AddsItem n view old new (Err e) bytes = StopsAfter old new e (item_at n (length old) bytes) (read_item n bytes)
+abbrev pub AddsItem : {X : Type 0} → Numbers → (X → List ℕ) → List Record → List Record →
+    Result (Section × X) Stop → List ℕ → Type 0
+AddsItem n view old new (Ok (mark.Chunk, rest)) bytes = (c : Chunk) ×
+    (item_at n (length old) bytes ≡ Done (Some c, view rest)) × (new ≡ old ++ c.records)
+AddsItem n view old new (Ok (mark.End, rest)) bytes =
+    (item_at n (length old) bytes ≡ Done (None, view rest)) × (new ≡ old)
+AddsItem n view old new (Err e) bytes = StopsAfter old new e (item_at n (length old) bytes)
+    (read_item n bytes)

@@ -92,7 +92,8 @@ pub fn parse(alloc: Global, bytes: &[u8]) -> Result<Kept, LogError>
     ensures kept { IfOk result (λ kept. CanBeKept kept.records) }
     // The byte named is the first wrong one, and the first wrong one is named, but when out of memory.
     ensures bad_byte { (n : ℕ) → IsErrOf result (LogError.BadByte n) → IsFirstWrong bytes.now n }
-    ensures first_wrong { (n : ℕ) → IsFirstWrong bytes.now n → IsErrOf result (LogError.BadByte n) ⊎ IsErrOf result LogError.Memory }
+    ensures first_wrong { (n : ℕ) → IsFirstWrong bytes.now n → IsErrOf result (LogError.BadByte n) ⊎
+        IsErrOf result LogError.Memory }
 {
     let mut records = Vec::new(alloc);
     let whole = match read_log(alloc, bytes, &mut records) {

@@ -63,7 +63,8 @@ fn put_pieces(out: &mut Tail, pieces: &Pieces) -> Result<(), AllocError>
     requires few { length pieces.now < 256 }
     requires each { AllByRecursion IsPiece pieces.now }
     ensures before { out.new.before ≡ out.old.before }
-    ensures added { OnOk result (out.new.added ≡ out.old.added ++ counted (piece_text to_be_bytes) pieces.now) }
+    ensures added { OnOk result (out.new.added ≡ out.old.added ++
+        counted (piece_text to_be_bytes) pieces.now) }
 {
     let pieces = pieces.as_slice();
     out.put_byte(pieces.len() as u8)?;
@@ -76,7 +77,8 @@ fn put_pieces(out: &mut Tail, pieces: &Pieces) -> Result<(), AllocError>
 fn put_call(out: &mut Tail, func: u16, args: &Words) -> Result<(), AllocError>
     requires { length args.now < 256 }
     ensures before { out.new.before ≡ out.old.before }
-    ensures added { OnOk result (out.new.added ≡ out.old.added ++ (to_be_bytes w16 func ++ counted (to_be_bytes w64) args.now)) }
+    ensures added { OnOk result (out.new.added ≡ out.old.added ++
+        (to_be_bytes w16 func ++ counted (to_be_bytes w64) args.now)) }
 {
     out.put(&func.to_be_bytes())?;
     put_words(out, args)
@@ -150,7 +152,8 @@ fn put_record(out: &mut Tail, entry: &Record) -> Result<(), AllocError>
 fn put_records(out: &mut Tail, records: &[Record]) -> Result<(), AllocError>
     requires { AllByRecursion CanBePut records.now }
     ensures before { out.new.before ≡ out.old.before }
-    ensures added { OnOk result (out.new.added ≡ out.old.added ++ flat_map (record_text to_be_bytes) records.now) }
+    ensures added { OnOk result (out.new.added ≡ out.old.added ++
+        flat_map (record_text to_be_bytes) records.now) }
 {
     for record in records {
         put_record(out, record)?;
@@ -171,7 +174,8 @@ fn put_whole_chunk(out: &mut Tail, thread: u8, records: &[Record]) -> Result<(),
     requires few { length records.now < 2 ^ 16 }
     requires each { AllByRecursion CanBePut records.now }
     ensures before { out.new.before ≡ out.old.before }
-    ensures added { OnOk result (out.new.added ≡ out.old.added ++ chunk_text to_be_bytes (record { thread = thread; records = records.now })) }
+    ensures added { OnOk result (out.new.added ≡ out.old.added ++
+        chunk_text to_be_bytes (record { thread = thread; records = records.now })) }
 {
     out.put_byte(0x43)?;
     out.put_byte(thread)?;
@@ -183,7 +187,8 @@ fn put_whole_chunk(out: &mut Tail, thread: u8, records: &[Record]) -> Result<(),
 /// and pieces: the chunk leaves them out, and who reads it finds the result 0 and no pieces. Without memory nothing is added.
 pub fn put_chunk(to: &mut Vec<u8>, thread: u8, records: &[Record]) -> Result<(), AllocError>
     requires { IsChunk (log_chunk (record { thread = thread; records = records.now })) }
-    ensures ok { OnOk result (to.new.items ≡ to.old.items ++ chunk_text version_1.number (log_chunk (record { thread = thread; records = records.now }))) }
+    ensures ok { OnOk result (to.new.items ≡ to.old.items ++
+        chunk_text version_1.number (log_chunk (record { thread = thread; records = records.now }))) }
     ensures err { OnErr result (to.new.items ≡ to.old.items) }
 {
     let mut tail = Tail::of(to);

@@ -14,8 +14,10 @@ use run_events::{EventName, KeyMark, Record};
 
 /// Whether the key with the ticket before is one of `own`, and at no event before.
 fn comes_from(before: &[Record], own: &[KeyMark], mark: &KeyMark) -> bool
-    ensures there { OnTrue result ((m : KeyMark) × (mark.now ≡ next m) × (HasMark (events_of before.now) m → ⊥) × In m own.now) }
-    ensures none { OnFalse result ((m : KeyMark) → mark.now ≡ next m → (HasMark (events_of before.now) m → ⊥) → In m own.now → ⊥) }
+    ensures there { OnTrue result ((m : KeyMark) × (mark.now ≡ next m) ×
+        (HasMark (events_of before.now) m → ⊥) × In m own.now) }
+    ensures none { OnFalse result ((m : KeyMark) → mark.now ≡ next m →
+        (HasMark (events_of before.now) m → ⊥) → In m own.now → ⊥) }
 {
     match mark_before(mark) {
         Some(earlier) => has(own, &earlier) && !any_has(before, &earlier),
@@ -25,8 +27,10 @@ fn comes_from(before: &[Record], own: &[KeyMark], mark: &KeyMark) -> bool
 
 /// Whether one of `marks` comes from one of `own`.
 fn leads_by_key(before: &[Record], own: &[KeyMark], marks: &[KeyMark]) -> bool
-    ensures there { OnTrue result ((m : KeyMark) × In (next m) marks.now × (HasMark (events_of before.now) m → ⊥) × In m own.now) }
-    ensures none { OnFalse result ((m : KeyMark) → In (next m) marks.now → (HasMark (events_of before.now) m → ⊥) → In m own.now → ⊥) }
+    ensures there { OnTrue result ((m : KeyMark) × In (next m) marks.now ×
+        (HasMark (events_of before.now) m → ⊥) × In m own.now) }
+    ensures none { OnFalse result ((m : KeyMark) → In (next m) marks.now →
+        (HasMark (events_of before.now) m → ⊥) → In m own.now → ⊥) }
 {
     for mark in marks {
         if comes_from(before, own, mark) {
@@ -40,8 +44,10 @@ fn leads_by_key(before: &[Record], own: &[KeyMark], marks: &[KeyMark]) -> bool
 /// this name and record.
 fn leads(before: &[Record], earlier: &Record, name: EventName, entry: &Record) -> bool
     requires { length before.now < 2 ^ 32 }
-    ensures there { OnTrue result (LeadsTo (record { name = name; entry = entry.now }) (events_of before.now) (event_of before.now earlier.now)) }
-    ensures none { OnFalse result (LeadsTo (record { name = name; entry = entry.now }) (events_of before.now) (event_of before.now earlier.now) → ⊥) }
+    ensures there { OnTrue result (LeadsTo (record { name = name; entry = entry.now })
+        (events_of before.now) (event_of before.now earlier.now)) }
+    ensures none { OnFalse result (LeadsTo (record { name = name; entry = entry.now })
+        (events_of before.now) (event_of before.now earlier.now) → ⊥) }
 {
     let own = name_of(before, earlier);
     if own.thread == name.thread && u64::from(own.index) + 1 == u64::from(name.index) {
@@ -67,8 +73,10 @@ fn greatest_before(records: &[Record], name: EventName, entry: &Record) -> u32
 /// Whether the event's direct predecessors are all there, and its clock isn't 1 plus the greatest of theirs.
 pub fn is_clock_wrong(records: &[Record], name: EventName, entry: &Record) -> bool
     requires { length records.now < 2 ^ 32 }
-    ensures there { OnTrue result (IsClockWrong (events_of records.now) (record { name = name; entry = entry.now })) }
-    ensures none { OnFalse result (IsClockWrong (events_of records.now) (record { name = name; entry = entry.now }) → ⊥) }
+    ensures there { OnTrue result (IsClockWrong (events_of records.now)
+        (record { name = name; entry = entry.now })) }
+    ensures none { OnFalse result (IsClockWrong (events_of records.now)
+        (record { name = name; entry = entry.now }) → ⊥) }
 {
     if !holds_predecessors(records, name, entry) {
         return false;

@@ -66,7 +66,8 @@ pub fn is_twice(before: &[Record], entry: &Record) -> bool
 
 /// Whether the ticket is above 0 and no event of the file has the key with the ticket before.
 fn lacks_before(records: &[Record], mark: &KeyMark) -> bool
-    ensures there { OnTrue result ((m : KeyMark) × (mark.now ≡ next m) × (HasMark (events_of records.now) m → ⊥)) }
+    ensures there { OnTrue result ((m : KeyMark) × (mark.now ≡ next m) ×
+        (HasMark (events_of records.now) m → ⊥)) }
     ensures none { OnFalse result ((m : KeyMark) → mark.now ≡ next m → HasMark (events_of records.now) m) }
 {
     match mark_before(mark) {
@@ -77,8 +78,10 @@ fn lacks_before(records: &[Record], mark: &KeyMark) -> bool
 
 /// Whether for one of the keys with a ticket above 0 no event of the file has it with the ticket before.
 pub fn lacks(records: &[Record], marks: &[KeyMark]) -> bool
-    ensures there { OnTrue result ((m : KeyMark) × In (next m) marks.now × (HasMark (events_of records.now) m → ⊥)) }
-    ensures none { OnFalse result ((m : KeyMark) → In (next m) marks.now → HasMark (events_of records.now) m) }
+    ensures there { OnTrue result ((m : KeyMark) × In (next m) marks.now ×
+        (HasMark (events_of records.now) m → ⊥)) }
+    ensures none { OnFalse result ((m : KeyMark) → In (next m) marks.now →
+        HasMark (events_of records.now) m) }
 {
     for mark in marks {
         if lacks_before(records, mark) {
@@ -123,8 +126,10 @@ fn follows(records: &[Record], name: EventName) -> bool
 /// Whether the file holds the direct predecessors of the event.
 pub fn holds_predecessors(records: &[Record], name: EventName, entry: &Record) -> bool
     requires { length records.now < 2 ^ 32 }
-    ensures there { OnTrue result (HoldsPredecessors (events_of records.now) (record { name = name; entry = entry.now })) }
-    ensures none { OnFalse result (HoldsPredecessors (events_of records.now) (record { name = name; entry = entry.now }) → ⊥) }
+    ensures there { OnTrue result (HoldsPredecessors (events_of records.now)
+        (record { name = name; entry = entry.now })) }
+    ensures none { OnFalse result (HoldsPredecessors (events_of records.now)
+        (record { name = name; entry = entry.now }) → ⊥) }
 {
     follows(records, name) && !lacks(records, entry.keys.as_slice())
 }

@@ -14,8 +14,10 @@ use run_events::Record;
 fn wrong(whole: bool, records: &[Record], before: &[Record], entry: &Record) -> Option<OrderError>
     requires few { length records.now < 2 ^ 32 }
     requires short { length before.now < 2 ^ 32 }
-    ensures right { IfNone result (IsRight whole (events_of records.now) (events_of before.now) (event_of before.now entry.now)) }
-    ensures wrong { IfSome result (λ error. IsWrong whole (events_of records.now) (events_of before.now) (event_of before.now entry.now) error) }
+    ensures right { IfNone result (IsRight whole (events_of records.now) (events_of before.now)
+        (event_of before.now entry.now)) }
+    ensures wrong { IfSome result (λ error. IsWrong whole (events_of records.now) (events_of before.now)
+        (event_of before.now entry.now) error) }
 {
     let name = name_of(before, entry);
     if is_twice(before, entry) {
@@ -36,7 +38,8 @@ fn wrong(whole: bool, records: &[Record], before: &[Record], entry: &Record) -> 
 pub fn first_wrong_event(whole: bool, records: &[Record]) -> Option<OrderError>
     requires { length records.now < 2 ^ 32 }
     ensures right { (result ≡ None) ↔ AreRight whole (events_of records.now) (events_of records.now) }
-    ensures wrong { (error : OrderError) → (result ≡ Some error) ↔ IsFirstWrong whole (events_of records.now) error }
+    ensures wrong { (error : OrderError) → (result ≡ Some error) ↔ IsFirstWrong whole
+        (events_of records.now) error }
 {
     for (at, entry) in records.iter().enumerate() {
         if let Some(error) = wrong(whole, records, &records[..at], entry) {

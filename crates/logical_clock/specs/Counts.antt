@@ -21,7 +21,8 @@ last_clock (m ∷ past) l = cond (has m l) (suc (latest (last_clock past) m)) (l
 pub record Counts (past : List Occurrence) (c : ClockState) : Type 0 where
   pub events : c.events ≡ length past
   pub of_threads : (t : ℕ) → t < length c.threads → slice_index c.threads t ≡ last_clock past (OfThread t)
-  pub of_keys : (k : Key) → counted_at c.numbers c.rows (name k) ≡ record { events = count (OfKey k) past; clock = last_clock past (OfKey k) }
+  pub of_keys : (k : Key) → counted_at c.numbers c.rows (name k) ≡
+      record { events = count (OfKey k) past; clock = last_clock past (OfKey k) }
 
 -- some events lead to this
 abbrev pub Reached : ClockState → Type 0

@@ -1,4 +1,5 @@
--- The events of a run, the newest first: how they are numbered by what ties them to each other, and their clocks and tickets.
+-- The events of a run, the newest first: how they are numbered by what ties them to each other, and their
+-- clocks and tickets.
 use Rattle.std.specs.Prelude.{◌≡◌, ℕ, suc, Bool, true, false, ◌||◌, cond, eqb, List, [], ◌∷◌, map}
 use Rattle.run_events.specs.declared.key.Key.{Key}
 use Rattle.run_events.specs.declared.event.Stamp.{Stamp}

@@ -67,4 +67,5 @@ after has clock c = cond has (one_more clock c) c
 
 -- what is kept after one event more, which has these keys
 abbrev pub AreCounted : Keys → Keys → List Key → ℕ → Type 0
-AreCounted old new of clock = (q : KeyName) → counted_in new q ≡ after (is_named of q) clock (counted_in old q)
+AreCounted old new of clock = (q : KeyName) →
+    counted_in new q ≡ after (is_named of q) clock (counted_in old q)

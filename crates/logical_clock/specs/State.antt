@@ -3,7 +3,8 @@ use Rattle.std.specs.Prelude.{ℕ, List}
 use Rattle.logical_clock.specs.declared.name.KeyName.{KeyName}
 use Rattle.logical_clock.specs.declared.keys.Counted.{Counted}
 
--- how many events were made; by thread the clock of its last event; the numbers of the keys, and by number what is kept of each
+-- how many events were made; by thread the clock of its last event; the numbers of the keys, and by number
+-- what is kept of each
 pub record ClockState : Type 0 where
   pub events : ℕ
   pub threads : List ℕ

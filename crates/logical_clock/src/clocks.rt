@@ -28,9 +28,21 @@ impl Model for Clocks {
     ghost use Rattle.logical_clock.specs.Counts.{Reached};
     ghost use Rattle.logical_clock.specs.Kept.{AreNumbered};
 
-    ghost view = { λ c. record { events = c.events; threads = c.threads.items; numbers = c.keys.numbers.entries; rows = c.keys.rows.items } };
+    ghost view = { λ c. record {
+      events = c.events;
+      threads = c.threads.items;
+      numbers =
+          c.keys.numbers.entries;
+      rows = c.keys.rows.items;
+    } };
 
-    ghost invariant = { λ c. Reached (record { events = c.events; threads = c.threads.items; numbers = c.keys.numbers.entries; rows = c.keys.rows.items }) × AreNumbered c.keys };
+    ghost invariant = { λ c. Reached (record {
+      events = c.events;
+      threads = c.threads.items;
+      numbers =
+          c.keys.numbers.entries;
+      rows = c.keys.rows.items;
+    }) × AreNumbered c.keys };
 }
 
 impl Clocks {

@@ -70,7 +70,8 @@ impl Keys {
         requires below { number < vec_len self.old.rows }
         requires few { (row self.old number).events < 4000000000 }
         ensures ticket { result ≡ (row self.old number).events }
-        ensures rows { self.new.rows.items ≡ slice_set self.old.rows.items number (one_more clock (row self.old number)) }
+        ensures rows { self.new.rows.items ≡ slice_set self.old.rows.items number
+            (one_more clock (row self.old number)) }
         ensures numbers { self.new.numbers ≡ self.old.numbers }
     {
         let row = &mut self.rows[number as usize];

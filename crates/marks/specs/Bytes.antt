@@ -41,7 +41,8 @@ event_writes (Alloc at size) x = within at (granted at size) x
 event_writes (Free at size) x = within at size x
 event_writes _ x = false
 
--- a refused write counts as one where it meets no constant; constants are never written, and reading them is free
+-- a refused write counts as one where it meets no constant; constants are never written, and reading them
+-- is free
 abbrev pub access_reads : Access → ℕ → Bool
 access_reads (Reading r) x = covers r x
 access_reads (Writing r) x = covers r x && is_constant x
@@ -96,14 +97,16 @@ release c = c
 
 -- what a piece leaves of a byte of its range
 abbrev pub give : Piece → ℕ → Cell → Cell
-give p x c = cond (ltb x (p.range.addr + length p.bytes)) (Live (byte_at p.range.addr p.bytes x)) (release c)
+give p x c = cond (ltb x (p.range.addr + length p.bytes)) (Live (byte_at p.range.addr p.bytes x))
+    (release c)
 
 abbrev pub give_any : List Piece → ℕ → Cell → Cell
 give_any [] x c = c
 give_any (p ∷ ps) x c = cond (covers p.range x) (give p x c) (give_any ps x c)
 
 abbrev pub event_leaves : EventKind → ℕ → Cell → Cell
-event_leaves (Call func args ins outs prepared) x c = cond (any_range outs x || any_prepared prepared x) (hold c) c
+event_leaves (Call func args ins outs prepared) x c =
+    cond (any_range outs x || any_prepared prepared x) (hold c) c
 event_leaves (Ret func args result same outs commit) x c = give_any (outs ++ released commit) x c
 event_leaves (Alloc at size) x c = cond (within at (granted at size) x) (Live 0) c
 event_leaves (Free at size) x c = cond (within at size x) Dead c
@@ -135,9 +138,11 @@ abbrev pub Shows : List Piece → ℕ → Cell → Type 0
 Shows [] x c = Unit {0}
 Shows (p ∷ ps) x c = (covers p.range x ≡ true → c ≡ Live (byte_at p.range.addr p.bytes x)) × Shows ps x c
 
--- what an event asks of a byte: a Call reads and holds live bytes that aren't pending, a Free gives back a whole block
+-- what an event asks of a byte: a Call reads and holds live bytes that aren't pending, a Free gives back a
+-- whole block
 abbrev pub EventAsks : EventKind → ℕ → Byte → Type 0
-EventAsks (Call func args ins outs prepared) x b = Shows ins x b.cell × ((any_range outs x || any_prepared prepared x) ≡ true → IsLive b.cell)
+EventAsks (Call func args ins outs prepared) x b = Shows ins x b.cell ×
+    ((any_range outs x || any_prepared prepared x) ≡ true → IsLive b.cell)
 EventAsks (Free at size) x b = within at size x ≡ true → IsLive b.cell × (x ≡ at → b.block ≡ size)
 EventAsks _ x b = Unit {0}
 
@@ -159,10 +164,12 @@ AccessAsks kind (Freeing at) c = (c at).block ≡ 0
 
 -- what a mark asks of the memory
 abbrev pub Asks : Act → (ℕ → Byte) → Type 0
-Asks (Load origin at bytes) c = (x : ℕ) → within at (length bytes) x ≡ true → (c x).cell ≡ Live (byte_at at bytes x)
+Asks (Load origin at bytes) c = (x : ℕ) → within at (length bytes) x ≡ true →
+    (c x).cell ≡ Live (byte_at at bytes x)
 Asks (Store origin at bytes) c = (x : ℕ) → within at (length bytes) x ≡ true → IsLive (c x).cell
 Asks (Leave at size) c = (x : ℕ) → within at size x ≡ true → IsLive (c x).cell
-Asks (Fault kind crosses ins outs access) c = ((x : ℕ) → (any_range ins x || any_range outs x) ≡ true → IsLive (c x).cell) × AccessAsks kind access c
+Asks (Fault kind crosses ins outs access) c =
+    ((x : ℕ) → (any_range ins x || any_range outs x) ≡ true → IsLive (c x).cell) × AccessAsks kind access c
 Asks (Made e) c = (x : ℕ) → EventAsks e.kind x (c x)
 Asks _ c = Unit {0}
 

@@ -14,35 +14,44 @@ pub data Access : Type 0 where
   Writing : (range : Range) → Access
   Freeing : (at : ℕ) → Access
 
--- what a return does with the region that its function commits: there is none, or its used size is negative and
+-- what a return does with the region that its function commits: there is none, or its used size is negative
+-- and
 -- the region stays prepared, or the region under this key is released
 pub data Commit : Type 0 where
   NoRegion : Commit
   Withheld : Commit
   Released : (key : ℕ) (region : Piece) → Commit
 
--- what happens where a thread crosses the cut, uses the pool, or stops. A Call carries what it reads and what it
--- holds; a Ret the arguments of its Call, and in the form `same` it is the thread's last Ret of that function again;
+-- what happens where a thread crosses the cut, uses the pool, or stops. A Call carries what it reads and
+-- what it
+-- holds; a Ret the arguments of its Call, and in the form `same` it is the thread's last Ret of that
+-- function again;
 -- an Alloc at 0 was refused; a Stop has the fault of its thread, or none
 pub data EventKind : Type 0 where
-  Call : (func : ℕ) (args : List ℕ) (ins : List Piece) (outs : List Range) (prepared : List Prepared) → EventKind
-  Ret : (func : ℕ) (args : List ℕ) (result : ℕ) (same : Bool) (outs : List Piece) (commit : Commit) → EventKind
+  Call : (func : ℕ) (args : List ℕ) (ins : List Piece) (outs : List Range) (prepared : List Prepared) →
+      EventKind
+  Ret : (func : ℕ) (args : List ℕ) (result : ℕ) (same : Bool) (outs : List Piece) (commit : Commit) →
+      EventKind
   Up : (func : ℕ) (args : List ℕ) → EventKind
   UpRet : (func : ℕ) (result : ℕ) → EventKind
   Alloc : (at size : ℕ) → EventKind
   Free : (at size : ℕ) → EventKind
   Stop : (fault : Option FaultKind) → EventKind
 
--- an event, how many steps its thread made since its previous one, its keys with their tickets, and its clock
+-- an event, how many steps its thread made since its previous one, its keys with their tickets, and its
+-- clock
 pub record Event : Type 0 where
   pub kind : EventKind
   pub steps : ℕ
   pub keys : List KeyMark
   pub clock : ℕ
 
--- what a mark does. A Load or Store has the global that its path begins with. A Step is a builtin or an external met
--- in system mode: what it read, the pieces that it wrote, the blocks that it freed. A fault stands in place of what it
--- stops: the ranges of a Call that were tested before, and the access; it crosses where it stops a Call at one of its
+-- what a mark does. A Load or Store has the global that its path begins with. A Step is a builtin or an
+-- external met
+-- in system mode: what it read, the pieces that it wrote, the blocks that it freed. A fault stands in place
+-- of what it
+-- stops: the ranges of a Call that were tested before, and the access; it crosses where it stops a Call at
+-- one of its
 -- ranges, or the pieces of an external
 pub data Act : Type 0 where
   Turn : Act
@@ -54,7 +63,8 @@ pub data Act : Type 0 where
   Fault : (kind : FaultKind) (crosses : Bool) (ins outs : List Range) (access : Access) → Act
   Made : (event : Event) → Act
 
--- a mark of a thread, with the number of the thread's earlier events. The event T.I is the mark of thread T with the
+-- a mark of a thread, with the number of the thread's earlier events. The event T.I is the mark of thread T
+-- with the
 -- index I that makes an event
 pub record Mark : Type 0 where
   pub thread : ℕ

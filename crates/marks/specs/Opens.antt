@@ -31,7 +31,8 @@ pub record OpenCall : Type 0 where
   pub outs : List Range
 
 abbrev pub calls_after : EventKind → List OpenCall → List OpenCall
-calls_after (Call func args ins outs prepared) cs = record { func = func; args = args; ins = piece_ranges ins; outs = outs } ∷ cs
+calls_after (Call func args ins outs prepared) cs =
+    record { func = func; args = args; ins = piece_ranges ins; outs = outs } ∷ cs
 calls_after (Ret func args result same outs commit) cs = tail cs
 calls_after (Up func args) cs = cs
 calls_after (UpRet func result) cs = cs

@@ -13,15 +13,19 @@ pub data Want : Type 0 where
   Turns : Want
   Loads : (origin : Option ℕ) (at width : ℕ) → Want
   Stores : (origin : Option ℕ) (at : ℕ) (bytes : List ℕ) → Want
-  Enters : (indirect : Bool) (func : ℕ) (args : List ℕ) (bytes : List ℕ) → Want  -- the bytes of the new frame
+  -- the bytes of the new frame
+  Enters : (indirect : Bool) (func : ℕ) (args : List ℕ) (bytes : List ℕ) → Want
   Leaves : (at size : ℕ) → Want
   Allocs : (size : ℕ) → Want
   Frees : (at : ℕ) → Want
   Calls : (indirect : Bool) (func : ℕ) (args : List ℕ) → Want  -- of the interface, above the cut
-  Below : (func : ℕ) (args : List ℕ) → Want  -- anything below the cut: calls back, or the return of the call
+  -- anything below the cut: calls back, or the return of the call
+  Below : (func : ℕ) (args : List ℕ) → Want
   Gives : (func : ℕ) (args : List ℕ) → Want  -- the return of a builtin or external
-  Returns : (func : ℕ) (args : List ℕ) (result : ℕ) → Want  -- the return of a call of a function with a body, which gave the result
-  CallsBack : (func : ℕ) (args bytes : List ℕ) → Want  -- an indirect call below the cut: an Up, or the function's frame
+  -- the return of a call of a function with a body, which gave the result
+  Returns : (func : ℕ) (args : List ℕ) (result : ℕ) → Want
+  -- an indirect call below the cut: an Up, or the function's frame
+  CallsBack : (func : ℕ) (args bytes : List ℕ) → Want
   UpReturns : (func result : ℕ) → Want
   Steps : (indirect : Bool) (func : ℕ) (args : List ℕ) → Want  -- a builtin or external, which is no event
   Fails : (kind : FaultKind) → Want
@@ -60,12 +64,14 @@ same_access _ _ = false
 
 -- the fault that stops one access, or none, of code that crosses nothing
 abbrev pub is_fault_of : FaultKind → Access → Act → Bool
-is_fault_of kind access (Fault k crosses ins outs a) = same_kind k kind && (not crosses && (no_ranges ins && (no_ranges outs && same_access a access)))
+is_fault_of kind access (Fault k crosses ins outs a) = same_kind k kind &&
+    (not crosses && (no_ranges ins && (no_ranges outs && same_access a access)))
 is_fault_of kind access _ = false
 
 -- a fault at a byte, of code that makes a Call or runs an external
 abbrev pub is_fault_at_byte : Bool → Act → Bool
-is_fault_at_byte crossing (Fault k crosses ins outs a) = (same_kind k NotLive || same_kind k ReadOnly) && (crosses || not crossing)
+is_fault_at_byte crossing (Fault k crosses ins outs a) = (same_kind k NotLive || same_kind k ReadOnly) &&
+    (crosses || not crossing)
 is_fault_at_byte crossing _ = false
 
 abbrev pub answer_if : Bool → Answer → Option Answer
@@ -79,11 +85,15 @@ event_answer Outside (Up g bs) = Some (CalledBack g bs)
 event_answer (Allocs n) (Alloc at size) = answer_if (eqb size n) (Value at)
 event_answer (Frees at) (Free x size) = answer_if (eqb x at) Go
 event_answer (Calls i f args) (Call g bs ins outs prepared) = answer_if (eqb g f && same_numbers bs args) Go
-event_answer (Below f args) (Ret g bs v same outs commit) = answer_if (eqb g f && same_numbers bs args) (Value v)
+event_answer (Below f args) (Ret g bs v same outs commit) =
+    answer_if (eqb g f && same_numbers bs args) (Value v)
 event_answer (Below f args) (Up g bs) = Some (CalledBack g bs)
-event_answer (Gives f args) (Ret g bs v same outs commit) = answer_if (eqb g f && same_numbers bs args) (Value v)
-event_answer (Returns f args v) (Ret g bs w same outs commit) = answer_if (eqb g f && (same_numbers bs args && eqb w v)) Go
-event_answer (CallsBack f args bytes) (Up g bs) = answer_if (eqb g f && same_numbers bs args) (CalledBack f args)
+event_answer (Gives f args) (Ret g bs v same outs commit) =
+    answer_if (eqb g f && same_numbers bs args) (Value v)
+event_answer (Returns f args v) (Ret g bs w same outs commit) =
+    answer_if (eqb g f && (same_numbers bs args && eqb w v)) Go
+event_answer (CallsBack f args bytes) (Up g bs) =
+    answer_if (eqb g f && same_numbers bs args) (CalledBack f args)
 event_answer (UpReturns f v) (UpRet g w) = answer_if (eqb g f && eqb w v) Go
 event_answer _ _ = None
 
@@ -91,23 +101,31 @@ event_answer _ _ = None
 unfoldable pub answer_to : Want → Act → Option Answer
 answer_to want (Made e) = event_answer want e.kind
 answer_to Turns Turn = Some Go
-answer_to (Loads o at n) (Load p x bytes) = answer_if ((same_origin p o && eqb x at) && (eqb (length bytes) n && are_bytes bytes)) (Value (number_of_bytes bytes))
+answer_to (Loads o at n) (Load p x bytes) = answer_if ((same_origin p o && eqb x at) &&
+    (eqb (length bytes) n && are_bytes bytes)) (Value (number_of_bytes bytes))
 answer_to (Loads o at n) act = stopped_if (is_fault_of NotLive (Reading (range at n)) act)
-answer_to (Stores o at bytes) (Store p x bs) = answer_if (same_origin p o && (eqb x at && same_numbers bs bytes)) Go
-answer_to (Stores o at bytes) act = stopped_if (is_fault_of NotLive (Writing (range at (length bytes))) act || is_fault_of ReadOnly (Writing (range at (length bytes))) act)
-answer_to (Enters i f args bytes) (Enter g bs at b) = answer_if (eqb g f && (same_numbers bs args && same_numbers b bytes)) (Frame at)
+answer_to (Stores o at bytes) (Store p x bs) =
+    answer_if (same_origin p o && (eqb x at && same_numbers bs bytes)) Go
+answer_to (Stores o at bytes) act = stopped_if
+    (is_fault_of NotLive (Writing (range at (length bytes))) act ||
+    is_fault_of ReadOnly (Writing (range at (length bytes))) act)
+answer_to (Enters i f args bytes) (Enter g bs at b) =
+    answer_if (eqb g f && (same_numbers bs args && same_numbers b bytes)) (Frame at)
 answer_to (Enters i f args bytes) act = stopped_if (is_fault_of StackFull Nowhere act)
 answer_to (Leaves at n) (Leave x size) = answer_if (eqb x at && eqb size n) Go
 answer_to (Frees at) act = stopped_if (not (eqb at 0) && is_fault_of NotLive (Freeing at) act)
 answer_to (Calls i f args) act = stopped_if (is_fault_at_byte true act)
-answer_to (CallsBack f args bytes) (Enter g bs at b) = answer_if (eqb g f && (same_numbers bs args && same_numbers b bytes)) (Frame at)
+answer_to (CallsBack f args bytes) (Enter g bs at b) =
+    answer_if (eqb g f && (same_numbers bs args && same_numbers b bytes)) (Frame at)
 answer_to (CallsBack f args bytes) act = stopped_if (is_fault_of StackFull Nowhere act)
-answer_to (Steps i f args) (Step g bs v ins pieces freed) = answer_if (eqb g f && same_numbers bs args) (Value v)
+answer_to (Steps i f args) (Step g bs v ins pieces freed) =
+    answer_if (eqb g f && same_numbers bs args) (Value v)
 answer_to (Steps i f args) act = stopped_if (is_fault_at_byte false act)
 answer_to (Fails kind) act = stopped_if (is_fault_of kind Nowhere act)
 answer_to _ _ = None
 
--- what code above the cut may want. It comes to a Step through a pointer to an external that isn't of the interface, and
+-- what code above the cut may want. It comes to a Step through a pointer to an external that isn't of the
+-- interface, and
 -- then may only stop
 abbrev pub is_above : Want → Bool
 is_above Outside = false

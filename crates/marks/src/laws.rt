@@ -12,12 +12,15 @@ pub fn unwritten_bytes_stay()
 
 /// What a mark asks of memory, it asks of the bytes that it touches.
 pub fn only_touched_bytes_count()
-    ensures { (a : Act) (c d : ℕ → Byte) → ((x : ℕ) → touches a x ≡ true → c x ≡ d x) → Asks a c → Asks a d }
+    ensures { (a : Act) (c d : ℕ → Byte) → ((x : ℕ) → touches a x ≡ true → c x ≡ d x) → Asks a c →
+        Asks a d }
 {}
 
 /// The return of a call is one that any code below the cut may make: of the same function, with the same arguments. Where the
 /// function has a body, the return has the result that the body gave.
 pub fn returns_are_below()
-    ensures given { (f : ℕ) (args : List ℕ) (v : ℕ) (act : Act) (x : Answer) → answer_to (Returns f args v) act ≡ Some x → answer_to (Below f args) act ≡ Some (Value v) }
-    ensures free { (f : ℕ) (args : List ℕ) (act : Act) (x : Answer) → answer_to (Gives f args) act ≡ Some x → answer_to (Below f args) act ≡ Some x }
+    ensures given { (f : ℕ) (args : List ℕ) (v : ℕ) (act : Act) (x : Answer) →
+        answer_to (Returns f args v) act ≡ Some x → answer_to (Below f args) act ≡ Some (Value v) }
+    ensures free { (f : ℕ) (args : List ℕ) (act : Act) (x : Answer) →
+        answer_to (Gives f args) act ≡ Some x → answer_to (Below f args) act ≡ Some x }
 {}

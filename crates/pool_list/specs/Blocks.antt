@@ -13,16 +13,19 @@ pub record PoolState : Type 0 where
 abbrev pub end_of : Block → ℕ
 end_of b = b.addr + b.len
 
--- blocks in address order between two addresses: none is empty, each begins at a multiple of 16, none meets another
+-- blocks in address order between two addresses: none is empty, each begins at a multiple of 16, none meets
+-- another
 abbrev pub LieBetween : ℕ → ℕ → List Block → Type 0
 LieBetween from to [] = from ≤ to
-LieBetween from to (b ∷ bs) = (from ≤ b.addr) × (b.addr % 16 ≡ 0) × (1 ≤ b.len) × LieBetween (end_of b) to bs
+LieBetween from to (b ∷ bs) = (from ≤ b.addr) × (b.addr % 16 ≡ 0) × (1 ≤ b.len) ×
+    LieBetween (end_of b) to bs
 
 -- the live blocks lie in the pool, in address order, and none meets another
 abbrev pub IsLaidOut : PoolState → Type 0
 IsLaidOut p = LieBetween p.base (p.base + p.size) p.blocks
 
--- what a pool with room for so many blocks keeps: its ends are multiples of 16 and addresses, and a block at each
+-- what a pool with room for so many blocks keeps: its ends are multiples of 16 and addresses, and a block
+-- at each
 -- multiple of 16 would have room
 pub record IsKept (base size room : ℕ) (blocks : List Block) : Type 0 where
   pub base_aligned : base % 16 ≡ 0

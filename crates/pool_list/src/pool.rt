@@ -59,7 +59,8 @@ impl Pool {
     pub fn give(&mut self, addr: u64) -> Result<u64, NotLive>
         ensures length { IfOk result (λ len. length_at self.old.blocks addr ≡ Some len) }
         ensures not_live { IsErr result ↔ (length_at self.old.blocks addr ≡ None) }
-        ensures given { OnOk result (self.new ≡ record self.old { blocks = without_block self.old.blocks addr }) }
+        ensures given { OnOk result (self.new ≡
+            record self.old { blocks = without_block self.old.blocks addr }) }
         ensures unchanged { OnErr result (self.new ≡ self.old) }
         ensures laid_out { IsLaidOut self.new }
     {
@@ -75,7 +76,8 @@ impl Pool {
     pub fn take(&mut self, n: u64) -> Option<u64>
         requires { 1 ≤ n }
         ensures place { IfSome result (IsLeastPlace self.old n) }
-        ensures taken { IfSome result (λ addr. self.new ≡ record self.old { blocks = with_block self.old.blocks (record { addr = addr; len = n }) }) }
+        ensures taken { IfSome result (λ addr. self.new ≡
+            record self.old { blocks = with_block self.old.blocks (record { addr = addr; len = n }) }) }
         ensures no_place { IfNone result ((addr : ℕ) → ¬ IsPlace self.old n addr) }
         ensures unchanged { IfNone result (self.new ≡ self.old) }
         ensures laid_out { IsLaidOut self.new }

@@ -3,7 +3,8 @@ use Rattle.std.specs.Prelude.{◌≡◌, ℕ, ◌-◌, ◌^◌, ◌≤◌, ◌<�
 use Rattle.r2_base.specs.declared.fault.Fault.{Fault}
 use Rattle.r2_base.specs.declared.fault.Fault.TheVariants.{Failed, Missing, Memory}
 
--- the count is greater than before, or has come to the last value of a counter; so what rose in a part of a call rose in the call
+-- the count is greater than before, or has come to the last value of a counter; so what rose in a part of a
+-- call rose in the call
 abbrev pub Rose : ℕ → ℕ → Type 0
 Rose before now = (before < now) ⊎ (2 ^ 64 - 1 ≤ now)
 

@@ -5,7 +5,8 @@ use Rattle.std.specs.Prelude.{◌≡◌, ◌≢◌, ◌≤◌, ℕ, List, Bool, 
 abbrev pub Contents : Type 0
 Contents = List ℕ → Option (List ℕ)
 
--- files: whether they tell what the names hold, what that is, and the counts of faults of reading and of writing
+-- files: whether they tell what the names hold, what that is, and the counts of faults of reading and of
+-- writing
 pub record Store : Type 0 where
   pub tells : Bool
   pub holds : List ℕ → Option (List ℕ)

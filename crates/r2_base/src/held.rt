@@ -49,7 +49,8 @@ pub fn append_held(
     name: &str,
     piece: &[u8],
 ) -> Result<(), AllocError>
-    ensures ok { OnOk result (held_in files.new name.now ≡ Some (content (held_in files.old name.now) ++ piece.now)) }
+    ensures ok { OnOk result (held_in files.new name.now ≡ Some (content (held_in files.old name.now) ++
+        piece.now)) }
     ensures others { (n : List ℕ) → n ≢ name.now → held_in files.new n ≡ held_in files.old n }
     ensures err { OnErr result (held_in files.new name.now ≡ held_in files.old name.now) }
 {

@@ -42,7 +42,8 @@ pub trait Files {
             → OnOk result ((seen self.new).holds name.now ≡ Some []) }
         ensures kept { IsTrue (seen self.old).tells
             → OnErr result ((seen self.new).holds name.now ≡ (seen self.old).holds name.now) }
-        ensures cause { IfErr result (IsWriteCause (seen self.old).write_faults (seen self.new).write_faults) };
+        ensures cause { IfErr result (IsWriteCause (seen self.old).write_faults
+            (seen self.new).write_faults) };
 
     /// Adds the piece to what the name holds, to nothing where it isn't there; after a refusal a prefix of it was added.
     /// Never `Missing`.
@@ -50,5 +51,6 @@ pub trait Files {
         ensures only { OnlyWrites name.now (seen self.old) (seen self.new) }
         ensures grows { IsTrue (seen self.old).tells
             → GrowsFile ((seen self.old).holds name.now) ((seen self.new).holds name.now) result piece.now }
-        ensures cause { IfErr result (IsWriteCause (seen self.old).write_faults (seen self.new).write_faults) };
+        ensures cause { IfErr result (IsWriteCause (seen self.old).write_faults
+            (seen self.new).write_faults) };
 }

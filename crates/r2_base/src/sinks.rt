@@ -95,14 +95,16 @@ impl Sink for MemSink {
     ghost seen = { λ s. mem_stream s };
 
     fn put(&mut self, piece: &[u8]) -> Result<(), Fault>
-        ensures bytes { TellsGrowth (Some (mem_bytes self.old)) (Some (mem_bytes self.new)) result piece.now }
+        ensures bytes { TellsGrowth (Some (mem_bytes self.old)) (Some (mem_bytes self.new)) result
+            piece.now }
         ensures later { sink_faults self.old ≤ sink_faults self.new }
         ensures cause { IfErr result (IsWriteCause (sink_faults self.old) (sink_faults self.new)) }
         ensures failed { FailsExactly (is_listed (sink_listed self.old) (sink_call_number self.old)) result }
         ensures number { sink_call_number self.new ≡ next (sink_call_number self.old) }
         ensures plan { sink_listed self.new ≡ sink_listed self.old }
         ensures faults { sink_faults self.new ≡ faults_after result (sink_faults self.old) }
-        ensures half { result ≡ Err Failed → mem_bytes self.new ≡ mem_bytes self.old ++ take (length piece.now / 2) piece.now }
+        ensures half { result ≡ Err Failed → mem_bytes self.new ≡ mem_bytes self.old ++
+            take (length piece.now / 2) piece.now }
     {
         let fails = self.fail.contains(&self.calls);
         self.calls = self.calls.saturating_add(1);

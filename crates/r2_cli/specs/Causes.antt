@@ -35,30 +35,46 @@ pub record ReadsSource (contents : Contents) (form : Form) (bytes cut : List ℕ
 abbrev pub IsComplete : Contents → Form → Type 0
 IsComplete contents help = Unit {0}
 IsComplete contents version = Unit {0}
-IsComplete contents (order log) = (bytes : List ℕ) × (part : Part) × ReadsLog contents (order log) bytes × IsLogPart bytes part × (part.whole ≡ true)
-IsComplete contents (check src cut) = (bytes : List ℕ) × ReadsSource contents (check src cut) bytes cut × IsRight bytes cut
+IsComplete contents (order log) = (bytes : List ℕ) × (part : Part) × ReadsLog contents (order log) bytes ×
+    IsLogPart bytes part × (part.whole ≡ true)
+IsComplete contents (check src cut) = (bytes : List ℕ) × ReadsSource contents (check src cut) bytes cut ×
+    IsRight bytes cut
 IsComplete contents (gen rounds src sys) = Unit {0}
 
 -- what an input file holds exceeds its limit
 pub data IsTooLong (contents : Contents) (form : Form) : Type 0 where
-  long_log : {name bytes : List ℕ} → log_of form ≡ Some name → contents name ≡ Some bytes → 67108864 < length bytes → IsTooLong contents form
-  long_source : {name cut bytes : List ℕ} → source_of form ≡ Some (name, cut) → contents name ≡ Some bytes → 1048576 < length bytes → IsTooLong contents form
+  long_log : {name bytes : List ℕ} → log_of form ≡ Some name → contents name ≡ Some bytes →
+      67108864 < length bytes → IsTooLong contents form
+  long_source : {name cut bytes : List ℕ} → source_of form ≡ Some (name, cut) →
+      contents name ≡ Some bytes → 1048576 < length bytes → IsTooLong contents form
 
--- when each status comes, by the words and what the names hold, or by a count of faults that rose in the call
+-- when each status comes, by the words and what the names hold, or by a count of faults that rose in the
+-- call
 pub data Cause (words : List (List ℕ)) (contents : Contents) (old new : World) : Status → Type 0 where
   done : (form : Form) → IsForm words form → IsComplete contents form → Cause words contents old new Done
   usage : IsUsage words → Cause words contents old new Usage
-  source : {form : Form} {bytes cut : List ℕ} {fault : SourceFault} → IsForm words form → ReadsSource contents form bytes cut → IsWrong bytes cut (errors.Fault fault) → Cause words contents old new Source
-  no_cut : {form : Form} {bytes cut : List ℕ} → IsForm words form → ReadsSource contents form bytes cut → IsWrong bytes cut errors.NoSuchCut → Cause words contents old new Source
-  short : {form : Form} {bytes : List ℕ} {part : Part} → IsForm words form → ReadsLog contents form bytes → IsLogPart bytes part → part.whole ≡ false → Cause words contents old new Short
-  bad_log : {form : Form} {bytes fault : List ℕ} → IsForm words form → ReadsLog contents form bytes → IsBadLog bytes fault → Cause words contents old new BadLog
-  no_file : (form : Form) (name : List ℕ) → IsForm words form → In name (inputs_of form) → contents name ≡ None → Cause words contents old new ReadFault
+  source : {form : Form} {bytes cut : List ℕ} {fault : SourceFault} → IsForm words form →
+      ReadsSource contents form bytes cut → IsWrong bytes cut (errors.Fault fault) →
+      Cause words contents old new Source
+  no_cut : {form : Form} {bytes cut : List ℕ} → IsForm words form → ReadsSource contents form bytes cut →
+      IsWrong bytes cut errors.NoSuchCut → Cause words contents old new Source
+  short : {form : Form} {bytes : List ℕ} {part : Part} → IsForm words form → ReadsLog contents form bytes →
+      IsLogPart bytes part → part.whole ≡ false → Cause words contents old new Short
+  bad_log : {form : Form} {bytes fault : List ℕ} → IsForm words form → ReadsLog contents form bytes →
+      IsBadLog bytes fault → Cause words contents old new BadLog
+  no_file : (form : Form) (name : List ℕ) → IsForm words form → In name (inputs_of form) →
+      contents name ≡ None → Cause words contents old new ReadFault
   read_fault : Rose old.files.read_faults new.files.read_faults → Cause words contents old new ReadFault
-  write_fault : (t : Target) → Rose (faults_at t old) (faults_at t new) → Cause words contents old new WriteFault
-  too_long : {form : Form} → IsForm words form → IsTooLong contents form → Cause words contents old new Limit
-  too_large : {form : Form} {bytes cut : List ℕ} {limit : SourceLimit} → IsForm words form → ReadsSource contents form bytes cut → IsWrong bytes cut (errors.Limit limit) → Cause words contents old new Limit
+  write_fault : (t : Target) → Rose (faults_at t old) (faults_at t new) →
+      Cause words contents old new WriteFault
+  too_long : {form : Form} → IsForm words form → IsTooLong contents form →
+      Cause words contents old new Limit
+  too_large : {form : Form} {bytes cut : List ℕ} {limit : SourceLimit} → IsForm words form →
+      ReadsSource contents form bytes cut → IsWrong bytes cut (errors.Limit limit) →
+      Cause words contents old new Limit
   no_memory : Cause words contents old new NoMemory
 
 -- the same for the contents of the files, where they tell them
 abbrev pub IsCaused : List (List ℕ) → World → World → Status → Type 0
-IsCaused words old new status = (contents : Contents) × AreOf old.files contents × Cause words contents old new status
+IsCaused words old new status = (contents : Contents) × AreOf old.files contents ×
+    Cause words contents old new status

@@ -1,4 +1,5 @@
--- The commands: each is its stages, one after the other, and what it then leaves. The order of the stages is that of refusals.
+-- The commands: each is its stages, one after the other, and what it then leaves. The order of the stages
+-- is that of refusals.
 use Rattle.std.specs.Prelude.{List, [], ◌∷◌, ℕ, codes, Bool, true, false, Option}
 use Rattle.log_closure.specs.Events.{LogEvent, Part}
 use Rattle.event_texts.specs.EventTexts.{order_text}
@@ -24,7 +25,8 @@ order_outcome false events = printed Short (order_text events) (line_of (codes "
 abbrev pub generated : (rounds : ℕ) → (src sys : List ℕ) → Outcome
 generated rounds src sys = record {
   status = Done;
-  writes = record { to = file src; text = source_text rounds } ∷ record { to = file sys; text = SYSTEM.now } ∷ [];
+  writes = record { to = file src; text = source_text rounds } ∷
+      record { to = file sys; text = SYSTEM.now } ∷ [];
   line = [];
 }
 
@@ -40,16 +42,21 @@ command reading (check src cut) = do
 command reading (gen rounds src sys) = Only (passed (generated rounds src sys))
 
 -- the outcome of the words: that of the command whose form they have, or else Usage
-pub data IsOutcome (reading : List ℕ → Option (List ℕ) → Type 0) (words : List (List ℕ)) : Outcome → Type 0 where
+pub data IsOutcome (reading : List ℕ → Option (List ℕ) → Type 0) (words : List (List ℕ)) : Outcome →
+    Type 0 where
   no_form : IsUsage words → IsOutcome reading words (refusal Usage (codes "usage"))
-  formed : (form : Form) {o : Outcome} → IsForm words form → Comes (command reading form) o → IsOutcome reading words o
+  formed : (form : Form) {o : Outcome} → IsForm words form → Comes (command reading form) o →
+      IsOutcome reading words o
 
 -- the outcome of the words over files: for some contents, which are those of the files where they tell them
 abbrev pub OutcomeOf : Store → List (List ℕ) → Outcome → Type 0
 OutcomeOf files words o = (contents : Contents) × AreOf files contents × IsOutcome (Of contents) words o
 
--- the outcomes are the same, but for the offset at which a source without a tree, or with one too deep, is refused
+-- the outcomes are the same, but for the offset at which a source without a tree, or with one too deep, is
+-- refused
 pub data SameOutcome : Outcome → Outcome → Type 0 where
   same : {o : Outcome} → SameOutcome o o
-  no_tree : (n m : ℕ) → SameOutcome (refusal Source (source_words Token n)) (refusal Source (source_words Token m))
-  too_deep : (n m : ℕ) → SameOutcome (refusal Source (source_words Deep n)) (refusal Source (source_words Deep m))
+  no_tree : (n m : ℕ) → SameOutcome (refusal Source (source_words Token n))
+      (refusal Source (source_words Token m))
+  too_deep : (n m : ℕ) → SameOutcome (refusal Source (source_words Deep n))
+      (refusal Source (source_words Deep m))

@@ -61,10 +61,12 @@ refused_for cut (errors.Limit limit) = refusal Limit (limit_words (limit_word li
 refused_for cut errors.Memory = refusal NoMemory (codes "no memory")
 
 pub data SourceOf (cut bytes : List ℕ) : Answer (Unit {0}) → Type 0 where
-  wrong : {error : SourceError} → IsWrong bytes cut error → SourceOf cut bytes (ended (refused_for cut error))
+  wrong : {error : SourceError} → IsWrong bytes cut error →
+      SourceOf cut bytes (ended (refused_for cut error))
   right : IsRight bytes cut → SourceOf cut bytes (passed tt)
 
--- the reading of a source, its size, its tokens, its grammar, its types with their limits, its annotations with the cut, and the
+-- the reading of a source, its size, its tokens, its grammar, its types with their limits, its annotations
+-- with the cut, and the
 -- limits of flat code
 abbrev pub source : Reading → (src cut : List ℕ) → Stage (Unit {0})
 source reading src cut = Input reading src (codes "source") 1048576 >>= SourceOf cut

@@ -72,7 +72,8 @@ fn check<F: Files>(alloc: Global, files: &mut F, src: &str, cut: &str) -> Result
 /// The two files of a generated program.
 fn two_files(alloc: Global, rounds: u32, src: &str, sys: &str) -> Result<Vec<Write>, AllocError>
     ensures { IfOk result (λ ws. map write_of ws.items
-        ≡ record { to = file src.now; text = source_text rounds } ∷ record { to = file sys.now; text = SYSTEM.now } ∷ []) }
+        ≡ record { to = file src.now; text = source_text rounds } ∷
+        record { to = file sys.now; text = SYSTEM.now } ∷ []) }
 {
     let source = Write {
         to: Target::File(String::from_str(alloc, src)?),

@@ -94,8 +94,10 @@ fn rounds_of(word: &str) -> Option<u32>
 
 /// The number of rounds, where the two names are names of two files.
 fn generated<'a>(rounds: &str, source: &'a str, system: &'a str) -> Option<Command<'a>>
-    ensures form { IfSome result (λ c. (n : ℕ) × (rounds.now ≡ decimal n) × (form_of c ≡ gen n source.now system.now) × CanGenerate n source.now system.now) }
-    ensures none { IfNone result ((n : ℕ) → rounds.now ≡ decimal n → CanGenerate n source.now system.now → ⊥) }
+    ensures form { IfSome result (λ c. (n : ℕ) × (rounds.now ≡ decimal n) ×
+        (form_of c ≡ gen n source.now system.now) × CanGenerate n source.now system.now) }
+    ensures none { IfNone result ((n : ℕ) → rounds.now ≡ decimal n → CanGenerate n source.now system.now →
+        ⊥) }
 {
     if source.is_empty() {
         return None;
@@ -116,7 +118,8 @@ fn generated<'a>(rounds: &str, source: &'a str, system: &'a str) -> Option<Comma
 
 fn generate_form(words: &[String]) -> Option<Command<'_>>
     ensures form { IfSome result (λ c. IsForm (texts_of words.now) (form_of c)) }
-    ensures none { IfNone result ((n : ℕ) (src sys : List ℕ) → IsForm (texts_of words.now) (gen n src sys) → ⊥) }
+    ensures none { IfNone result ((n : ℕ) (src sys : List ℕ) →
+        IsForm (texts_of words.now) (gen n src sys) → ⊥) }
 {
     match words {
         [word, rounds, source, system] if word.as_str() == "gen" => {

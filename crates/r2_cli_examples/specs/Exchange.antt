@@ -7,11 +7,13 @@ use Rattle.r2_cli_outcome.specs.Reading.{Reading, Of, AreOf}
 use Rattle.r2_cli_outcome.specs.Stages.{Stage, Only, Comes, passed, ◌>>=◌}
 use Rattle.r2_cli_outcome.specs.Input.{Input}
 
--- the second file gets what the first one held, and the first what the second held; so do the streams, before the line
+-- the second file gets what the first one held, and the first what the second held; so do the streams,
+-- before the line
 abbrev pub exchanged : (log rep first second : List ℕ) → Outcome
 exchanged log rep first second = record {
   status = Short;
-  writes = record { to = file log; text = second } ∷ record { to = file rep; text = first } ∷ record { to = out; text = second } ∷ record { to = err; text = first } ∷ [];
+  writes = record { to = file log; text = second } ∷ record { to = file rep; text = first } ∷
+      record { to = out; text = second } ∷ record { to = err; text = first } ∷ [];
   line = line_of (codes "short");
 }
 
@@ -23,4 +25,5 @@ exchange reading src sys log rep = do
 
 -- its outcome over files
 abbrev pub ExchangeOf : Store → (src sys log rep : List ℕ) → Outcome → Type 0
-ExchangeOf files src sys log rep o = (contents : Contents) × AreOf files contents × Comes (exchange (Of contents) src sys log rep) o
+ExchangeOf files src sys log rep o = (contents : Contents) × AreOf files contents ×
+    Comes (exchange (Of contents) src sys log rep) o

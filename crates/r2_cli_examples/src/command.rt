@@ -24,7 +24,8 @@ fn two_files(
     second: &[u8],
 ) -> Result<Vec<Write>, AllocError>
     ensures { IfOk result (λ ws. map write_of ws.items
-        ≡ record { to = file log.now; text = first.now } ∷ record { to = file rep.now; text = second.now } ∷ []) }
+        ≡ record { to = file log.now; text = first.now } ∷
+        record { to = file rep.now; text = second.now } ∷ []) }
 {
     let log = Target::File(String::from_str(alloc, log)?);
     let report = Target::File(String::from_str(alloc, rep)?);

@@ -1,4 +1,5 @@
--- The stage that reads a log: its bytes and the order of its events are right, or the first wrong one is named.
+-- The stage that reads a log: its bytes and the order of its events are right, or the first wrong one is
+-- named.
 use Rattle.std.specs.Prelude.{◌≡◌, ◌↔◌, ℕ, List, ◌++◌, IsTrue, codes, decimal}
 use Rattle.log_codec.specs.LogText.{IsLog, BeginsLog}
 use Rattle.log_codec.specs.Kept.{KeptLog, StandInFull, IsFirstWrong}
@@ -14,7 +15,8 @@ use Rattle.r2_cli_outcome.specs.Reading.{Reading}
 use Rattle.r2_cli_outcome.specs.Stages.{Answer, Stage, passed, ended, ◌>>=◌}
 use Rattle.r2_cli_outcome.specs.Input.{Input}
 
--- what is kept of bytes with which a log text begins: the records that stand in full, and whether they are a log text
+-- what is kept of bytes with which a log text begins: the records that stand in full, and whether they are
+-- a log text
 pub record IsKept (bytes : List ℕ) (kept : KeptLog) : Type 0 where
   pub begins : BeginsLog bytes
   pub in_full : StandInFull bytes kept.records
@@ -38,7 +40,8 @@ order_words Memory = codes "no memory"
 -- the words of what is wrong with a log: its first wrong byte, or else its first wrong event in file order
 pub data IsBadLog (bytes : List ℕ) : List ℕ → Type 0 where
   bad_byte : {n : ℕ} → IsFirstWrong bytes n → IsBadLog bytes (codes "log byte " ++ decimal n)
-  bad_event : {kept : KeptLog} {error : OrderError} → IsKept bytes kept → order.IsFirstWrong kept.whole (events_of kept.records) error → IsBadLog bytes (order_words error)
+  bad_event : {kept : KeptLog} {error : OrderError} → IsKept bytes kept →
+      order.IsFirstWrong kept.whole (events_of kept.records) error → IsBadLog bytes (order_words error)
 
 pub data LogOf (bytes : List ℕ) : Answer Part → Type 0 where
   wrong : {words : List ℕ} → IsBadLog bytes words → LogOf bytes (ended (refusal BadLog words))

@@ -32,4 +32,9 @@ limit_words word most = codes "limit " ++ word ++ codes " " ++ decimal most
 
 -- an outcome that prints a text, and has this line
 abbrev pub printed : Status → (text line : List ℕ) → Outcome
-printed status text line = record { status = status; writes = record { to = out; text = text } ∷ []; line = line }
+printed status text line = record {
+  status = status;
+  writes = record { to = out; text = text } ∷ [];
+  line =
+      line;
+}

@@ -28,7 +28,12 @@ abbrev pub write_of : Write → outcome.Write
 write_of w = record { to = target_of w.to; text = bytes_of w.text }
 
 abbrev pub outcome_of : Plan → Outcome
-outcome_of plan = record { status = plan.status; writes = map write_of plan.writes.items; line = plan.line.items }
+outcome_of plan = record {
+  status = plan.status;
+  writes = map write_of plan.writes.items;
+  line =
+      plan.line.items;
+}
 
 -- the end of a stage's code: that of the stage, or one that the outside made
 abbrev pub EndsAs : {A : Type 0} → Stage A → (read_faults read_faults_now : ℕ) → End → Type 0
@@ -37,14 +42,19 @@ EndsAs stage r s ReadFault = Rose r s
 EndsAs stage r s NoMemory = Unit {0}
 
 -- what the code of a stage answers: a value, as the view shows it, or an end
-pub data Answers {T A : Type 0} (view : T → A) (stage : Answer A → Type 0) (read_faults read_faults_now : ℕ) : Result T End → Type 0 where
+pub data Answers {T A : Type 0} (view : T → A) (stage : Answer A →
+    Type 0) (read_faults read_faults_now : ℕ) : Result T End → Type 0 where
   gives : {x : T} → stage (passed (view x)) → Answers view stage read_faults read_faults_now (Ok x)
-  ends : {end : End} → EndsAs stage read_faults read_faults_now end → Answers view stage read_faults read_faults_now (Err end)
+  ends : {end : End} → EndsAs stage read_faults read_faults_now end →
+      Answers view stage read_faults read_faults_now (Err end)
 
 -- the plan is one of these outcomes, or the outside ended the command before there was one
-pub data IsPlanned (answers : Outcome → Type 0) (read_faults read_faults_now : ℕ) : Result Plan End → Type 0 where
-  whole : {plan : Plan} → answers (outcome_of plan) → IsPlanned answers read_faults read_faults_now (Ok plan)
-  refused : {plan : Plan} → answers (outcome_of plan) → IsPlanned answers read_faults read_faults_now (Err (Planned plan))
+pub data IsPlanned (answers : Outcome → Type 0) (read_faults read_faults_now : ℕ) : Result Plan End →
+    Type 0 where
+  whole : {plan : Plan} → answers (outcome_of plan) →
+      IsPlanned answers read_faults read_faults_now (Ok plan)
+  refused : {plan : Plan} → answers (outcome_of plan) →
+      IsPlanned answers read_faults read_faults_now (Err (Planned plan))
   unread : Rose read_faults read_faults_now → IsPlanned answers read_faults read_faults_now (Err ReadFault)
   no_memory : IsPlanned answers read_faults read_faults_now (Err NoMemory)
 

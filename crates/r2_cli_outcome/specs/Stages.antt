@@ -12,7 +12,8 @@ abbrev pub Stage : Type 0 → Type 1
 Stage A = Answer A → Type 0
 
 -- the next stage gets what the first one passes; what ends the first ends both
-pub data Then {A B : Type 0} (first : Answer A → Type 0) (next : A → Answer B → Type 0) : Answer B → Type 0 where
+pub data Then {A B : Type 0} (first : Answer A → Type 0) (next : A → Answer B → Type 0) : Answer B →
+    Type 0 where
   on : {a : A} {b : Answer B} → first (passed a) → next a b → Then first next b
   stop : {o : Outcome} → first (ended o) → Then first next (ended o)
 

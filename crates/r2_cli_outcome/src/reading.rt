@@ -59,7 +59,8 @@ fn read_more<F: Files>(
 ) -> Result<bool, Fault>
     requires { 0 < length piece.old }
     ensures only { OnlyReads (F.seen files.old) (F.seen files.new) }
-    ensures cause { IfErr result (IsReadCause (F.seen files.old).read_faults (F.seen files.new).read_faults) }
+    ensures cause { IfErr result (IsReadCause (F.seen files.old).read_faults
+        (F.seen files.new).read_faults) }
     ensures prefix { IsTrue (F.seen files.old).tells
         → IsPrefixOf text.old.items ((F.seen files.old).holds name.now)
         → IsPrefixOf text.new.items ((F.seen files.old).holds name.now) }

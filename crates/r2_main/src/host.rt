@@ -98,7 +98,12 @@ impl<'a, R: std::rt::Files> HostFiles<'a, R> {
 }
 
 impl<R: std::rt::Files> Files for HostFiles<'_, R> {
-    ghost seen = { λ f. record { tells = false; holds = λ n. None; read_faults = f.read_faults; write_faults = f.write_faults } };
+    ghost seen = { λ f. record {
+      tells = false;
+      holds = λ n. None;
+      read_faults = f.read_faults;
+      write_faults = f.write_faults;
+    } };
 
     fn read_at(&mut self, name: &str, from: u64, into: &mut [u8]) -> Result<usize, Fault> {
         match self.read_piece(name, from, into) {

@@ -44,12 +44,15 @@ unsigned_like U32 = U32
 unsigned_like I64 = U64
 unsigned_like U64 = U64
 
--- the common kind of a signed and an unsigned operand, both promoted (C11 6.3.1.8, 1): the unsigned kind where its
--- rank is not below; else the signed kind where it can represent all values of the unsigned one; else its unsigned kind
+-- the common kind of a signed and an unsigned operand, both promoted (C11 6.3.1.8, 1): the unsigned kind
+-- where its
+-- rank is not below; else the signed kind where it can represent all values of the unsigned one; else its
+-- unsigned kind
 abbrev pub common_mixed : IntKind → IntKind → IntKind
 common_mixed s u = cond (nat_le (rank s) (rank u)) u (cond (represents_all s u) s (unsigned_like s))
 
--- the common kind of two promoted operands (C11 6.3.1.8, 1): of two kinds of one sign, the one of greater rank
+-- the common kind of two promoted operands (C11 6.3.1.8, 1): of two kinds of one sign, the one of greater
+-- rank
 abbrev pub common_promoted : IntKind → IntKind → IntKind
 common_promoted a b =
     cond (signed a)

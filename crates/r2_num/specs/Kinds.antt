@@ -25,7 +25,8 @@ signed U32 = false
 signed I64 = true
 signed U64 = false
 
--- the least value of a kind: of w bits in two's complement, -2^(w-1), or 0 of an unsigned kind (C11 6.2.6.2)
+-- the least value of a kind: of w bits in two's complement, -2^(w-1), or 0 of an unsigned kind (C11
+-- 6.2.6.2)
 abbrev pub least : IntKind → ℤ
 least k = cond (signed k) (neg_ℤ (pos (2 ^ (width_of k - 1)))) (pos 0)
 

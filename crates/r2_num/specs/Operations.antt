@@ -19,7 +19,8 @@ truth false = pos 0
 abbrev pub equal : ℤ → ℤ → Bool
 equal x y = int_le x y && int_le y x
 
--- the result of an operator before it is wrapped: `/` goes towards zero and `%` has the sign of the left operand
+-- the result of an operator before it is wrapped: `/` goes towards zero and `%` has the sign of the left
+-- operand
 -- (C11 6.5.5), `>>` rounds down, and `&`, `|` and `^` are on the patterns of the kind (C11 6.5.5 to 6.5.12)
 abbrev pub exact : Op → IntKind → ℤ → ℤ → ℤ
 exact Add k a b = a +ℤ b

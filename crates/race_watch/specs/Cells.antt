@@ -36,4 +36,5 @@ pub record IsCommonPart (r : Range) (area b : Bytes) : Type 0 where
   pub all : (x : ℕ) → IsInRange r x → area.from ≤ x → x < area.to → (b.from ≤ x) × (x < b.to)
 
 abbrev pub IsCommon : Range → Bytes → Option Bytes → Type 0
-IsCommon r area result = MatchOption result ((x : ℕ) → IsInRange r x → area.from ≤ x → x < area.to → ⊥) (λ b. IsCommonPart r area b)
+IsCommon r area result = MatchOption result ((x : ℕ) → IsInRange r x → area.from ≤ x → x < area.to →
+    ⊥) (λ b. IsCommonPart r area b)

@@ -20,12 +20,15 @@ In s (x ∷ xs) = (s ≡ x) ⊎ In s xs
 pub record IsFirstOf (a : Tested) (seen : List Seen) (addr other : ℕ) : Type 0 where
   pub in_range : IsInRange a.range addr
   pub by : (s : Seen) × In s seen × (s.thread ≡ other) × Hits a s addr
-  pub least : (s : Seen) (x : ℕ) → In s seen → IsInRange a.range x → Hits a s x → (addr ≤ x) × (x ≡ addr → other ≤ s.thread)
+  pub least : (s : Seen) (x : ℕ) → In s seen → IsInRange a.range x → Hits a s x → (addr ≤ x) ×
+      (x ≡ addr → other ≤ s.thread)
 
 abbrev pub IsFirstHit : Tested → List Seen → Option (ℕ × ℕ) → Type 0
-IsFirstHit a seen result = MatchOption result ((s : Seen) (x : ℕ) → In s seen → IsInRange a.range x → Hits a s x → ⊥) (λ p. IsFirstOf a seen p.0 p.1)
+IsFirstHit a seen result = MatchOption result ((s : Seen) (x : ℕ) → In s seen → IsInRange a.range x →
+    Hits a s x → ⊥) (λ p. IsFirstOf a seen p.0 p.1)
 
--- of a race so far, and one at a byte with a thread, the one at the least byte, and there with the least thread
+-- of a race so far, and one at a byte with a thread, the one at the least byte, and there with the least
+-- thread
 abbrev pub earlier : Option (ℕ × ℕ) → Option ℕ → ℕ → Option (ℕ × ℕ)
 earlier best None u = best
 earlier None (Some x) u = Some (x, u)

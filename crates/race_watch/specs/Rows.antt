@@ -41,7 +41,8 @@ Keeps old new = (q : KeyName) → IsSome (get key_cmp old q) → IsSome (get key
 
 -- the row of one key is written
 abbrev pub IsWritten : BTreeMap KeyName (List ℕ) → BTreeMap KeyName (List ℕ) → KeyName → List ℕ → Type 0
-IsWritten old new key row = (q : KeyName) → get key_cmp new q ≡ cond (is_at (key_cmp key) q) (Some row) (get key_cmp old q)
+IsWritten old new key row = (q : KeyName) → get key_cmp new q ≡
+    cond (is_at (key_cmp key) q) (Some row) (get key_cmp old q)
 
 -- each of the keys passes
 abbrev pub Each : (Key → Type 0) → List Key → Type 0

@@ -16,7 +16,8 @@ use Rattle.race_watch.specs.Hits.{In}
 use Rattle.marks.specs.Places.{is_constant}
 use Rattle.race_watch.specs.Tables.{ArePut, listed}
 
--- an access of the byte by u was seen, no earlier than so many events, that counts where it races with reads too, or writes
+-- an access of the byte by u was seen, no earlier than so many events, that counts where it races with
+-- reads too, or writes
 pub record Found (seen : List Seen) (write : Bool) (u x n : ℕ) : Type 0 where
   pub one : Seen
   pub one_in : In one seen
@@ -31,24 +32,30 @@ event_count [] = 0
 event_count (Accessed t range write ∷ past) = event_count past
 event_count (Happened m ∷ past) = event_count past + 1
 
--- the accesses that were seen and the epochs stand for the last access of each byte by each thread, that counts where it races
+-- the accesses that were seen and the epochs stand for the last access of each byte by each thread, that
+-- counts where it races
 -- with reads too, or with writes alone
 pub record IsLastSeen (seen : List Seen) (epochs : Bool → ℕ → ℕ → ℕ) (past : List Told) : Type 0 where
-  pub sound : (s : Seen) (write : Bool) (x : ℕ) → In s seen → (write || s.write) ≡ true → covers s.range x ≡ true → s.place < cond write (touched s.thread x past) (wrote s.thread x past)
+  pub sound : (s : Seen) (write : Bool) (x : ℕ) → In s seen → (write || s.write) ≡ true →
+      covers s.range x ≡ true → s.place < cond write (touched s.thread x past) (wrote s.thread x past)
   pub below : (write : Bool) (u x : ℕ) → epochs write u x ≤ cond write (touched u x past) (wrote u x past)
-  pub complete : (write : Bool) (u x n : ℕ) → n < cond write (touched u x past) (wrote u x past) → Found seen write u x n ⊎ (n < epochs write u x)
+  pub complete : (write : Bool) (u x n : ℕ) → n < cond write (touched u x past) (wrote u x past) →
+      Found seen write u x n ⊎ (n < epochs write u x)
 
 -- the watch was told this
 pub record Stands (past : List Told) (w : WatchState) : Type 0 where
   pub events : w.events ≡ event_count past
   pub made : (t : ℕ) → t < length w.made → slice_index w.made t ≡ place t past
-  pub rows : (t u : ℕ) → t < length w.rows → u < 32 → slice_index (get_or w.rows t []) u ≡ knows past (OfThread t) u
+  pub rows : (t u : ℕ) → t < length w.rows → u < 32 →
+      slice_index (get_or w.rows t []) u ≡ knows past (OfThread t) u
   pub keys : (k : Key) (u : ℕ) → u < 32 → slice_index (row_at w.keys (name k)) u ≡ knows past (OfKey k) u
   pub seen : IsLastSeen w.seen (listed w.epochs) past
 
 -- what a thread accessed since its last event no other thread accesses unknown to it
 abbrev pub IsQuiet : List Told → Type 0
-IsQuiet past = (write : Bool) (t u x : ℕ) → u ≢ t → is_constant x ≡ false → x < 2 ^ 64 → place t past < cond write (wrote t x past) (touched t x past) → cond write (touched u x past) (wrote u x past) ≤ knows past (OfThread t) u
+IsQuiet past = (write : Bool) (t u x : ℕ) → u ≢ t → is_constant x ≡ false → x < 2 ^ 64 →
+    place t past < cond write (wrote t x past) (touched t x past) →
+    cond write (touched u x past) (wrote u x past) ≤ knows past (OfThread t) u
 
 -- something leads to this, with at most 32 threads
 pub record Reached (w : WatchState) : Type 0 where
@@ -99,4 +106,5 @@ pub record IsAlikeAt (seen : List Seen) (i : ℕ) (one : Seen) : Type 0 where
 
 -- an access is kept, in the list or by the epochs
 abbrev pub IsNoted : List Seen → List Seen → (Bool → ℕ → ℕ → ℕ) → (Bool → ℕ → ℕ → ℕ) → Seen → Type 0
-IsNoted old new before after one = (Puts old new one × ((w : Bool) (u x : ℕ) → after w u x ≡ before w u x)) ⊎ ((new ≡ old) × ArePut before after one)
+IsNoted old new before after one = (Puts old new one ×
+    ((w : Bool) (u x : ℕ) → after w u x ≡ before w u x)) ⊎ ((new ≡ old) × ArePut before after one)

@@ -3,7 +3,8 @@ use Rattle.std.specs.Prelude.{ℕ, List}
 use Rattle.logical_clock.specs.declared.name.KeyName.{KeyName}
 use Rattle.race_watch.specs.declared.seen.Seen.{Seen}
 
--- how many events were made; by thread how many it made, and how many of each thread it knows; by key how many the last
+-- how many events were made; by thread how many it made, and how many of each thread it knows; by key how
+-- many the last
 -- event with the key tells of; the accesses that leave the areas, in their
 -- order; and the epochs of all others, by
 -- cell

@@ -64,7 +64,8 @@ pub record IsLeastOf (range : Range) (R : ℕ → ℕ → Type 0) (addr other : 
   pub least : (x u : ℕ) → IsInRange range x → R x u → (addr ≤ x) × (x ≡ addr → other ≤ u)
 
 abbrev pub IsFirst : Range → (ℕ → ℕ → Type 0) → Option (ℕ × ℕ) → Type 0
-IsFirst range R result = MatchOption result ((x u : ℕ) → IsInRange range x → R x u → ⊥) (λ p. IsLeastOf range R p.0 p.1)
+IsFirst range R result = MatchOption result ((x u : ℕ) → IsInRange range x → R x u →
+    ⊥) (λ p. IsLeastOf range R p.0 p.1)
 
 -- and of some bytes alone
 pub record IsLeastFrom (from to : ℕ) (R : ℕ → ℕ → Type 0) (addr other : ℕ) : Type 0 where
@@ -74,7 +75,8 @@ pub record IsLeastFrom (from to : ℕ) (R : ℕ → ℕ → Type 0) (addr other 
   pub least : (x u : ℕ) → from ≤ x → x < to → R x u → (addr ≤ x) × (x ≡ addr → other ≤ u)
 
 abbrev pub IsFirstFrom : ℕ → ℕ → (ℕ → ℕ → Type 0) → Option (ℕ × ℕ) → Type 0
-IsFirstFrom from to R result = MatchOption result ((x u : ℕ) → from ≤ x → x < to → R x u → ⊥) (λ p. IsLeastFrom from to R p.0 p.1)
+IsFirstFrom from to R result = MatchOption result ((x u : ℕ) → from ≤ x → x < to → R x u →
+    ⊥) (λ p. IsLeastFrom from to R p.0 p.1)
 
 -- the least thread for which something holds
 pub record IsLeastThread (R : ℕ → Type 0) (other : ℕ) : Type 0 where
@@ -86,11 +88,15 @@ IsFirstThread R result = MatchOption result ((u : ℕ) → R u → ⊥) (λ u. I
 
 -- epochs with one access more
 abbrev pub ArePut : (Bool → ℕ → ℕ → ℕ) → (Bool → ℕ → ℕ → ℕ) → Seen → Type 0
-ArePut old new one = (touched : Bool) (u x : ℕ) → new touched u x ≡ cond (eqb one.thread u && ((touched || one.write) && covers one.range x)) (suc one.place) (old touched u x)
+ArePut old new one = (touched : Bool) (u x : ℕ) →
+    new touched u x ≡ cond (eqb one.thread u && ((touched || one.write) && covers one.range x))
+    (suc one.place) (old touched u x)
 
 -- the epochs of some bytes are written, of a thread's accesses, and of its writes where it writes
 abbrev pub IsPut : Bytes → ℕ → Bool → ℕ → (Bool → ℕ → ℕ → ℕ) → (Bool → ℕ → ℕ → ℕ) → Type 0
-IsPut b thread write epoch old new = (w : Bool) (u x : ℕ) → new w u x ≡ cond (eqb thread u && ((w || write) && (nat_le b.from x && nat_lt x b.to))) epoch (old w u x)
+IsPut b thread write epoch old new = (w : Bool) (u x : ℕ) →
+    new w u x ≡ cond (eqb thread u && ((w || write) && (nat_le b.from x && nat_lt x b.to))) epoch
+    (old w u x)
 
 -- zeros, over so many threads
 pub record AreBlankTables (threads : ℕ) (t : Tables) : Type 0 where

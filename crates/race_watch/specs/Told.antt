@@ -21,13 +21,15 @@ place t (Happened m ∷ past) = cond (eqb m.thread t) (suc (place t past)) (plac
 -- one more than the place at the thread's last write of the byte, 0 where there is none
 abbrev pub wrote : ℕ → ℕ → List Told → ℕ
 wrote u x [] = 0
-wrote u x (Accessed t range write ∷ past) = cond (eqb t u && (write && covers range x)) (suc (place u past)) (wrote u x past)
+wrote u x (Accessed t range write ∷ past) = cond (eqb t u &&
+    (write && covers range x)) (suc (place u past)) (wrote u x past)
 wrote u x (Happened m ∷ past) = wrote u x past
 
 -- the same of its last access of the byte
 abbrev pub touched : ℕ → ℕ → List Told → ℕ
 touched u x [] = 0
-touched u x (Accessed t range write ∷ past) = cond (eqb t u && covers range x) (suc (place u past)) (touched u x past)
+touched u x (Accessed t range write ∷ past) =
+    cond (eqb t u && covers range x) (suc (place u past)) (touched u x past)
 touched u x (Happened m ∷ past) = touched u x past
 
 -- how many of u's events the event of m tells of, where its links told this before
@@ -38,9 +40,11 @@ learned known place m u = max (cond (eqb m.thread u) (suc place) 0) (latest (λ 
 abbrev pub knows : List Told → Link → ℕ → ℕ
 knows [] l u = 0
 knows (Accessed t range write ∷ past) l u = knows past l u
-knows (Happened m ∷ past) l u = cond (has m l) (learned (knows past) (place m.thread past) m u) (knows past l u)
+knows (Happened m ∷ past) l u = cond (has m l) (learned (knows past) (place m.thread past) m u)
+    (knows past l u)
 
--- an access of the byte by t races with an earlier one by u: t doesn't know u's last write of it, or where it writes, u's
+-- an access of the byte by t races with an earlier one by u: t doesn't know u's last write of it, or where
+-- it writes, u's
 -- last access of it
 pub record IsRaced (t : ℕ) (write : Bool) (past : List Told) (x u : ℕ) : Type 0 where
   pub other : u ≢ t

@@ -77,7 +77,8 @@ impl Tables {
         requires tables { AreTables self.now }
         requires known { self.now.threads ≤ length tested.now.known.now }
         requires cell { cell < 0x40_0000 }
-        ensures { (x : ℕ) → cell_of x ≡ Some cell → IsFirstThread (λ u. HasEpoch tested.now (at self.now) x u) result }
+        ensures { (x : ℕ) → cell_of x ≡ Some cell →
+            IsFirstThread (λ u. HasEpoch tested.now (at self.now) x u) result }
     {
         for thread in 0..self.threads {
             let epoch = self.epochs.get(base(thread, tested.write) + cell);

@@ -55,9 +55,25 @@ impl Model for Watch {
     ghost use Rattle.race_watch.specs.Tables.{AreTables};
     ghost use Rattle.std.specs.Prelude.{◌≡◌, length};
 
-    ghost view = { λ w. record { events = w.events; made = w.made.items; rows = w.rows.items; keys = w.keys.entries; seen = w.seen.items; epochs = cells_of w.tables } };
+    ghost view = { λ w. record {
+      events = w.events;
+      made = w.made.items;
+      rows = w.rows.items;
+      keys =
+          w.keys.entries;
+      seen = w.seen.items;
+      epochs = cells_of w.tables;
+    } };
 
-    ghost invariant = { λ w. Reached (record { events = w.events; made = w.made.items; rows = w.rows.items; keys = w.keys.entries; seen = w.seen.items; epochs = cells_of w.tables }) × AreTables w.tables × (w.tables.threads ≡ length w.rows.items) };
+    ghost invariant = { λ w. Reached (record {
+      events = w.events;
+      made = w.made.items;
+      rows = w.rows.items;
+      keys = w.keys.entries;
+      seen = w.seen.items;
+      epochs = cells_of w.tables;
+    }) × AreTables w.tables ×
+        (w.tables.threads ≡ length w.rows.items) };
 }
 
 impl Watch {

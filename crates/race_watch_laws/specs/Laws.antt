@@ -29,13 +29,18 @@ pub record KnowsTheRun (memory : ℕ → Byte) (past : List Mark) : Type 0 where
   pub races : (t : ℕ) (write : Bool) (x u : ℕ) → IsRaced t write (told past) x u ↔ Races past t write x u
 
 abbrev pub WatchKnowsWhatRunsTell : Type 0
-WatchKnowsWhatRunsTell = (program : Program) (memory : ℕ → Byte) (past : List Mark) → IsRunOf program memory past → KnowsTheRun memory past
+WatchKnowsWhatRunsTell = (program : Program) (memory : ℕ → Byte) (past : List Mark) →
+    IsRunOf program memory past → KnowsTheRun memory past
 
--- the watch names a race of an access exactly where the check of runs finds it, and takes the access where that passes
+-- the watch names a race of an access exactly where the check of runs finds it, and takes the access where
+-- that passes
 pub record AnswersAsTheRun (past : List Mark) (t : ℕ) (r : Range) (write : Bool) : Type 0 where
-  pub races : (other addr : ℕ) → IsRace t r write (told past) other addr ↔ Finds (race_check past t write (range r.addr r.len) Done) (BreachFound Race addr (Some other))
+  pub races : (other addr : ℕ) → IsRace t r write (told past) other addr ↔ Finds
+      (race_check past t write (range r.addr r.len) Done) (BreachFound Race addr (Some other))
   pub none : NoRace (told past) t r write ↔ Passes (race_check past t write (range r.addr r.len) Done)
 
 -- of a range that ends where addresses end
 abbrev pub WatchAnswersAsRuns : Type 0
-WatchAnswersAsRuns = (program : Program) (memory : ℕ → Byte) (past : List Mark) → IsRunOf program memory past → (t : ℕ) (r : Range) (write : Bool) → r.addr + r.len ≤ 2 ^ 64 → AnswersAsTheRun past t r write
+WatchAnswersAsRuns = (program : Program) (memory : ℕ → Byte) (past : List Mark) →
+    IsRunOf program memory past → (t : ℕ) (r : Range) (write : Bool) → r.addr + r.len ≤ 2 ^ 64 →
+    AnswersAsTheRun past t r write

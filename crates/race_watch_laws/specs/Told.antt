@@ -65,7 +65,8 @@ written_by (Made e) = written_by_event e.kind
 -- the thread reads, or writes, one range after the other
 abbrev pub tell : ℕ → Bool → List Range → List Told → List Told
 tell t write [] past = past
-tell t write (r ∷ rs) past = tell t write rs (Accessed t (record { addr = r.at; len = r.size }) write ∷ past)
+tell t write (r ∷ rs) past = tell t write rs (Accessed t (record { addr = r.at; len = r.size }) write ∷
+    past)
 
 -- it reads what the mark reads, then writes what the mark writes
 abbrev pub accesses : ℕ → Act → List Told → List Told
@@ -81,9 +82,11 @@ told_act t (Load origin at bytes) past = accesses t (Load origin at bytes) past
 told_act t (Store origin at bytes) past = accesses t (Store origin at bytes) past
 told_act t (Enter func args at bytes) past = accesses t (Enter func args at bytes) past
 told_act t (Leave at size) past = accesses t (Leave at size) past
-told_act t (Step func args result ins pieces freed) past = accesses t (Step func args result ins pieces freed) past
+told_act t (Step func args result ins pieces freed) past =
+    accesses t (Step func args result ins pieces freed) past
 told_act t (Fault kind crosses ins outs access) past = accesses t (Fault kind crosses ins outs access) past
-told_act t (Made e) past = cond (late_event e.kind) (accesses t (Made e) (happens t e past)) (happens t e (accesses t (Made e) past))
+told_act t (Made e) past = cond (late_event e.kind) (accesses t (Made e) (happens t e past))
+    (happens t e (accesses t (Made e) past))
 
 abbrev pub told : List Mark → List Told
 told [] = []

@@ -36,7 +36,8 @@ impl Pages {
     /// Where a page stands, if it is there.
     fn find(&self, page: u32) -> Option<usize>
         requires { page < size self.now }
-        ensures { MatchOption result ((c : ℕ) → c / 256 ≡ page → kept self.now c ≡ 0) (λ at. StandsAt self.now page at) }
+        ensures { MatchOption result ((c : ℕ) → c / 256 ≡ page →
+            kept self.now c ≡ 0) (λ at. StandsAt self.now page at) }
     {
         let at = self.index[page as usize] as usize;
         if at < self.pages.len() && self.pages[at].number == page {
@@ -171,7 +172,8 @@ impl Pages {
         requires there { IsThere self.old (from / 256) }
         ensures size { size self.new ≡ size self.old }
         ensures stays { (p : ℕ) → IsThere self.old p → IsThere self.new p }
-        ensures filled { (c : ℕ) → kept self.new c ≡ cond (nat_le from c && nat_lt c to) value (kept self.old c) }
+        ensures filled { (c : ℕ) → kept self.new c ≡
+            cond (nat_le from c && nat_lt c to) value (kept self.old c) }
     {
         let first = (from % 256) as usize;
         let last = first + (to - from) as usize;
@@ -187,7 +189,8 @@ impl Pages {
         requires there { (c : ℕ) → from ≤ c → c < to → IsThere self.old (c / 256) }
         ensures size { size self.new ≡ size self.old }
         ensures stays { (p : ℕ) → IsThere self.old p → IsThere self.new p }
-        ensures filled { (c : ℕ) → kept self.new c ≡ cond (nat_le from c && nat_lt c to) value (kept self.old c) }
+        ensures filled { (c : ℕ) → kept self.new c ≡
+            cond (nat_le from c && nat_lt c to) value (kept self.old c) }
     {
         let mut at = from;
         while at < to {

@@ -34,7 +34,8 @@ pub fn are_all(values: &[u32; 256], from: usize, to: usize, value: u32) -> bool
 pub fn fill(values: &mut [u32], from: usize, to: usize, value: u32)
     requires order { from ≤ to }
     requires within { to ≤ length values.old }
-    ensures { (k : ℕ) → k < length values.old → slice_index values.new k ≡ cond (nat_le from k && nat_lt k to) value (slice_index values.old k) }
+    ensures { (k : ℕ) → k < length values.old →
+        slice_index values.new k ≡ cond (nat_le from k && nat_lt k to) value (slice_index values.old k) }
 {
     for k in from..to {
         values[k] = value;

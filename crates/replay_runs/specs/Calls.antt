@@ -9,9 +9,11 @@ use Rattle.replay_runs.specs.Runs.{Start, byte}
 use Rattle.replay_runs.specs.Known.{NoRace}
 use Rattle.replay_runs.specs.Passing.{AllMayRead, AllMayWrite}
 
--- it races with no earlier mark, what it reads and holds is live and not pending, and it touches no system memory and
+-- it races with no earlier mark, what it reads and holds is live and not pending, and it touches no system
+-- memory and
 -- holds no constant
-pub record CallIsFree (s : Start) (past : List Mark) (m : Mark) (ins : List Piece) (outs : List Range) (prepared : List Prepared) : Type 0 where
+pub record CallIsFree (s : Start) (past : List Mark) (m : Mark) (ins : List Piece) (outs : List Range)
+    (prepared : List Prepared) : Type 0 where
   pub no_race : NoRace past m
   pub reads : (x : ℕ) → any_piece ins x ≡ true → IsLive (byte s x past).cell
   pub holds : (x : ℕ) → (any_range outs x || any_prepared prepared x) ≡ true → IsLive (byte s x past).cell
@@ -21,4 +23,8 @@ pub record CallIsFree (s : Start) (past : List Mark) (m : Mark) (ins : List Piec
 -- a Call is so exactly where its thread may read and write its ranges one by one
 abbrev pub RangesSayOfACall : Start → List Mark → Type 0
 RangesSayOfACall s past =
-    (m : Mark) (e : Event) (func : ℕ) (args : List ℕ) (ins : List Piece) (outs : List Range) (prepared : List Prepared) → m.act ≡ Made e → e.kind ≡ Call func args ins outs prepared → (AllMayRead s past m.thread (piece_ranges ins) × AllMayWrite s past m.thread (outs ++ prepared_ranges prepared)) ↔ CallIsFree s past m ins outs prepared
+    (m : Mark) (e : Event) (func : ℕ) (args : List ℕ) (ins : List Piece) (outs : List Range) (prepared :
+    List Prepared) → m.act ≡ Made e → e.kind ≡ Call func args ins outs prepared →
+    (AllMayRead s past m.thread (piece_ranges ins) ×
+    AllMayWrite s past m.thread (outs ++ prepared_ranges prepared)) ↔ CallIsFree s past m ins outs
+    prepared

@@ -15,4 +15,5 @@ ChecksDecide i s past t want = Decided (checks i s past t want)
 
 -- so do those of a Ret
 abbrev pub ReturnChecksDecide : Interface → Start → List Mark → Answered → Type 0
-ReturnChecksDecide i s past below = (func : ℕ) (args : List ℕ) (result : ℕ) → Decided (return_checks i s past below func args result)
+ReturnChecksDecide i s past below = (func : ℕ) (args : List ℕ) (result : ℕ) →
+    Decided (return_checks i s past below func args result)

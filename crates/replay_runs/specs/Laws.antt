@@ -34,7 +34,8 @@ fresh memory =
 abbrev pub IsReplayRun : Program → Start → List Mark → Type 0
 IsReplayRun program s run = Disciplined (replay_rules program s) s run
 
--- q is a disciplined run too, in which each thread makes the same marks and each link has the same events, so that
+-- q is a disciplined run too, in which each thread makes the same marks and each link has the same events,
+-- so that
 -- history and output are the same, and it leaves the same memory
 pub record Rearranged (program : Program) (s : Start) (p q : List Mark) : Type 0 where
   pub disciplined : IsReplayRun program s q
@@ -47,7 +48,9 @@ pub record Rearranged (program : Program) (s : Start) (p q : List Mark) : Type 0
 -- two neighbouring marks of two threads that share no key can change places
 abbrev pub NeighboursChangePlaces : Program → Start → Type 0
 NeighboursChangePlaces program s =
-    (later past : List Mark) (a b : Mark) → IsReplayRun program s (later ++ (b ∷ a ∷ past)) → a.thread ≢ b.thread → ((l : Link) → has a l ≡ true → has b l ≡ true → ⊥) → Rearranged program s (later ++ (b ∷ a ∷ past)) (later ++ (a ∷ b ∷ past))
+    (later past : List Mark) (a b : Mark) → IsReplayRun program s (later ++ (b ∷ a ∷ past)) →
+    a.thread ≢ b.thread → ((l : Link) → has a l ≡ true → has b l ≡ true → ⊥) →
+    Rearranged program s (later ++ (b ∷ a ∷ past)) (later ++ (a ∷ b ∷ past))
 
 abbrev pub IsAtMost : {M : Type 0} → (M → ℕ) → ℕ → List M → Type 0
 IsAtMost rank n [] = Unit {0}
@@ -61,12 +64,14 @@ IsOrdered rank (x ∷ xs) = IsAtMost rank (rank x) xs × IsOrdered rank xs
 -- the interleaving of a trimmed run by (clock, thread) is such a run
 abbrev pub ClocksGiveTheOrder : Program → Start → Type 0
 ClocksGiveTheOrder program s =
-    (p : List Mark) → IsReplayRun program s p → Trimmed s p → (q : List Mark) × IsOrdered (rank_in p) q × Rearranged program s p q
+    (p : List Mark) → IsReplayRun program s p → Trimmed s p → (q : List Mark) × IsOrdered (rank_in p) q ×
+    Rearranged program s p q
 
 -- two trimmed runs with one history are alike
 abbrev pub OneHistoryOneRun : Program → Start → Type 0
 OneHistoryOneRun program s =
-    (p q : List Mark) → IsReplayRun program s p → Trimmed s p → IsReplayRun program s q → Trimmed s q → ((t : ℕ) → history record_of s t p ≡ history record_of s t q) → Rearranged program s p q
+    (p q : List Mark) → IsReplayRun program s p → Trimmed s p → IsReplayRun program s q → Trimmed s q →
+    ((t : ℕ) → history record_of s t p ≡ history record_of s t q) → Rearranged program s p q
 
 abbrev pub keep : {M : Type 0} → (M → Bool) → List M → List M
 keep p [] = []
@@ -83,7 +88,8 @@ IsClosed k run = (e f : Mark) → DirectCause run e f → f.index < k f.thread �
 -- a closed set of a run's events is a run, with every later mark of each thread dropped
 abbrev pub LaterMarksCanBeDropped : Program → Start → Type 0
 LaterMarksCanBeDropped program s =
-    (k : ℕ → ℕ) (p : List Mark) → IsReplayRun program s p → IsClosed k p → IsReplayRun program s (keep (kept k) p)
+    (k : ℕ → ℕ) (p : List Mark) → IsReplayRun program s p → IsClosed k p →
+    IsReplayRun program s (keep (kept k) p)
 
 -- the records of each thread, the newest first, are those of some trimmed run
 pub record OfProgram (program : Program) (s : Start) (h : ℕ → List Record) : Type 0 where
@@ -104,16 +110,21 @@ pub record HasFirst (s : Start) (k : ℕ → ℕ) (p q : List Mark) : Type 0 whe
 -- where the start ends with events, of which none is dropped, a trimmed run without its later marks is so
 abbrev pub DroppedRunsAreTrimmed : Program → Start → Type 0
 DroppedRunsAreTrimmed program s =
-    (k : ℕ → ℕ) (p : List Mark) → Run (replay_rules program s) s p → Trimmed s p → ((t : ℕ) → EndsWithEvent (s.parts t)) → ((t : ℕ) → length (s.events (OfThread t)) ≤ k t) → HasFirst s k p (keep (kept k) p)
+    (k : ℕ → ℕ) (p : List Mark) → Run (replay_rules program s) s p → Trimmed s p →
+    ((t : ℕ) → EndsWithEvent (s.parts t)) → ((t : ℕ) → length (s.events (OfThread t)) ≤ k t) →
+    HasFirst s k p (keep (kept k) p)
 
 -- so the records of a closed set of events are of the program
 abbrev pub ClosedSetsAreRuns : Program → Start → Type 0
 ClosedSetsAreRuns program s =
-    (k : ℕ → ℕ) (h : ℕ → List Record) (of : OfProgram program s h) → IsClosed k of.run → ((t : ℕ) → EndsWithEvent (s.parts t)) → ((t : ℕ) → length (s.events (OfThread t)) ≤ k t) → OfProgram program s (λ t. first_of (k t) (h t))
+    (k : ℕ → ℕ) (h : ℕ → List Record) (of : OfProgram program s h) → IsClosed k of.run →
+    ((t : ℕ) → EndsWithEvent (s.parts t)) → ((t : ℕ) → length (s.events (OfThread t)) ≤ k t) →
+    OfProgram program s (λ t. first_of (k t) (h t))
 
 -- no thread is left above the cut without a Stop
 abbrev pub NoneLeft : Program → Start → List Mark → Type 0
-NoneLeft program s run = (t : ℕ) → is_above (program.want t (marks_of s t run)) ≡ true → is_stopped (marks_of s t run) ≡ true
+NoneLeft program s run = (t : ℕ) → is_above (program.want t (marks_of s t run)) ≡ true →
+    is_stopped (marks_of s t run) ≡ true
 
 -- and in such a run no thread is left above the cut
 pub record WhollyOfProgram (program : Program) (s : Start) (h : ℕ → List Record) : Type 0 where
@@ -123,7 +134,8 @@ pub record WhollyOfProgram (program : Program) (s : Start) (h : ℕ → List Rec
 -- whether a thread is left is a matter of the records
 abbrev pub RecordsTellWhoIsLeft : Program → Start → Type 0
 RecordsTellWhoIsLeft program s =
-    (h : ℕ → List Record) → WhollyOfProgram program s h → (of : OfProgram program s h) → NoneLeft program s of.run
+    (h : ℕ → List Record) → WhollyOfProgram program s h → (of : OfProgram program s h) →
+    NoneLeft program s of.run
 
 -- the start's parts end with events, which are among these records
 pub record Begins (s : Start) (h : ℕ → List Record) : Type 0 where
@@ -143,50 +155,63 @@ AllOf t [] = Unit {0}
 AllOf t (m ∷ ms) = (m.thread ≡ t) × AllOf t ms
 
 -- o goes on with marks of the thread t up to its next event, and has these records then
-pub record GoesOn (program : Program) (s : Start) (o : List Mark) (t : ℕ) (h : ℕ → List Record) : Type 0 where
+pub record GoesOn (program : Program) (s : Start) (o : List Mark) (t : ℕ) (h : ℕ → List Record) :
+    Type 0 where
   pub new : List Mark
   pub of_t : AllOf t new
   pub disciplined : IsReplayRun program s (new ++ o)
   pub trimmed : Trimmed s (new ++ o)
   pub is : (u : ℕ) → history record_of s u (new ++ o) ≡ h u
 
--- where records with one more, of the greatest clock, are of the program, each run of the others goes on to it
+-- where records with one more, of the greatest clock, are of the program, each run of the others goes on to
+-- it
 abbrev pub OneMoreRecord : Program → Start → Type 0
 OneMoreRecord program s =
-    (t : ℕ) (h : ℕ → List Record) (e : Record) → ((u : ℕ) → ClocksAtMost e.clock (h u)) → Begins s h → OfProgram program s (added h t e) → (o : List Mark) → IsReplayRun program s o → Trimmed s o → ((u : ℕ) → history record_of s u o ≡ h u) → GoesOn program s o t (added h t e)
+    (t : ℕ) (h : ℕ → List Record) (e : Record) → ((u : ℕ) → ClocksAtMost e.clock (h u)) → Begins s h →
+    OfProgram program s (added h t e) → (o : List Mark) → IsReplayRun program s o → Trimmed s o →
+    ((u : ℕ) → history record_of s u o ≡ h u) → GoesOn program s o t (added h t e)
 
 -- and the others are of the program
 abbrev pub OneRecordLess : Program → Start → Type 0
 OneRecordLess program s =
-    (t : ℕ) (h : ℕ → List Record) (e : Record) → ((u : ℕ) → ClocksAtMost e.clock (h u)) → Begins s h → OfProgram program s (added h t e) → OfProgram program s h
+    (t : ℕ) (h : ℕ → List Record) (e : Record) → ((u : ℕ) → ClocksAtMost e.clock (h u)) → Begins s h →
+    OfProgram program s (added h t e) → OfProgram program s h
 
--- the next mark of a run is allowed and passes the test for races; if it is no event, it is the only mark of its thread
+-- the next mark of a run is allowed and passes the test for races; if it is no event, it is the only mark
+-- of its thread
 -- that the code and memory allow there
 pub record IsNext (program : Program) (s : Start) (past : List Mark) (m : Mark) : Type 0 where
   pub allowed : Allowed (replay_rules program s) s past m
   pub no_race : NoRace past m
-  pub only : is_event m.act ≡ false → (n : Mark) → m.thread ≡ n.thread → m.index ≡ n.index → is_event n.act ≡ false → OwnRules program s (marks_of s n.thread past) n → Asks n.act (λ x. byte s x past) → m ≡ n
+  pub only : is_event m.act ≡ false → (n : Mark) → m.thread ≡ n.thread → m.index ≡ n.index →
+      is_event n.act ≡ false → OwnRules program s (marks_of s n.thread past) n →
+      Asks n.act (λ x. byte s x past) → m ≡ n
 
 abbrev pub EachMarkIsTheNext : Program → Start → Type 0
 EachMarkIsTheNext program s =
-    (later past : List Mark) (m : Mark) → IsReplayRun program s (later ++ (m ∷ past)) → IsNext program s past m
+    (later past : List Mark) (m : Mark) → IsReplayRun program s (later ++ (m ∷ past)) →
+    IsNext program s past m
 
 -- step by step, no race with an earlier access is the rule of the whole run
 abbrev pub RacesAreFoundStepByStep : Program → Start → Type 0
 RacesAreFoundStepByStep program s =
-    (past : List Mark) (m : Mark) → Run (replay_rules program s) s (m ∷ past) → RaceFree (m ∷ past) ↔ (RaceFree past × NoRace past m)
+    (past : List Mark) (m : Mark) → Run (replay_rules program s) s (m ∷ past) →
+    RaceFree (m ∷ past) ↔ (RaceFree past × NoRace past m)
 
 -- and it is enough to look at the last accesses of each thread
 abbrev pub LastAccessesTell : Program → Start → Type 0
 LastAccessesTell program s =
     (past : List Mark) (m : Mark) → Run (replay_rules program s) s past → NoRace past m ↔ Watched past m
 
--- from a start before which there was no event, clocks that are counted step by step are the lengths of the longest chains
+-- from a start before which there was no event, clocks that are counted step by step are the lengths of the
+-- longest chains
 abbrev pub ClocksAreLongestChains : Program → Start → Type 0
 ClocksAreLongestChains program s =
-    ((l : Link) → s.events l ≡ []) → (run : List Mark) → Run (replay_rules program s) s run → (e : Mark) → In e run → is_event e.act ≡ true → IsLongest run e
+    ((l : Link) → s.events l ≡ []) → (run : List Mark) → Run (replay_rules program s) s run → (e : Mark) →
+    In e run → is_event e.act ≡ true → IsLongest run e
 
--- nothing disturbs the access of a range by m: it races with no earlier one, and each byte is live, not pending, of
+-- nothing disturbs the access of a range by m: it races with no earlier one, and each byte is live, not
+-- pending, of
 -- replay memory and, if it is written, no constant
 pub record Undisturbed (s : Start) (past : List Mark) (m : Mark) (write : Bool) (r : Range) : Type 0 where
   pub no_race : NoRace past m
@@ -196,10 +221,16 @@ pub record Undisturbed (s : Start) (past : List Mark) (m : Mark) (write : Bool) 
 
 -- the checks of a load, a store and the end of a frame pass exactly where nothing disturbs the access
 pub record ChecksAreExact (i : Interface) (s : Start) (past : List Mark) (m : Mark) : Type 0 where
-  pub loads : (o : Option ℕ) (at : ℕ) (bytes : List ℕ) → m.act ≡ Load o at bytes → Passes (checks i s past m.thread (Loads o at (length bytes))) ↔ Undisturbed s past m false (range at (length bytes))
-  pub stores : (o : Option ℕ) (at : ℕ) (bytes : List ℕ) → m.act ≡ Store o at bytes → Passes (checks i s past m.thread (Stores o at bytes)) ↔ Undisturbed s past m true (range at (length bytes))
-  pub leaves : (at size : ℕ) → m.act ≡ Leave at size → Passes (checks i s past m.thread (Leaves at size)) ↔ Undisturbed s past m true (range at size)
+  pub loads : (o : Option ℕ) (at : ℕ) (bytes : List ℕ) → m.act ≡ Load o at bytes →
+      Passes (checks i s past m.thread (Loads o at (length bytes))) ↔ Undisturbed s past m false
+      (range at (length bytes))
+  pub stores : (o : Option ℕ) (at : ℕ) (bytes : List ℕ) → m.act ≡ Store o at bytes →
+      Passes (checks i s past m.thread (Stores o at bytes)) ↔ Undisturbed s past m true
+      (range at (length bytes))
+  pub leaves : (at size : ℕ) → m.act ≡ Leave at size →
+      Passes (checks i s past m.thread (Leaves at size)) ↔ Undisturbed s past m true (range at size)
 
 -- what a list of checks finds and that it passes exclude each other
 abbrev pub FindsOrPasses : Interface → Start → List Mark → ℕ → Want → Type 0
-FindsOrPasses i s past t want = (f : Finding) → Finds (checks i s past t want) f → Passes (checks i s past t want) → ⊥
+FindsOrPasses i s past t want = (f : Finding) → Finds (checks i s past t want) f →
+    Passes (checks i s past t want) → ⊥

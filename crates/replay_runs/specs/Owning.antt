@@ -20,14 +20,19 @@ IsOwn x = (is_system x ≡ false) × (is_constant x ≡ false)
 abbrev pub HeldBytesAreOwn : Program → Start → Type 0
 HeldBytesAreOwn program s =
     ((x : ℕ) (h : Holder) → holds s [] x h ≡ true → IsOwn x) →
-    (run : List Mark) → Run (replay_rules program s) s run → (x : ℕ) (h : Holder) → holds s run x h ≡ true → IsOwn x
+    (run : List Mark) → Run (replay_rules program s) s run → (x : ℕ) (h : Holder) →
+    holds s run x h ≡ true → IsOwn x
 
 -- a frame for which there is room, the innermost frame, a new block and one that is freed are so
 pub record ObjectsAreOwn (s : Start) (past : List Mark) : Type 0 where
-  pub enters : (t size : ℕ) → t < thread_count → HasRoom t (marks_of s t past) size → (x : ℕ) → within (frame_place t (marks_of s t past)) size x ≡ true → IsOwn x
-  pub leaves : (t at size : ℕ) → t < thread_count → LeavesFirst (Leave at size) (frames (marks_of s t past)) → (x : ℕ) → within at size x ≡ true → IsOwn x
-  pub allocs : (at size : ℕ) → IsPlace replay_pool (blocks s past) size at → (x : ℕ) → within at (granted at size) x ≡ true → IsOwn x
-  pub frees : (at size : ℕ) → size_at at (blocks s past) ≡ size → (x : ℕ) → within at size x ≡ true → IsOwn x
+  pub enters : (t size : ℕ) → t < thread_count → HasRoom t (marks_of s t past) size → (x : ℕ) →
+      within (frame_place t (marks_of s t past)) size x ≡ true → IsOwn x
+  pub leaves : (t at size : ℕ) → t < thread_count →
+      LeavesFirst (Leave at size) (frames (marks_of s t past)) → (x : ℕ) → within at size x ≡ true → IsOwn x
+  pub allocs : (at size : ℕ) → IsPlace replay_pool (blocks s past) size at → (x : ℕ) →
+      within at (granted at size) x ≡ true → IsOwn x
+  pub frees : (at size : ℕ) → size_at at (blocks s past) ≡ size → (x : ℕ) → within at size x ≡ true →
+      IsOwn x
 
 abbrev pub ObjectsOfWholePasts : Start → Type 0
 ObjectsOfWholePasts s = (past : List Mark) → IsWhole s past → ObjectsAreOwn s past

@@ -1,4 +1,5 @@
--- What it says that the checks of a Ret pass in a replay, where nothing is scripted and no byte was changed.
+-- What it says that the checks of a Ret pass in a replay, where nothing is scripted and no byte was
+-- changed.
 use Rattle.std.specs.Prelude.{◌≡◌, ◌↔◌, ℕ, Bool, true, cond, eqb, List, [], ◌∷◌, length, Option, Some, None}
 use Rattle.marks.specs.declared.range.Range.{Range}
 use Rattle.marks.specs.Ranges.{Piece, are_bytes, piece_ranges}
@@ -13,13 +14,15 @@ use Rattle.replay_runs.specs.Checks.{Passes, replayed, return_checks}
 -- each of the calls reads and holds what its annotations say
 abbrev pub AreAnnotated : Interface → List OpenCall → Type 0
 AreAnnotated i [] = Unit {0}
-AreAnnotated i (c ∷ cs) = (c.ins ≡ i.ins c.func c.args) × (c.outs ≡ i.outs c.func c.args) × AreAnnotated i cs
+AreAnnotated i (c ∷ cs) = (c.ins ≡ i.ins c.func c.args) × (c.outs ≡ i.outs c.func c.args) ×
+    AreAnnotated i cs
 
 -- in a run the open calls do, where those of the start do
 abbrev pub OpenCallsAreAnnotated : Program → Start → Type 0
 OpenCallsAreAnnotated program s =
     ((t : ℕ) → AreAnnotated program.interface (open_calls (s.parts t))) →
-    (run : List Mark) → Run (replay_rules program s) s run → (t : ℕ) → AreAnnotated program.interface (open_calls (marks_of s t run))
+    (run : List Mark) → Run (replay_rules program s) s run → (t : ℕ) →
+    AreAnnotated program.interface (open_calls (marks_of s t run))
 
 -- each piece has as many bytes as are used
 abbrev pub HaveCounts : List ℕ → List Piece → Type 0
@@ -34,7 +37,8 @@ ReleasesUsed s past k None commit = commit ≡ Withheld
 ReleasesUsed s past k (Some n) NoRegion = ⊥
 ReleasesUsed s past k (Some n) Withheld = ⊥
 ReleasesUsed s past k (Some n) (Released j p) =
-    (j ≡ k) × (length p.bytes ≡ cond (eqb p.range.addr 0) 0 n) × (are_bytes p.bytes ≡ true) × ((r : Range) → in_use s k past ≡ Some r → p.range ≡ r)
+    (j ≡ k) × (length p.bytes ≡ cond (eqb p.range.addr 0) 0 n) × (are_bytes p.bytes ≡ true) ×
+    ((r : Range) → in_use s k past ≡ Some r → p.range ≡ r)
 
 abbrev pub IsCommitted : Start → List Mark → Option Committing → Commit → Type 0
 IsCommitted s past None commit = commit ≡ NoRegion
@@ -47,13 +51,15 @@ ReleasesInUse s past Withheld = Unit {0}
 ReleasesInUse s past (Released k p) = in_use s k past ≡ Some p.range
 
 -- the pieces and the commit of a Ret, by the annotations of its function
-pub record IsAnnotated (i : Interface) (s : Start) (past : List Mark) (func : ℕ) (args : List ℕ) (result : ℕ) (outs : List Piece) (commit : Commit) : Type 0 where
+pub record IsAnnotated (i : Interface) (s : Start) (past : List Mark) (func : ℕ) (args : List ℕ) (result :
+    ℕ) (outs : List Piece) (commit : Commit) : Type 0 where
   pub ranges : piece_ranges outs ≡ i.outs func args
   pub counts : HaveCounts (i.used func args result) outs
   pub committed : IsCommitted s past (i.commits func args result) commit
 
 -- the rules of sizes and of the key
-pub record KeepsSizes (i : Interface) (s : Start) (past : List Mark) (func : ℕ) (args : List ℕ) (result : ℕ) (outs : List Piece) (commit : Commit) : Type 0 where
+pub record KeepsSizes (i : Interface) (s : Start) (past : List Mark) (func : ℕ) (args : List ℕ) (result :
+    ℕ) (outs : List Piece) (commit : Commit) : Type 0 where
   pub used : AreUsed (i.used func args result) outs
   pub committed : Commits (i.commits func args result) commit
   pub in_use : ReleasesInUse s past commit
@@ -61,13 +67,17 @@ pub record KeepsSizes (i : Interface) (s : Start) (past : List Mark) (func : ℕ
 -- the checks of a Ret pass exactly where it keeps the rules
 abbrev pub ReturnChecksAreExact : Interface → Start → List Mark → Type 0
 ReturnChecksAreExact i s past =
-    (func : ℕ) (args : List ℕ) (result : ℕ) (outs : List Piece) (commit : Commit) → IsAnnotated i s past func args result outs commit →
-    Passes (return_checks i s past replayed func args result) ↔ KeepsSizes i s past func args result outs commit
+    (func : ℕ) (args : List ℕ) (result : ℕ) (outs : List Piece) (commit : Commit) →
+    IsAnnotated i s past func args result outs commit →
+    Passes (return_checks i s past replayed func args result) ↔ KeepsSizes i s past func args result outs
+    commit
 
 -- so a Ret that may come passes them
 abbrev pub RetsPass : Program → Start → Type 0
 RetsPass program s =
-    (past : List Mark) (m : Mark) (e : Event) (func : ℕ) (args : List ℕ) (result : ℕ) (same : Bool) (outs : List Piece) (commit : Commit) →
-    AreAnnotated program.interface (open_calls (marks_of s m.thread past)) → Allowed (replay_rules program s) s past m →
+    (past : List Mark) (m : Mark) (e : Event) (func : ℕ) (args : List ℕ) (result : ℕ) (same : Bool) (outs :
+    List Piece) (commit : Commit) →
+    AreAnnotated program.interface (open_calls (marks_of s m.thread past)) →
+    Allowed (replay_rules program s) s past m →
     m.act ≡ Made e → e.kind ≡ Ret func args result same outs commit →
     Passes (return_checks program.interface s past replayed func args result)

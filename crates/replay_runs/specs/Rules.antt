@@ -1,4 +1,5 @@
--- The rules of a replay run: how each mark follows from its thread's own past, and from the events that share a key.
+-- The rules of a replay run: how each mark follows from its thread's own past, and from the events that
+-- share a key.
 use Rattle.std.specs.Prelude.{◌≡◌, ◌≢◌, ◌⊎◌, ℕ, ◌≤◌, ◌<◌, Bool, true, false, ◌&&◌, ◌||◌, cond, eqb, List, [], ◌∷◌, ◌++◌, map, length, Option, Some, None, is_some}
 use Rattle.run_events.specs.declared.key.Class.{Class}
 use Rattle.run_events.specs.declared.key.Class.TheVariants.{Mutex, User, Callback, Thread, Pool, Out, Async}
@@ -20,14 +21,16 @@ use Rattle.replay_runs.specs.Keys.{sorted_keys, keys_for}
 
 -- the mark answers what the code wants; a thread above the cut may stop at any mark
 abbrev pub is_reply : Want → Act → Bool
-is_reply want act = cond (is_stop act) (is_above want) ((is_above want || is_below want) && is_some (answer_to want act))
+is_reply want act = cond (is_stop act) (is_above want) ((is_above want || is_below want) &&
+    is_some (answer_to want act))
 
 -- each of the functions may run above the cut
 abbrev pub AllMayRun : Interface → List ℕ → Type 0
 AllMayRun i [] = Unit {0}
 AllMayRun i (f ∷ fs) = (i.may_run Replay f ≡ true) × AllMayRun i fs
 
--- a function that a pointer names may run in the mode that the call gives it, and those that a call registers above
+-- a function that a pointer names may run in the mode that the call gives it, and those that a call
+-- registers above
 -- the cut; no Step may come above the cut
 abbrev pub KeepsModes : Interface → Want → Type 0
 KeepsModes i Outside = Unit {0}
@@ -38,7 +41,8 @@ KeepsModes i (Enters indirect func args bytes) = indirect ≡ true → i.may_run
 KeepsModes i (Leaves at size) = Unit {0}
 KeepsModes i (Allocs size) = Unit {0}
 KeepsModes i (Frees at) = Unit {0}
-KeepsModes i (Calls indirect func args) = (indirect ≡ true → i.may_run System func ≡ true) × AllMayRun i (i.registers func args)
+KeepsModes i (Calls indirect func args) = (indirect ≡ true → i.may_run System func ≡ true) ×
+    AllMayRun i (i.registers func args)
 KeepsModes i (Below func args) = Unit {0}
 KeepsModes i (Gives func args) = Unit {0}
 KeepsModes i (Returns func args result) = Unit {0}
@@ -91,18 +95,24 @@ ClosesUp [] func = ⊥
 ClosesUp (f ∷ fs) func = func ≡ f
 
 -- what a Ret carries
-pub record IsReturn (i : Interface) (s : Start) (t : ℕ) (mine : List Mark) (func : ℕ) (args : List ℕ) (result : ℕ) (same : Bool) (outs : List Piece) (commit : Commit) : Type 0 where
+pub record IsReturn (i : Interface) (s : Start) (t : ℕ) (mine : List Mark) (func : ℕ) (args : List ℕ)
+    (result : ℕ) (same : Bool) (outs : List Piece) (commit : Commit) : Type 0 where
   pub closes : Closes (open_calls mine) func args (piece_ranges outs)
   pub result_is : i.gives func result ≡ true
   pub used : AreUsed (i.used func args result) outs
   pub committed : Commits (i.commits func args result) commit
-  -- the form `same` comes exactly where result and bytes are those of the thread's last return of the function
-  pub repeats : same ≡ (i.is_cached func && same_return (last_return (s.returned t func) func mine) (record { result = result; bytes = piece_bytes outs ++ logged commit }))
+  -- the form `same` comes exactly where result and bytes are those of the thread's last return of the
+  -- function
+  pub repeats : same ≡ (i.is_cached func && same_return (last_return (s.returned t func) func mine)
+      (record { result = result; bytes = piece_bytes outs ++ logged commit }))
 
 -- what an event carries besides what the code wants
 abbrev pub EventCarries : Interface → Start → ℕ → List Mark → EventKind → Type 0
-EventCarries i s t mine (Call func args ins outs prepared) = (piece_ranges ins ≡ i.ins func args) × AreWhole ins × (outs ≡ i.outs func args) × (prepared ≡ i.prepares func args) × Apart (outs ++ prepared_ranges prepared) × DistinctKeys prepared
-EventCarries i s t mine (Ret func args result same outs commit) = IsReturn i s t mine func args result same outs commit
+EventCarries i s t mine (Call func args ins outs prepared) = (piece_ranges ins ≡ i.ins func args) ×
+    AreWhole ins × (outs ≡ i.outs func args) × (prepared ≡ i.prepares func args) ×
+    Apart (outs ++ prepared_ranges prepared) × DistinctKeys prepared
+EventCarries i s t mine (Ret func args result same outs commit) =
+    IsReturn i s t mine func args result same outs commit
 EventCarries i s t mine (Up func args) = (i.may_run Replay func ≡ true) × (i.takes func args ≡ true)
 EventCarries i s t mine (UpRet func result) = ClosesUp (open_ups mine) func
 EventCarries i s t mine (Alloc at size) = Unit {0}
@@ -114,11 +124,15 @@ SomeConstant r = (x : ℕ) × (covers r x ≡ true) × (is_constant x ≡ true)
 
 -- a Call is stopped at the first bad one of its ranges: it has touched those before
 pub data StopsCall (ins outs : List Range) : FaultKind → List Range → List Range → Access → Type 0 where
-  AtIn : (before after : List Range) (r : Range) → ins ≡ before ++ (r ∷ after) → StopsCall ins outs NotLive before [] (Reading r)
-  AtOut : (before after : List Range) (r : Range) → outs ≡ before ++ (r ∷ after) → Apart before → StopsCall ins outs NotLive ins before (Writing r)
-  AtConstant : (before after : List Range) (r : Range) → outs ≡ before ++ (r ∷ after) → Apart (r ∷ before) → SomeConstant r → StopsCall ins outs ReadOnly ins before (Writing r)
+  AtIn : (before after : List Range) (r : Range) → ins ≡ before ++ (r ∷ after) →
+      StopsCall ins outs NotLive before [] (Reading r)
+  AtOut : (before after : List Range) (r : Range) → outs ≡ before ++ (r ∷ after) → Apart before →
+      StopsCall ins outs NotLive ins before (Writing r)
+  AtConstant : (before after : List Range) (r : Range) → outs ≡ before ++ (r ∷ after) →
+      Apart (r ∷ before) → SomeConstant r → StopsCall ins outs ReadOnly ins before (Writing r)
 
--- what a mark carries besides what the code wants: frames lie at the least free place, a fault comes where it must
+-- what a mark carries besides what the code wants: frames lie at the least free place, a fault comes where
+-- it must
 abbrev pub Carries : Interface → Start → ℕ → List Mark → Want → Act → Type 0
 Carries i s t mine want (Made e) = EventCarries i s t mine e.kind
 Carries i s t mine Outside act = Unit {0}
@@ -126,13 +140,17 @@ Carries i s t mine Turns act = Unit {0}
 Carries i s t mine (Loads origin at width) act = Unit {0}
 Carries i s t mine (Stores origin at bytes) (Fault ReadOnly crosses ins outs (Writing r)) = SomeConstant r
 Carries i s t mine (Stores origin at bytes) act = Unit {0}
-Carries i s t mine (Enters indirect func args bytes) (Enter f vs at b) = (at ≡ frame_place t mine) × HasRoom t mine (length bytes)
-Carries i s t mine (Enters indirect func args bytes) (Fault kind crosses ins outs access) = HasRoom t mine (length bytes) → ⊥
+Carries i s t mine (Enters indirect func args bytes) (Enter f vs at b) = (at ≡ frame_place t mine) ×
+    HasRoom t mine (length bytes)
+Carries i s t mine (Enters indirect func args bytes) (Fault kind crosses ins outs access) =
+    HasRoom t mine (length bytes) → ⊥
 Carries i s t mine (Enters indirect func args bytes) act = Unit {0}
 Carries i s t mine (Leaves at size) act = Unit {0}
 Carries i s t mine (Allocs size) act = Unit {0}
 Carries i s t mine (Frees at) act = Unit {0}
-Carries i s t mine (Calls indirect func args) (Fault kind crosses ins outs access) = StopsCall (i.ins func args) (i.outs func args ++ prepared_ranges (i.prepares func args)) kind ins outs access
+Carries i s t mine (Calls indirect func args) (Fault kind crosses ins outs access) =
+    StopsCall (i.ins func args) (i.outs func args ++ prepared_ranges (i.prepares func args)) kind ins outs
+    access
 Carries i s t mine (Calls indirect func args) act = Unit {0}
 Carries i s t mine (Below func args) act = Unit {0}
 Carries i s t mine (Gives func args) act = Unit {0}

@@ -44,15 +44,20 @@ abbrev pub is_own : Link → ℕ → Bool
 is_own (OfThread t) u = eqb t u
 is_own (OfKey k) u = false
 
--- the last event with the link, and so what comes after it, knows of each access of the byte, but for a thread's own
+-- the last event with the link, and so what comes after it, knows of each access of the byte, but for a
+-- thread's own
 abbrev pub AreKnown : List Mark → Link → ℕ → Type 0
-AreKnown past l x = (a : Mark) → In a past → is_own l a.thread ≡ false → touches a.act x ≡ true → place a < known past l a.thread
+AreKnown past l x = (a : Mark) → In a past → is_own l a.thread ≡ false → touches a.act x ≡ true →
+    place a < known past l a.thread
 
--- of a byte that is dead in a stack its thread knows, of one that is dead in the pool the pool's key, of one that is
+-- of a byte that is dead in a stack its thread knows, of one that is dead in the pool the pool's key, of
+-- one that is
 -- held its holder
 pub record BytesAreKnown (s : Start) (past : List Mark) (x : ℕ) : Type 0 where
-  pub stacks : (t : ℕ) → t < thread_count → stack Replay t ≤ x → x < stack Replay t + stack_size → (byte s x past).cell ≡ Dead → AreKnown past (OfThread t) x
-  pub pool : replay_pool ≤ x → x < replay_pool + pool_size → (byte s x past).cell ≡ Dead → AreKnown past (OfKey (key Pool 0)) x
+  pub stacks : (t : ℕ) → t < thread_count → stack Replay t ≤ x → x < stack Replay t + stack_size →
+      (byte s x past).cell ≡ Dead → AreKnown past (OfThread t) x
+  pub pool : replay_pool ≤ x → x < replay_pool + pool_size → (byte s x past).cell ≡ Dead →
+      AreKnown past (OfKey (key Pool 0)) x
   pub held : (h : Holder) → holds s past x h ≡ true → AreKnown past (link_of h) x
 
 -- a thread leaves its innermost frame
@@ -63,16 +68,19 @@ LeavesFirst _ fs = Unit {0}
 
 abbrev pub FramesEndInOrder : Start → List Mark → Type 0
 FramesEndInOrder s [] = Unit {0}
-FramesEndInOrder s (m ∷ past) = LeavesFirst m.act (frames (marks_of s m.thread past)) × FramesEndInOrder s past
+FramesEndInOrder s (m ∷ past) = LeavesFirst m.act (frames (marks_of s m.thread past)) ×
+    FramesEndInOrder s past
 
 -- each of a thread's marks stands above the cut and is one that its code wanted after those before it
 abbrev pub AreWanted : Program → ℕ → List Mark → Type 0
 AreWanted program t [] = Unit {0}
-AreWanted program t (m ∷ mine) = (m.side ≡ Replay) × (is_reply (program.want t mine) m.act ≡ true) × AreWanted program t mine
+AreWanted program t (m ∷ mine) = (m.side ≡ Replay) × (is_reply (program.want t mine) m.act ≡ true) ×
+    AreWanted program t mine
 
 -- after such marks, code that leaves a frame leaves the innermost one of them
 abbrev pub EndsOwnFrames : Program → Type 0
-EndsOwnFrames program = (t : ℕ) (mine : List Mark) (at size : ℕ) → AreWanted program t mine → program.want t mine ≡ Leaves at size → LeavesFirst (Leave at size) (frames mine)
+EndsOwnFrames program = (t : ℕ) (mine : List Mark) (at size : ℕ) → AreWanted program t mine →
+    program.want t mine ≡ Leaves at size → LeavesFirst (Leave at size) (frames mine)
 
 -- what each thread is in the midst of, its code wanted
 abbrev pub BeginsWanted : Program → Start → Type 0
@@ -80,7 +88,8 @@ BeginsWanted program s = (t : ℕ) → AreWanted program t (s.parts t)
 
 -- and then each run does so
 abbrev pub CodeEndsFramesInOrder : Program → Type 0
-CodeEndsFramesInOrder program = EndsOwnFrames program → (s : Start) (run : List Mark) → BeginsWanted program s → Run (replay_rules program s) s run → FramesEndInOrder s run
+CodeEndsFramesInOrder program = EndsOwnFrames program → (s : Start) (run : List Mark) →
+    BeginsWanted program s → Run (replay_rules program s) s run → FramesEndInOrder s run
 
 -- frames that stand one on the other
 abbrev pub Stacked : ℕ → List Range → Type 0
@@ -96,15 +105,18 @@ abbrev pub Once : List OpenCall → ℕ → Type 0
 Once [] x = Unit {0}
 Once (c ∷ cs) x = (any_range c.outs x ≡ true → any_held cs x ≡ false) × Once cs x
 
--- what is live in the stacks and the pool is what frames and blocks have, and what is pending is what calls and keys hold,
+-- what is live in the stacks and the pool is what frames and blocks have, and what is pending is what calls
+-- and keys hold,
 -- each byte for one of them
 pub record IsWhole (s : Start) (past : List Mark) : Type 0 where
   pub stacked : (t : ℕ) → Stacked (stack Replay t) (frames (marks_of s t past))
   pub room : (t : ℕ) → frame_place t (marks_of s t past) ≤ stack Replay t + stack_size
-  pub above : (t x : ℕ) → t < thread_count → frame_place t (marks_of s t past) ≤ x → x < stack Replay t + stack_size → (byte s x past).cell ≡ Dead
+  pub above : (t x : ℕ) → t < thread_count → frame_place t (marks_of s t past) ≤ x →
+      x < stack Replay t + stack_size → (byte s x past).cell ≡ Dead
   pub listed : ListsBlocks (blocks s past) (λ x. (byte s x past).block)
   pub in_pool : InPool (blocks s past)
-  pub unused : (x : ℕ) → replay_pool ≤ x → x < replay_pool + pool_size → any_range (blocks s past) x ≡ false → (byte s x past).cell ≡ Dead
+  pub unused : (x : ℕ) → replay_pool ≤ x → x < replay_pool + pool_size →
+      any_range (blocks s past) x ≡ false → (byte s x past).cell ≡ Dead
   pub once : (t x : ℕ) → Once (open_calls (marks_of s t past)) x
   pub held : (x : ℕ) (h : Holder) → holds s past x h ≡ true → IsHeld (byte s x past).cell
   pub one : (x : ℕ) (h j : Holder) → holds s past x h ≡ true → holds s past x j ≡ true → h ≡ j
@@ -148,10 +160,12 @@ TakesUnseen _ = ⊥
 -- so a frame, a new block and a return race with nothing, by the rules alone
 abbrev pub UnseenBytesRaceWithNothing : Program → Start → Type 0
 UnseenBytesRaceWithNothing program s =
-    (past : List Mark) → Calm program s past → (m : Mark) → Allowed (replay_rules program s) s past m → TakesUnseen m.act → NoRace past m
+    (past : List Mark) → Calm program s past → (m : Mark) → Allowed (replay_rules program s) s past m →
+    TakesUnseen m.act → NoRace past m
 
 -- nor does a frame for which there is room
 abbrev pub FramesRaceWithNothing : Program → Start → Type 0
 FramesRaceWithNothing program s =
-    (past : List Mark) → Calm program s past → (t size : ℕ) → t < thread_count → HasRoom t (marks_of s t past) size
+    (past : List Mark) → Calm program s past → (t size : ℕ) → t < thread_count →
+    HasRoom t (marks_of s t past) size
     → Unraced past t true (range (frame_place t (marks_of s t past)) size)

@@ -23,12 +23,14 @@ pub fn checks_say_what_may_pass()
 
 /// The checks of a step pass, or find one thing, not both.
 pub fn checks_decide()
-    ensures { (i : Interface) (s : Start) (past : List Mark) (t : ℕ) (want : Want) → ChecksDecide i s past t want }
+    ensures { (i : Interface) (s : Start) (past : List Mark) (t : ℕ) (want : Want) →
+        ChecksDecide i s past t want }
 {}
 
 /// So do the checks of a Ret.
 pub fn return_checks_decide()
-    ensures { (i : Interface) (s : Start) (past : List Mark) (below : Answered) → ReturnChecksDecide i s past below }
+    ensures { (i : Interface) (s : Start) (past : List Mark) (below : Answered) →
+        ReturnChecksDecide i s past below }
 {}
 
 /// The checks of a Ret in a replay pass exactly where it keeps the rules of sizes and of the key that it commits.

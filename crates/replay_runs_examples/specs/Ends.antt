@@ -15,10 +15,12 @@ leaving = program whole leaving_code
 -- a block whose bytes the end of a frame has taken away
 abbrev pub taking_code : ℕ → Code
 taking_code (suc t) = []
-taking_code zero = always Outside ∷ always (Enters false main [] (zeros 16)) ∷ always (Allocs 16) ∷ always (Leaves 0x30000000 16) ∷ always (Frees 0x30000000) ∷ []
+taking_code zero = always Outside ∷ always (Enters false main [] (zeros 16)) ∷ always (Allocs 16) ∷
+    always (Leaves 0x30000000 16) ∷ always (Frees 0x30000000) ∷ []
 
 abbrev pub taking : Program
 taking = program whole taking_code
 
 abbrev pub taken : List Doing
-taken = Makes 0 (Up main []) ∷ Steps 0 (Enter main [] 0x20000000 (zeros 16)) ∷ Makes 0 (Alloc 0x30000000 16) ∷ Steps 0 (Leave 0x30000000 16) ∷ []
+taken = Makes 0 (Up main []) ∷ Steps 0 (Enter main [] 0x20000000 (zeros 16)) ∷
+    Makes 0 (Alloc 0x30000000 16) ∷ Steps 0 (Leave 0x30000000 16) ∷ []

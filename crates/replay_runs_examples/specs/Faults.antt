@@ -98,15 +98,19 @@ abbrev pub asks_now : ℕ → Bool → List Doing
 asks_now v same = calls 0 now [] ∷ Makes 0 (Ret now [] v same [] NoRegion) ∷ []
 
 abbrev pub asked_twice : Bool → List Doing
-asked_twice same = Makes 0 (Up main []) ∷ Steps 0 (Enter main [] 0x20000000 (zeros 16)) ∷ asks_now 7 false ++ asks_now 7 same
+asked_twice same = Makes 0 (Up main []) ∷ Steps 0 (Enter main [] 0x20000000 (zeros 16)) ∷
+    asks_now 7 false ++ asks_now 7 same
 
 abbrev pub asked : List Doing
-asked = asked_twice true ++ asks_now 8 false ++ asks_now 7 false ++ Steps 0 (Leave 0x20000000 16) ∷ Makes 0 (UpRet main 29) ∷ []
+asked = asked_twice true ++ asks_now 8 false ++ asks_now 7 false ++
+    Steps 0 (Leave 0x20000000 16) ∷ Makes 0 (UpRet main 29) ∷ []
 
 -- code that writes a constant, or prints what isn't there
 abbrev pub refused_code : ℕ → Code
-refused_code zero = always Outside ∷ always (Enters false main [] (zeros 16)) ∷ always (Stores None 0x100000 (1 ∷ [])) ∷ always (Stores None 0x100000 (1 ∷ [])) ∷ []
-refused_code (suc t) = always Outside ∷ always (Enters false main [] (zeros 16)) ∷ always (Calls false print (0x1000000c ∷ 8 ∷ [])) ∷ always (Calls false print (0x1000000c ∷ 8 ∷ [])) ∷ []
+refused_code zero = always Outside ∷ always (Enters false main [] (zeros 16)) ∷
+    always (Stores None 0x100000 (1 ∷ [])) ∷ always (Stores None 0x100000 (1 ∷ [])) ∷ []
+refused_code (suc t) = always Outside ∷ always (Enters false main [] (zeros 16)) ∷
+    always (Calls false print (0x1000000c ∷ 8 ∷ [])) ∷ always (Calls false print (0x1000000c ∷ 8 ∷ [])) ∷ []
 
 abbrev pub refused : Program
 refused = program whole refused_code
@@ -118,11 +122,14 @@ abbrev pub wrote : Doing
 wrote = Steps 0 (Store None 0x100000 (1 ∷ []))
 
 abbrev pub write_refused : List Doing
-write_refused = begun 0 0x20000000 ++ Steps 0 (Fault ReadOnly false [] [] (Writing (range 0x100000 1))) ∷ Makes 0 (Stop (Some ReadOnly)) ∷ []
+write_refused = begun 0 0x20000000 ++ Steps 0 (Fault ReadOnly false [] [] (Writing (range 0x100000 1))) ∷
+    Makes 0 (Stop (Some ReadOnly)) ∷ []
 
 abbrev pub print_refused : List Doing
-print_refused = begun 1 0x20010000 ++ Steps 1 (Fault NotLive true [] [] (Reading (range 0x1000000c 8))) ∷ Makes 1 (Stop (Some NotLive)) ∷ []
+print_refused = begun 1 0x20010000 ++ Steps 1 (Fault NotLive true [] [] (Reading (range 0x1000000c 8))) ∷
+    Makes 1 (Stop (Some NotLive)) ∷ []
 
 -- a fault whose Stop is that of a halted thread
 abbrev pub wrong_stop : List Doing
-wrong_stop = begun 0 0x20000000 ++ Steps 0 (Fault ReadOnly false [] [] (Writing (range 0x100000 1))) ∷ Makes 0 (Stop None) ∷ []
+wrong_stop = begun 0 0x20000000 ++ Steps 0 (Fault ReadOnly false [] [] (Writing (range 0x100000 1))) ∷
+    Makes 0 (Stop None) ∷ []

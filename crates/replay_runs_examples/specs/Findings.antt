@@ -59,7 +59,8 @@ prepared = entered ++ prepares region 9 (range 0x10000000 4) ∷ returns 0 read_
 -- the step after it
 abbrev pub later : Want → Example
 later w = record {
-  program = coming_to (always (Calls false read_later region) ∷ always (Below read_later region) ∷ always w ∷ []);
+  program = coming_to (always (Calls false read_later region) ∷ always (Below read_later region) ∷
+      always w ∷ []);
   done = prepared;
   want = w;
 }
@@ -69,7 +70,11 @@ abbrev pub moves : ℕ → ℕ → Want
 moves p q = Calls false move (p ∷ q ∷ [])
 
 abbrev pub moved : Doing
-moved = Makes 0 (Call move (0x10000000 ∷ 0x10000008 ∷ []) (record { range = range 0x10000000 4; bytes = zeros 4 } ∷ []) (range 0x10000008 4 ∷ []) [])
+moved = Makes 0 (Call move (0x10000000 ∷ 0x10000008 ∷ []) (record {
+  range = range 0x10000000 4;
+  bytes =
+      zeros 4;
+} ∷ []) (range 0x10000008 4 ∷ []) [])
 
 -- the return of a call
 pub record Return : Type 0 where
@@ -94,14 +99,16 @@ Returned r d = IsReplayRun r.program here (mark r.program here (called r) d ∷ 
 -- `read_now(0x10000000)`, which fills some of four bytes
 abbrev pub reading : Return
 reading = record {
-  program = coming_to (always (Calls false read_now (0x10000000 ∷ [])) ∷ always (Below read_now (0x10000000 ∷ [])) ∷ []);
+  program = coming_to (always (Calls false read_now (0x10000000 ∷ [])) ∷
+      always (Below read_now (0x10000000 ∷ [])) ∷ []);
   done = entered ++ Makes 0 (Call read_now (0x10000000 ∷ []) [] (range 0x10000000 4 ∷ []) []) ∷ [];
   func = read_now;
   args = 0x10000000 ∷ [];
 }
 
 abbrev pub filled : List ℕ → Doing
-filled bytes = Makes 0 (Ret read_now (0x10000000 ∷ []) 4 false (record { range = range 0x10000000 4; bytes = bytes } ∷ []) NoRegion)
+filled bytes = Makes 0 (Ret read_now (0x10000000 ∷ []) 4 false
+    (record { range = range 0x10000000 4; bytes = bytes } ∷ []) NoRegion)
 
 -- a scripted piece of so many bytes
 abbrev pub scripted : ℕ → Answered
@@ -122,7 +129,8 @@ unprepared = record {
 
 abbrev pub awaiting : Return
 awaiting = record {
-  program = coming_to (always (Calls false read_later region) ∷ always (Below read_later region) ∷ always (Calls false await (9 ∷ [])) ∷ always (Below await (9 ∷ [])) ∷ []);
+  program = coming_to (always (Calls false read_later region) ∷ always (Below read_later region) ∷
+      always (Calls false await (9 ∷ [])) ∷ always (Below await (9 ∷ [])) ∷ []);
   done = prepared ++ Makes 0 (Call await (9 ∷ []) [] [] []) ∷ [];
   func = await;
   args = 9 ∷ [];
@@ -130,17 +138,43 @@ awaiting = record {
 
 -- main has called itself so often, and does so again
 abbrev pub begun : Mark
-begun = record { thread = 0; side = Replay; index = 0; act = Made (record { kind = Up main []; steps = 0; keys = record { key = key Callback main; ticket = 0 } ∷ []; clock = 1 }) }
+begun = record {
+  thread = 0;
+  side = Replay;
+  index = 0;
+  act =
+      Made (record {
+        kind = Up main [];
+        steps = 0;
+        keys = record { key = key Callback main; ticket = 0 } ∷
+            [];
+        clock = 1;
+      });
+}
 
 abbrev pub nested : ℕ → List Mark
 nested zero = begun ∷ []
-nested (suc n) = record { thread = 0; side = Replay; index = 1; act = Enter main [] (0x20000000 + 16 * n) (zeros 16) } ∷ nested n
+nested (suc n) = record {
+  thread = 0;
+  side = Replay;
+  index = 1;
+  act =
+      Enter main [] (0x20000000 + 16 * n) (zeros 16);
+} ∷ nested n
 
 abbrev pub stacked : ℕ → ℕ → Byte
 stacked n x = record { cell = cond (within 0x20000000 (16 * n) x) (Live 0) Dead; block = 0 }
 
 abbrev pub deep : ℕ → Start
-deep n = record (fresh (stacked n)) { parts = λ t. cond (eqb t 0) (nested n) []; events = λ l. cond (has begun l) (begun ∷ []) [] }
+deep n = record (fresh (stacked n)) {
+  parts = λ t. cond (eqb t 0) (nested n) [];
+  events =
+      λ l. cond (has begun l) (begun ∷ []) [];
+}
 
 abbrev pub recursing : Program
-recursing = record { interface = (program whole (only [])).interface; want = λ t mine. Enters false main [] (zeros 16) }
+recursing = record {
+  interface = (program whole (only [])).interface;
+  want =
+      λ t mine. Enters false main [] (zeros 16);
+}

@@ -7,7 +7,8 @@ use Rattle.marks.specs.Wants.{Outside, Loads, Stores, Enters, Leaves, Calls, Bel
 use Rattle.replay_runs.specs.Interface.{Program}
 use Rattle.replay_runs_examples.specs.Programs.{calls, returns, whole, Code, always, loaded, frame, program, Doing, Steps, Makes, zeros, spawn, join, lock, unlock, main, worker, to_worker}
 
--- `int n; int main(void) { int a; int b; a = r2_spawn(worker, 0); b = r2_spawn(worker, 0); r2_join(a); r2_join(b); return 0; }`
+-- `int n; int main(void) { int a; int b; a = r2_spawn(worker, 0); b = r2_spawn(worker, 0); r2_join(a);
+-- r2_join(b); return 0; }`
 abbrev pub main_code : Code
 main_code =
     always Outside
@@ -62,7 +63,8 @@ abbrev pub begins : ℕ → ℕ → List Doing
 begins t at = Makes t (Up worker (0 ∷ [])) ∷ Steps t (Enter worker (0 ∷ []) at (zeros 16)) ∷ []
 
 abbrev pub adds : ℕ → ℕ → List Doing
-adds t n = Steps t (Load (Some 0) 0x10000000 (n ∷ 0 ∷ 0 ∷ 0 ∷ [])) ∷ Steps t (Store (Some 0) 0x10000000 (suc n ∷ 0 ∷ 0 ∷ 0 ∷ [])) ∷ []
+adds t n = Steps t (Load (Some 0) 0x10000000 (n ∷ 0 ∷ 0 ∷ 0 ∷ [])) ∷
+    Steps t (Store (Some 0) 0x10000000 (suc n ∷ 0 ∷ 0 ∷ 0 ∷ [])) ∷ []
 
 abbrev pub ends : ℕ → ℕ → List Doing
 ends t at = Steps t (Leave at 16) ∷ Makes t (UpRet worker 0) ∷ []

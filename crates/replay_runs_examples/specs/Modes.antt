@@ -1,4 +1,5 @@
--- Code that calls an external which isn't of the interface, through a pointer; and code that writes a constant which
+-- Code that calls an external which isn't of the interface, through a pointer; and code that writes a
+-- constant which
 -- another thread has read.
 use Rattle.std.specs.Prelude.{ℕ, zero, suc, List, [], ◌∷◌, ◌++◌, Some, None, true, false}
 use Rattle.marks.specs.declared.fault.FaultKind.TheVariants.{ReadOnly}
@@ -50,8 +51,10 @@ ran result ins pieces freed = Steps 0 (Step ext [] result ins pieces freed)
 
 -- thread 1 reads the constant that thread 0 is about to write
 abbrev pub writing_code : ℕ → Code
-writing_code zero = always Outside ∷ always (Enters false main [] (zeros 16)) ∷ always (Stores None 0x100000 (1 ∷ [])) ∷ always (Stores None 0x100000 (1 ∷ [])) ∷ []
-writing_code (suc t) = always Outside ∷ always (Enters false main [] (zeros 16)) ∷ always (Loads None 0x100000 1) ∷ []
+writing_code zero = always Outside ∷ always (Enters false main [] (zeros 16)) ∷
+    always (Stores None 0x100000 (1 ∷ [])) ∷ always (Stores None 0x100000 (1 ∷ [])) ∷ []
+writing_code (suc t) = always Outside ∷ always (Enters false main [] (zeros 16)) ∷
+    always (Loads None 0x100000 1) ∷ []
 
 abbrev pub writing : Program
 writing = program whole writing_code
@@ -66,4 +69,5 @@ was_read =
     ∷ []
 
 abbrev pub was_refused : List Doing
-was_refused = was_read ++ Steps 0 (Fault ReadOnly false [] [] (Writing (range 0x100000 1))) ∷ Makes 0 (Stop (Some ReadOnly)) ∷ []
+was_refused = was_read ++ Steps 0 (Fault ReadOnly false [] [] (Writing (range 0x100000 1))) ∷
+    Makes 0 (Stop (Some ReadOnly)) ∷ []

@@ -38,7 +38,8 @@ stopped = Makes 0 (Stop None)
 abbrev pub pending_load : List ℕ → Doing
 pending_load bytes = Steps 0 (Load (Some 0) 0x10000000 bytes)
 
--- `char b[4]; int main(void) { int t; read_later(b, 4, 9); t = r2_spawn(worker, 0); r2_join(t); return b[0]; }`
+-- `char b[4]; int main(void) { int t; read_later(b, 4, 9); t = r2_spawn(worker, 0); r2_join(t); return
+-- b[0]; }`
 abbrev pub main_code : Code
 main_code =
     always Outside
@@ -82,7 +83,8 @@ abbrev pub filled_later : List Doing
 filled_later =
     Makes 0 (Up main [])
     ∷ Steps 0 (Enter main [] 0x20000000 (zeros 16))
-    ∷ Makes 0 (Call read_later (0x10000000 ∷ 4 ∷ 9 ∷ []) [] [] (record { key = 9; range = range 0x10000000 4 } ∷ []))
+    ∷ Makes 0 (Call read_later (0x10000000 ∷ 4 ∷ 9 ∷ []) [] []
+    (record { key = 9; range = range 0x10000000 4 } ∷ []))
     ∷ returns 0 read_later (0x10000000 ∷ 4 ∷ 9 ∷ []) 0
     ∷ calls 0 spawn (to_worker ∷ 0 ∷ [])
     ∷ returns 0 spawn (to_worker ∷ 0 ∷ []) 1

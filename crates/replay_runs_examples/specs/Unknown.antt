@@ -1,4 +1,5 @@
--- Frames that race: where a thread has faulted there before, and where code leaves a frame that isn't the innermost one.
+-- Frames that race: where a thread has faulted there before, and where code leaves a frame that isn't the
+-- innermost one.
 use Rattle.std.specs.Prelude.{ℕ, zero, suc, List, [], ◌∷◌, false, None}
 use Rattle.marks.specs.declared.fault.FaultKind.TheVariants.{NotLive}
 use Rattle.marks.specs.Ranges.{range}

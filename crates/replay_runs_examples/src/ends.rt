@@ -18,6 +18,7 @@ pub fn a_frame_that_is_not_there()
 /// The same where a block is freed whose bytes aren't there.
 pub fn a_block_that_is_not_there()
     ensures before { IsReplayRun taking here (run_of taking here taken) }
-    ensures found { Finds (checks taking.interface here (run_of taking here taken) 0 (Frees 0x30000000)) (FaultFound NotLive) }
+    ensures found { Finds (checks taking.interface here (run_of taking here taken) 0 (Frees 0x30000000))
+        (FaultFound NotLive) }
     ensures no_fault { FaultMayCome taking here (run_of taking here taken) 0 NotLive → ⊥ }
 {}

@@ -9,7 +9,8 @@ ghost use Rattle.replay_runs_examples.specs.Faults.{asked, asked_twice, asking, 
 /// the read races with the free.
 pub fn a_block_freed_by_another_thread()
     ensures disciplined { IsReplayRun (freeing whole) here (run_of (freeing whole) here freed) }
-    ensures key_left_out { IsReplayRun (freeing without_thread) here (run_of (freeing without_thread) here freed) → ⊥ }
+    ensures key_left_out { IsReplayRun (freeing without_thread) here
+        (run_of (freeing without_thread) here freed) → ⊥ }
 {}
 
 /// Of four equal calls that answer 7, 7, 8 and 7 the second return has the form `same`; in full it is refused.
@@ -22,7 +23,9 @@ pub fn a_cached_return()
 pub fn a_write_to_a_constant()
     ensures disciplined { IsReplayRun refused here (run_of refused here write_refused) }
     ensures another_stop { IsReplayRun refused here (run_of refused here wrong_stop) → ⊥ }
-    ensures no_store { IsReplayRun refused here (mark refused here (run_of refused here (begun 0 0x20000000)) wrote ∷ run_of refused here (begun 0 0x20000000)) → ⊥ }
+    ensures no_store { IsReplayRun refused here
+        (mark refused here (run_of refused here (begun 0 0x20000000)) wrote ∷
+        run_of refused here (begun 0 0x20000000)) → ⊥ }
 {}
 
 /// A call whose range runs past a live object is a fault in place of the call.

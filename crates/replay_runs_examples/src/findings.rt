@@ -27,7 +27,8 @@ pub fn a_byte_that_is_not_there()
 pub fn a_constant()
     ensures found { Meets (first (Stores None 0x10000c (zeros 4))) (FaultFound ReadOnly) }
     ensures read { Goes (first (Loads None 0x10000c 4)) (Steps 0 (Load None 0x10000c (zeros 4))) }
-    ensures kept { Goes (first (Stores None 0x1000000c (zeros 4))) (Steps 0 (Store None 0x1000000c (zeros 4))) }
+    ensures kept { Goes (first (Stores None 0x1000000c (zeros 4)))
+        (Steps 0 (Store None 0x1000000c (zeros 4))) }
 {}
 
 /// `now` may not run above the cut: not by a pointer, nor called back.
@@ -35,7 +36,8 @@ pub fn a_function_in_the_wrong_mode()
     ensures entered { Meets (first (Enters true now [] (zeros 16))) (BreachFound Mode 0x1150 None) }
     ensures registered { Meets (first (Calls false spawn (0x1150 ∷ 0 ∷ []))) (BreachFound Mode 0x1150 None) }
     ensures called { Meets (first (Calls true worker [])) (BreachFound Mode to_worker None) }
-    ensures kept { Goes (first (Enters true worker (0 ∷ []) (zeros 16))) (Steps 0 (Enter worker (0 ∷ []) 0x20000010 (zeros 16))) }
+    ensures kept { Goes (first (Enters true worker (0 ∷ []) (zeros 16)))
+        (Steps 0 (Enter worker (0 ∷ []) 0x20000010 (zeros 16))) }
 {}
 
 /// Of two bad ranges the first decides, whatever is found there; of a good one and a bad one the second.
@@ -48,8 +50,10 @@ pub fn two_bad_ranges()
 
 /// While the key is in use no other region is prepared under it.
 pub fn a_key_that_is_in_use()
-    ensures found { Meets (later (Calls false read_later (0x10000004 ∷ 4 ∷ 9 ∷ []))) (BreachFound KeyInUse 9 None) }
-    ensures kept { Goes (later (Calls false read_later (0x10000004 ∷ 4 ∷ 10 ∷ []))) (prepares (0x10000004 ∷ 4 ∷ 10 ∷ []) 10 (range 0x10000004 4)) }
+    ensures found { Meets (later (Calls false read_later (0x10000004 ∷ 4 ∷ 9 ∷ [])))
+        (BreachFound KeyInUse 9 None) }
+    ensures kept { Goes (later (Calls false read_later (0x10000004 ∷ 4 ∷ 10 ∷ [])))
+        (prepares (0x10000004 ∷ 4 ∷ 10 ∷ []) 10 (range 0x10000004 4)) }
 {}
 
 /// The bytes of the region are pending; the least of them is named, and the one after them is read.
@@ -78,6 +82,8 @@ pub fn a_region_of_the_wrong_size()
 
 /// A thread has 256 frames at most: after as many it faults, after one less it enters the last.
 pub fn a_stack_that_is_full()
-    ensures found { Finds (checks recursing.interface (deep 256) [] 0 (Enters false main [] (zeros 16))) (FaultFound StackFull) }
-    ensures kept { IsReplayRun recursing (deep 255) (mark recursing (deep 255) [] (Steps 0 (Enter main [] 0x20000ff0 (zeros 16))) ∷ []) }
+    ensures found { Finds (checks recursing.interface (deep 256) [] 0 (Enters false main [] (zeros 16)))
+        (FaultFound StackFull) }
+    ensures kept { IsReplayRun recursing (deep 255)
+        (mark recursing (deep 255) [] (Steps 0 (Enter main [] 0x20000ff0 (zeros 16))) ∷ []) }
 {}

@@ -17,8 +17,11 @@ pub fn an_external_outside_the_interface()
     ensures before { IsReplayRun calling here (run_of calling here got) }
     ensures is_left { NoneLeft calling here (run_of calling here got) → ⊥ }
     ensures stopped { IsReplayRun calling here (mark calling here (run_of calling here got) halted ∷ run_of calling here got) }
-    ensures refused { (result : ℕ) (ins pieces : List Piece) (freed : List Range) → IsReplayRun calling here (mark calling here (run_of calling here got) (ran result ins pieces freed) ∷ run_of calling here got) → ⊥ }
-    ensures named { Finds (checks calling.interface here (run_of calling here got) 0 (Steps true ext [])) (BreachFound Mode to_ext None) }
+    ensures refused { (result : ℕ) (ins pieces : List Piece) (freed : List Range) →
+        IsReplayRun calling here (mark calling here (run_of calling here got)
+        (ran result ins pieces freed) ∷ run_of calling here got) → ⊥ }
+    ensures named { Finds (checks calling.interface here (run_of calling here got) 0 (Steps true ext []))
+        (BreachFound Mode to_ext None) }
 {}
 
 /// A write to a constant that another thread has read is no race: the checks name the fault, which may come.

@@ -17,13 +17,18 @@ abbrev pub other_memory : Side → Range
 other_memory Replay = SYSTEM_MEMORY
 other_memory System = REPLAY_MEMORY
 
--- a free at an address other than 0 is refused: the address is of the other side's memory; or else no live block of the
+-- a free at an address other than 0 is refused: the address is of the other side's memory; or else no live
+-- block of the
 -- side begins there; or else a byte of the block is pending for replay code, and the least is shown
 abbrev pub IsFreeRefused : Side → List Block → List Region → ℕ → Refusal → Type 0
-IsFreeRefused side blocks regions addr (OtherSpace x) = (covers (other_memory side) addr ≡ true) × (x ≡ addr)
-IsFreeRefused side blocks regions addr (NotLive x) = (covers (other_memory side) addr ≡ false) × (length_at blocks addr ≡ None) × (x ≡ addr)
+IsFreeRefused side blocks regions addr (OtherSpace x) = (covers (other_memory side) addr ≡ true) ×
+    (x ≡ addr)
+IsFreeRefused side blocks regions addr (NotLive x) = (covers (other_memory side) addr ≡ false) ×
+    (length_at blocks addr ≡ None) × (x ≡ addr)
 IsFreeRefused side blocks regions addr (Pending x) =
-    (covers (other_memory side) addr ≡ false) × ((len : ℕ) × (length_at blocks addr ≡ Some len) × IsLeastIn (record { addr = addr; len = len }) (IsPendingTo side regions) x)
+    (covers (other_memory side) addr ≡ false) ×
+    ((len : ℕ) × (length_at blocks addr ≡ Some len) ×
+    IsLeastIn (record { addr = addr; len = len }) (IsPendingTo side regions) x)
 IsFreeRefused side blocks regions addr (ReadOnly x) = ⊥
 IsFreeRefused side blocks regions addr (StackFull x) = ⊥
 IsFreeRefused side blocks regions addr (KeyInUse x) = ⊥

@@ -26,8 +26,10 @@ abbrev pub IsLeaveRefused : Side → List Region → Option Range → Refusal �
 IsLeaveRefused side regions (Some frame) (Pending x) = IsLeastIn frame (IsPendingTo side regions) x
 IsLeaveRefused side regions _ _ = ⊥
 
--- the byte at an address once the arguments stand in a frame, each at its offset and in its width, low byte first
+-- the byte at an address once the arguments stand in a frame, each at its offset and in its width, low byte
+-- first
 abbrev pub with_args : ℕ → List ℕ → List ℕ → List ℕ → ℕ → Option ℕ → Option ℕ
 with_args frame (offset ∷ offsets) (width ∷ widths) (arg ∷ args) x byte =
-    with_args frame offsets widths args x (if covers (record { addr = frame + offset; len = width }) x then Some (digit arg (x - (frame + offset))) else byte)
+    with_args frame offsets widths args x (if covers (record { addr = frame + offset; len = width }) x then
+    Some (digit arg (x - (frame + offset))) else byte)
 with_args frame _ _ _ x byte = byte

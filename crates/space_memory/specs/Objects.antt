@@ -19,7 +19,8 @@ IsInArea o =
 -- the byte that objects give an address: that of the one that has it, and the given one where none does
 abbrev pub byte_of : List Place → ℕ → Option ℕ → Option ℕ
 byte_of [] x byte = byte
-byte_of (o ∷ rest) x byte = byte_of rest x (if covers (object_range o) x then Some (slice_index o.init (x - o.addr)) else byte)
+byte_of (o ∷ rest) x byte = byte_of rest x (if covers (object_range o) x then Some
+    (slice_index o.init (x - o.addr)) else byte)
 
 -- the areas, where the constants end at an address
 abbrev pub areas_to : ℕ → List Range

@@ -30,7 +30,8 @@ AllFilled bytes _ _ = Unit {0}
 
 -- the first region that isn't begins at the address
 abbrev pub FirstUnfilled : List AreaState → List Region → List ℕ → ℕ → Type 0
-FirstUnfilled bytes (r ∷ rs) (used ∷ more) x = ((¬ IsFilled bytes used r) × (x ≡ r.range.addr)) ⊎ (IsFilled bytes used r × FirstUnfilled bytes rs more x)
+FirstUnfilled bytes (r ∷ rs) (used ∷ more) x = ((¬ IsFilled bytes used r) × (x ≡ r.range.addr)) ⊎
+    (IsFilled bytes used r × FirstUnfilled bytes rs more x)
 FirstUnfilled bytes _ _ x = ⊥
 
 -- the region that a call commits: there is none to commit, or that of the key
@@ -56,13 +57,16 @@ LacksKey regions (Some c) key = (prepared_region regions c.0 ≡ None) × (key �
 abbrev pub HasKey : List Region → Option (ℕ × ℕ) → Type 0
 HasKey regions commit = (key : ℕ) → ¬ LacksKey regions commit key
 
--- the regions that a return gives back, each with its used size: those that the call holds to write, then the committed one
+-- the regions that a return gives back, each with its used size: those that the call holds to write, then
+-- the committed one
 abbrev pub AllReturned : List AreaState → List Region → OpenCall → List ℕ → Option (ℕ × ℕ) → Type 0
 AllReturned bytes regions call used commit =
     AllFilled bytes (outs_of call regions ++ committed regions commit) (used ++ committed_size commit)
 
--- the return is refused: the key is not in use, or else a region isn't filled up to its used size, and the first is shown
-abbrev pub IsReleaseRefused : List AreaState → List Region → OpenCall → List ℕ → Option (ℕ × ℕ) → Refusal → Type 0
+-- the return is refused: the key is not in use, or else a region isn't filled up to its used size, and the
+-- first is shown
+abbrev pub IsReleaseRefused : List AreaState → List Region → OpenCall → List ℕ → Option (ℕ × ℕ) → Refusal →
+    Type 0
 IsReleaseRefused bytes regions call used commit (NotLive x) = ⊥
 IsReleaseRefused bytes regions call used commit (Pending x) = ⊥
 IsReleaseRefused bytes regions call used commit (OtherSpace x) = ⊥
@@ -71,4 +75,5 @@ IsReleaseRefused bytes regions call used commit (StackFull x) = ⊥
 IsReleaseRefused bytes regions call used commit (KeyInUse x) = ⊥
 IsReleaseRefused bytes regions call used commit (NoKey x) = LacksKey regions commit x
 IsReleaseRefused bytes regions call used commit (Size x) =
-    HasKey regions commit × FirstUnfilled bytes (outs_of call regions ++ committed regions commit) (used ++ committed_size commit) x
+    HasKey regions commit × FirstUnfilled bytes (outs_of call regions ++ committed regions commit) (used ++
+    committed_size commit) x

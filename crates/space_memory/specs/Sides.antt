@@ -26,7 +26,11 @@ with_thread side thread frames = record { stacks = with_frames side.stacks threa
 
 -- the side with other live blocks
 abbrev pub with_blocks : SideState → List Block → SideState
-with_blocks side blocks = record { stacks = side.stacks; pool = record { base = side.pool.base; size = side.pool.size; blocks = blocks } }
+with_blocks side blocks = record {
+  stacks = side.stacks;
+  pool =
+      record { base = side.pool.base; size = side.pool.size; blocks = blocks };
+}
 
 -- the stack of a thread before its first frame, where that of thread 0 begins at an address
 abbrev pub fresh_stack : ℕ → ℕ → StackState
@@ -34,7 +38,11 @@ fresh_stack from thread = record { base = from + thread * STACK_SIZE; frames = [
 
 -- a side with no frames and no blocks
 abbrev pub fresh_side : ℕ → ℕ → SideState
-fresh_side stacks pool = record { stacks = map (fresh_stack stacks) (range_with_len 0 THREADS); pool = record { base = pool; size = POOL_SIZE; blocks = [] } }
+fresh_side stacks pool = record {
+  stacks = map (fresh_stack stacks) (range_with_len 0 THREADS);
+  pool =
+      record { base = pool; size = POOL_SIZE; blocks = [] };
+}
 
 -- the addresses of a stack
 abbrev pub stack_range : StackState → Range

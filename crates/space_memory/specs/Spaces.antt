@@ -40,7 +40,8 @@ pub record IsHoused (areas : List Range) (side : SideState) : Type 0 where
 
 -- a region that is to be written has a byte for each of its addresses, and ends before the last address
 abbrev pub IsWhole : Region → Type 0
-IsWhole r = is_pending r.holder ≡ true → (length r.before ≡ r.range.len) × (r.range.addr + r.range.len < 2 ^ 64)
+IsWhole r = is_pending r.holder ≡ true → (length r.before ≡ r.range.len) ×
+    (r.range.addr + r.range.len < 2 ^ 64)
 
 -- what spaces keep
 pub record IsKept (areas : List Range) (held : List Region) (sides : Sides) : Type 0 where

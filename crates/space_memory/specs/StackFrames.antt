@@ -31,4 +31,7 @@ stack_of stacks thread = slice_index_or stacks thread (record { base = 0; frames
 
 -- the stacks with other frames for one thread
 abbrev pub with_frames : List StackState → ℕ → List Range → List StackState
-with_frames stacks thread frames = slice_set stacks thread (record { base = (stack_of stacks thread).base; frames = frames })
+with_frames stacks thread frames = slice_set stacks thread (record {
+  base = (stack_of stacks thread).base;
+  frames = frames;
+})

@@ -10,10 +10,12 @@ use space_memory_bytes::LiveBytes;
 pub fn write_args(bytes: &mut LiveBytes, frame: Range, offsets: &[u64], widths: &[u8], args: &[u64])
     requires widths { length widths.now ≡ length offsets.now }
     requires args { length args.now ≡ length offsets.now }
-    requires in_frame { (i : ℕ) → i < length offsets.now → slice_index offsets.now i + slice_index widths.now i ≤ frame.len }
+    requires in_frame { (i : ℕ) → i < length offsets.now →
+        slice_index offsets.now i + slice_index widths.now i ≤ frame.len }
     requires in_area { LiesIn frame (extents bytes.old) }
     requires ends { frame.addr + frame.len < 2 ^ 64 }
-    ensures set { (x : ℕ) → byte_at bytes.new x ≡ with_args frame.addr offsets.now widths.now args.now x (byte_at bytes.old x) }
+    ensures set { (x : ℕ) → byte_at bytes.new x ≡
+        with_args frame.addr offsets.now widths.now args.now x (byte_at bytes.old x) }
     ensures areas { extents bytes.new ≡ extents bytes.old }
 {
     for at in 0..offsets.len() {

@@ -59,8 +59,11 @@ impl Spaces {
     /// Where a frame of `size` bytes would lie that the thread entered on the side, or why `enter` would refuse it.
     pub fn may_enter(&self, side: Side, thread: u8, size: u64) -> Result<u64, Refusal>
         requires { thread < THREADS }
-        ensures place { IfOk result (λ addr. addr ≡ end_of (stack_of (side_of self.now.sides side).stacks thread).base (frames_of (side_of self.now.sides side) thread)) }
-        ensures refused { (r : Refusal) → (result ≡ Err r) ↔ IsEnterRefused (stack_of (side_of self.now.sides side).stacks thread) size r }
+        ensures place { IfOk result (λ addr. addr ≡
+            end_of (stack_of (side_of self.now.sides side).stacks thread).base
+            (frames_of (side_of self.now.sides side) thread)) }
+        ensures refused { (r : Refusal) → (result ≡ Err r) ↔ IsEnterRefused
+            (stack_of (side_of self.now.sides side).stacks thread) size r }
     {
         let space = self.sides.of(side);
         let addr = space.end(thread);
@@ -78,9 +81,13 @@ impl Spaces {
         commit: Option<(u64, u64)>,
     ) -> Result<(), Refusal>
         requires in_range { thread < THREADS }
-        requires sizes { length used.now ≡ length (outs_of (innermost self.now.held thread) self.now.held.regions) }
-        ensures released { IsOk result ↔ (HasKey self.now.held.regions commit × AllReturned self.now.bytes self.now.held.regions (innermost self.now.held thread) used.now commit) }
-        ensures refused { (r : Refusal) → (result ≡ Err r) ↔ IsReleaseRefused self.now.bytes self.now.held.regions (innermost self.now.held thread) used.now commit r }
+        requires sizes { length used.now ≡ length
+            (outs_of (innermost self.now.held thread) self.now.held.regions) }
+        ensures released { IsOk result ↔ (HasKey self.now.held.regions commit ×
+            AllReturned self.now.bytes self.now.held.regions (innermost self.now.held thread) used.now
+            commit) }
+        ensures refused { (r : Refusal) → (result ≡ Err r) ↔ IsReleaseRefused self.now.bytes
+            self.now.held.regions (innermost self.now.held thread) used.now commit r }
     {
         let call = self.held.innermost(thread);
         check_release(&self.bytes, &self.held, call, used, commit)
@@ -90,7 +97,9 @@ impl Spaces {
     /// filled up to the used size: it has room for as much, and the bytes past it are as they were when it was held.
     pub fn is_filled(&self, thread: u8, place: usize, used: u64) -> bool
         requires { thread < THREADS }
-        ensures { IsTrue result ↔ IsSomeAnd (slice_get (outs_of (innermost self.now.held thread) self.now.held.regions) place) (IsFilled self.now.bytes used) }
+        ensures { IsTrue result ↔ IsSomeAnd (slice_get
+            (outs_of (innermost self.now.held thread) self.now.held.regions) place)
+            (IsFilled self.now.bytes used) }
     {
         let call = self.held.innermost(thread);
         match out_at(self.held.as_slice(), call, place) {
@@ -101,7 +110,8 @@ impl Spaces {
 
     /// Whether the key is in use, and the region under it is filled up to the used size.
     pub fn is_committed_filled(&self, key: u64, used: u64) -> bool
-        ensures { IsTrue result ↔ IsSomeAnd (prepared_region self.now.held.regions key) (IsFilled self.now.bytes used) }
+        ensures { IsTrue result ↔ IsSomeAnd (prepared_region self.now.held.regions key)
+            (IsFilled self.now.bytes used) }
     {
         match self.held.prepared(key) {
             Some(region) => is_filled(&self.bytes, region, used),

@@ -26,8 +26,10 @@ pub fn check_release(
 ) -> Result<(), Refusal>
     requires whole { All IsWhole held.now.regions }
     requires sizes { length used.now ≡ length (outs_of call held.now.regions) }
-    ensures released { IsOk result ↔ (HasKey held.now.regions commit × AllReturned bytes.now held.now.regions call used.now commit) }
-    ensures refused { (r : Refusal) → (result ≡ Err r) ↔ IsReleaseRefused bytes.now held.now.regions call used.now commit r }
+    ensures released { IsOk result ↔ (HasKey held.now.regions commit ×
+        AllReturned bytes.now held.now.regions call used.now commit) }
+    ensures refused { (r : Refusal) → (result ≡ Err r) ↔ IsReleaseRefused bytes.now held.now.regions call
+        used.now commit r }
 {
     let Some((key, size)) = commit else {
         return match first_unfilled(bytes, held.as_slice(), call, used) {
@@ -58,7 +60,8 @@ fn first_unfilled(
 ) -> Option<u64>
     requires whole { All IsWhole regions.now }
     requires sizes { length used.now ≡ length (outs_of call regions.now) }
-    ensures { MatchOption result (AllFilled bytes.now (outs_of call regions.now) used.now) (FirstUnfilled bytes.now (outs_of call regions.now) used.now) }
+    ensures { MatchOption result (AllFilled bytes.now (outs_of call regions.now) used.now)
+        (FirstUnfilled bytes.now (outs_of call regions.now) used.now) }
 {
     let mut next = 0;
     for region in regions {

@@ -62,7 +62,8 @@ impl SideSpace {
         requires { thread < THREADS }
         ensures full { IsNone result ↔ IsFullFor (stack_of self.old.stacks thread) size }
         ensures frame { IfSome result (λ frame. frame ≡ next_frame (stack_of self.old.stacks thread) size) }
-        ensures entered { IfSome result (λ frame. self.new ≡ with_thread self.old thread (frames_of self.old thread ++ frame ∷ [])) }
+        ensures entered { IfSome result (λ frame. self.new ≡
+            with_thread self.old thread (frames_of self.old thread ++ frame ∷ [])) }
         ensures in_stack { IfSome result (IsWithin (stack_range (stack_of self.old.stacks thread))) }
         ensures unchanged { IfNone result (self.new ≡ self.old) }
     {
@@ -105,7 +106,8 @@ impl SideSpace {
     pub fn take(&mut self, n: u64) -> Option<u64>
         requires { 1 ≤ n }
         ensures place { IfSome result (IsLeastPlace self.old.pool n) }
-        ensures taken { IfSome result (λ addr. self.new ≡ with_blocks self.old (with_block self.old.pool.blocks (record { addr = addr; len = n }))) }
+        ensures taken { IfSome result (λ addr. self.new ≡
+            with_blocks self.old (with_block self.old.pool.blocks (record { addr = addr; len = n }))) }
         ensures no_place { IfNone result ((addr : ℕ) → ¬ IsPlace self.old.pool n addr) }
         ensures unchanged { IfNone result (self.new ≡ self.old) }
     {
@@ -126,7 +128,8 @@ impl SideSpace {
     /// The length of the live block that begins at the address.
     pub fn block(&self, addr: u64) -> Option<u64>
         ensures length { result ≡ length_at self.now.pool.blocks addr }
-        ensures in_pool { IfSome result (λ len. IsWithin (pool_range self.now.pool) (record { addr = addr; len = len })) }
+        ensures in_pool { IfSome result (λ len.
+            IsWithin (pool_range self.now.pool) (record { addr = addr; len = len })) }
     {
         self.pool.length(addr)
     }

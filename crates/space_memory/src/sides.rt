@@ -45,9 +45,13 @@ impl Sides {
     pub fn enter(&mut self, side: Side, thread: u8, size: u64) -> Option<Range>
         requires { thread < THREADS }
         ensures full { IsNone result ↔ IsFullFor (stack_of (side_of self.old side).stacks thread) size }
-        ensures frame { IfSome result (λ frame. frame ≡ next_frame (stack_of (side_of self.old side).stacks thread) size) }
-        ensures entered { IfSome result (λ frame. self.new ≡ with_side self.old side (with_thread (side_of self.old side) thread (frames_of (side_of self.old side) thread ++ frame ∷ []))) }
-        ensures in_stack { IfSome result (IsWithin (stack_range (stack_of (side_of self.old side).stacks thread))) }
+        ensures frame { IfSome result (λ frame. frame ≡
+            next_frame (stack_of (side_of self.old side).stacks thread) size) }
+        ensures entered { IfSome result (λ frame. self.new ≡
+            with_side self.old side (with_thread (side_of self.old side) thread
+            (frames_of (side_of self.old side) thread ++ frame ∷ []))) }
+        ensures in_stack { IfSome result (IsWithin
+            (stack_range (stack_of (side_of self.old side).stacks thread))) }
         ensures unchanged { IfNone result (self.new ≡ self.old) }
     {
         match side {
@@ -60,8 +64,10 @@ impl Sides {
     pub fn leave(&mut self, side: Side, thread: u8) -> Range
         requires in_range { thread < THREADS }
         requires frame { 0 < length (frames_of (side_of self.old side) thread) }
-        ensures left { frames_of (side_of self.old side) thread ≡ frames_of (side_of self.new side) thread ++ result ∷ [] }
-        ensures others { self.new ≡ with_side self.old side (with_thread (side_of self.old side) thread (frames_of (side_of self.new side) thread)) }
+        ensures left { frames_of (side_of self.old side) thread ≡
+            frames_of (side_of self.new side) thread ++ result ∷ [] }
+        ensures others { self.new ≡ with_side self.old side
+            (with_thread (side_of self.old side) thread (frames_of (side_of self.new side) thread)) }
         ensures in_stack { IsWithin (stack_range (stack_of (side_of self.old side).stacks thread)) result }
     {
         match side {
@@ -74,7 +80,9 @@ impl Sides {
     pub fn take(&mut self, side: Side, n: u64) -> Option<u64>
         requires { 1 ≤ n }
         ensures place { IfSome result (IsLeastPlace (side_of self.old side).pool n) }
-        ensures taken { IfSome result (λ addr. self.new ≡ with_side self.old side (with_blocks (side_of self.old side) (with_block (side_of self.old side).pool.blocks (record { addr = addr; len = n })))) }
+        ensures taken { IfSome result (λ addr. self.new ≡
+            with_side self.old side (with_blocks (side_of self.old side)
+            (with_block (side_of self.old side).pool.blocks (record { addr = addr; len = n })))) }
         ensures no_place { IfNone result ((addr : ℕ) → ¬ IsPlace (side_of self.old side).pool n addr) }
         ensures unchanged { IfNone result (self.new ≡ self.old) }
     {
@@ -87,7 +95,8 @@ impl Sides {
     /// Makes the block of the side that begins at the address free.
     pub fn give(&mut self, side: Side, addr: u64)
         requires { IsSome (length_at (side_of self.old side).pool.blocks addr) }
-        ensures { self.new ≡ with_side self.old side (with_blocks (side_of self.old side) (without_block (side_of self.old side).pool.blocks addr)) }
+        ensures { self.new ≡ with_side self.old side
+            (with_blocks (side_of self.old side) (without_block (side_of self.old side).pool.blocks addr)) }
     {
         match side {
             Side::Replay => self.replay.give(addr),

@@ -22,8 +22,10 @@ impl Spaces {
     ) -> Result<Bytes8, HoldError>
         ensures len { IfOk result (λ bytes. length bytes ≡ range.len) }
         ensures bytes { IfOk result (λ bytes. HasBytes self.now.bytes range.addr bytes) }
-        ensures allowed { OnOk result (IsAllowed self.now.bytes self.now.held.regions (record { side = side; thread = thread; range = range; write = false })) }
-        ensures refused { (r : Refusal) → (result ≡ Err (Refused r)) ↔ IsRefused self.now.bytes self.now.held.regions (record { side = side; thread = thread; range = range; write = false }) r }
+        ensures allowed { OnOk result (IsAllowed self.now.bytes self.now.held.regions
+            (record { side = side; thread = thread; range = range; write = false })) }
+        ensures refused { (r : Refusal) → (result ≡ Err (Refused r)) ↔ IsRefused self.now.bytes
+            self.now.held.regions (record { side = side; thread = thread; range = range; write = false }) r }
     {
         self.check(side, thread, range, false)?;
         let bytes = self.bytes.copy(alloc, range)?;
@@ -33,10 +35,23 @@ impl Spaces {
     /// Makes the bytes from the address on those of the list, for code of the side. It is refused as a store of them is.
     pub fn write(&mut self, side: Side, thread: u8, addr: u64, bytes: &[u8]) -> Result<(), Refusal>
         ensures written { OnOk result (HasBytes self.new.bytes addr bytes.now) }
-        ensures others { OnOk result (SameOutside (record { addr = addr; len = length bytes.now }) self.old.bytes self.new.bytes) }
+        ensures others { OnOk result (SameOutside (record { addr = addr; len = length bytes.now })
+            self.old.bytes self.new.bytes) }
         ensures rest { self.new ≡ record self.old { bytes = self.new.bytes } }
-        ensures allowed { IsOk result ↔ IsAllowed self.old.bytes self.old.held.regions (record { side = side; thread = thread; range = record { addr = addr; len = length bytes.now }; write = true }) }
-        ensures refused { (r : Refusal) → (result ≡ Err r) ↔ IsRefused self.old.bytes self.old.held.regions (record { side = side; thread = thread; range = record { addr = addr; len = length bytes.now }; write = true }) r }
+        ensures allowed { IsOk result ↔ IsAllowed self.old.bytes self.old.held.regions
+            (record {
+              side = side;
+              thread = thread;
+              range = record { addr = addr; len = length bytes.now };
+              write = true;
+            }) }
+        ensures refused { (r : Refusal) → (result ≡ Err r) ↔ IsRefused self.old.bytes self.old.held.regions
+            (record {
+              side = side;
+              thread = thread;
+              range = record { addr = addr; len = length bytes.now };
+              write = true;
+            }) r }
         ensures unchanged { OnErr result (self.new ≡ self.old) }
     {
         let len = bytes.len() as u64;

@@ -59,9 +59,16 @@ impl Spaces {
     pub fn new(alloc: Global, placed: &Placed) -> Result<Spaces, AllocError>
         requires globals { All IsInArea placed.now.globals }
         requires strings { All IsInArea placed.now.strings }
-        ensures bytes { IfOk result (λ spaces. (x : ℕ) → byte_at spaces.bytes x ≡ byte_of placed.now.strings x (byte_of placed.now.globals x None)) }
-        ensures held { IfOk result (λ spaces. spaces.held ≡ record { regions = []; depths = replicate THREADS 0 }) }
-        ensures sides { IfOk result (λ spaces. spaces.sides ≡ record { replay = fresh_side REPLAY_STACKS REPLAY_POOL; system = fresh_side SYSTEM_STACKS SYSTEM_POOL }) }
+        ensures bytes { IfOk result (λ spaces. (x : ℕ) →
+            byte_at spaces.bytes x ≡ byte_of placed.now.strings x (byte_of placed.now.globals x None)) }
+        ensures held { IfOk result (λ spaces. spaces.held ≡
+            record { regions = []; depths = replicate THREADS 0 }) }
+        ensures sides { IfOk result (λ spaces. spaces.sides ≡
+            record {
+              replay = fresh_side REPLAY_STACKS REPLAY_POOL;
+              system =
+                  fresh_side SYSTEM_STACKS SYSTEM_POOL;
+            }) }
     {
         let globals = placed.globals.as_slice();
         let strings = placed.strings.as_slice();
@@ -83,8 +90,22 @@ impl Spaces {
         requires at_most_8 { width ≤ 8 }
         ensures number { IfOk result (HasNumber self.now.bytes addr width) }
         ensures fits { IfOk result (λ value. value < 256 ^ width) }
-        ensures allowed { IsOk result ↔ IsAllowed self.now.bytes self.now.held.regions (record { side = side; thread = thread; range = record { addr = addr; len = width }; write = false }) }
-        ensures refused { (r : Refusal) → (result ≡ Err r) ↔ IsRefused self.now.bytes self.now.held.regions (record { side = side; thread = thread; range = record { addr = addr; len = width }; write = false }) r }
+        ensures allowed { IsOk result ↔ IsAllowed self.now.bytes self.now.held.regions
+            (record {
+              side = side;
+              thread = thread;
+              range = record { addr = addr; len = width };
+              write =
+                  false;
+            }) }
+        ensures refused { (r : Refusal) → (result ≡ Err r) ↔ IsRefused self.now.bytes self.now.held.regions
+            (record {
+              side = side;
+              thread = thread;
+              range = record { addr = addr; len = width };
+              write =
+                  false;
+            }) r }
     {
         let len = width as u64;
         let range = Range { addr, len };
@@ -111,10 +132,25 @@ impl Spaces {
         requires some { 1 ≤ width }
         requires at_most_8 { width ≤ 8 }
         ensures number { OnOk result (HasNumber self.new.bytes addr width value) }
-        ensures others { OnOk result (SameOutside (record { addr = addr; len = width }) self.old.bytes self.new.bytes) }
+        ensures others { OnOk result (SameOutside (record { addr = addr; len = width }) self.old.bytes
+            self.new.bytes) }
         ensures rest { self.new ≡ record self.old { bytes = self.new.bytes } }
-        ensures allowed { IsOk result ↔ IsAllowed self.old.bytes self.old.held.regions (record { side = side; thread = thread; range = record { addr = addr; len = width }; write = true }) }
-        ensures refused { (r : Refusal) → (result ≡ Err r) ↔ IsRefused self.old.bytes self.old.held.regions (record { side = side; thread = thread; range = record { addr = addr; len = width }; write = true }) r }
+        ensures allowed { IsOk result ↔ IsAllowed self.old.bytes self.old.held.regions
+            (record {
+              side = side;
+              thread = thread;
+              range = record { addr = addr; len = width };
+              write =
+                  true;
+            }) }
+        ensures refused { (r : Refusal) → (result ≡ Err r) ↔ IsRefused self.old.bytes self.old.held.regions
+            (record {
+              side = side;
+              thread = thread;
+              range = record { addr = addr; len = width };
+              write =
+                  true;
+            }) r }
         ensures unchanged { OnErr result (self.new ≡ self.old) }
     {
         let len = width as u64;
@@ -132,11 +168,17 @@ impl Spaces {
     /// pass the end of the stack, or where 256 frames are in use, with the address at which it would lie.
     pub fn enter(&mut self, side: Side, thread: u8, size: u64) -> Result<u64, Refusal>
         requires { thread < THREADS }
-        ensures entered { IfOk result (λ addr. self.new.sides ≡ with_side self.old.sides side (with_thread (side_of self.old.sides side) thread (frames_of (side_of self.old.sides side) thread ++ record { addr = addr; len = size } ∷ []))) }
-        ensures place { IfOk result (λ addr. addr ≡ end_of (stack_of (side_of self.old.sides side).stacks thread).base (frames_of (side_of self.old.sides side) thread)) }
-        ensures zero { IfOk result (λ addr. FillsWith (record { addr = addr; len = size }) (Some 0) self.old.bytes self.new.bytes) }
+        ensures entered { IfOk result (λ addr. self.new.sides ≡
+            with_side self.old.sides side (with_thread (side_of self.old.sides side) thread
+            (frames_of (side_of self.old.sides side) thread ++ record { addr = addr; len = size } ∷ []))) }
+        ensures place { IfOk result (λ addr. addr ≡
+            end_of (stack_of (side_of self.old.sides side).stacks thread).base
+            (frames_of (side_of self.old.sides side) thread)) }
+        ensures zero { IfOk result (λ addr. FillsWith (record { addr = addr; len = size }) (Some 0)
+            self.old.bytes self.new.bytes) }
         ensures held { self.new.held ≡ self.old.held }
-        ensures refused { (r : Refusal) → (result ≡ Err r) ↔ IsEnterRefused (stack_of (side_of self.old.sides side).stacks thread) size r }
+        ensures refused { (r : Refusal) → (result ≡ Err r) ↔ IsEnterRefused
+            (stack_of (side_of self.old.sides side).stacks thread) size r }
         ensures unchanged { OnErr result (self.new ≡ self.old) }
     {
         match self.sides.enter(side, thread, size) {
@@ -156,9 +198,12 @@ impl Spaces {
         requires in_range { thread < THREADS }
         requires widths { length widths.now ≡ length offsets.now }
         requires args { length args.now ≡ length offsets.now }
-        requires in_frame { IsSomeAnd (top_of (side_of self.old.sides side) thread) (λ frame. (i : ℕ) → i < length offsets.now → slice_index offsets.now i + slice_index widths.now i ≤ frame.len) }
+        requires in_frame { IsSomeAnd (top_of (side_of self.old.sides side) thread) (λ frame. (i : ℕ) →
+            i < length offsets.now → slice_index offsets.now i + slice_index widths.now i ≤ frame.len) }
         ensures areas { extents self.new.bytes ≡ extents self.old.bytes }
-        ensures set { IfSome (top_of (side_of self.old.sides side) thread) (λ frame. (x : ℕ) → byte_at self.new.bytes x ≡ with_args frame.addr offsets.now widths.now args.now x (byte_at self.old.bytes x)) }
+        ensures set { IfSome (top_of (side_of self.old.sides side) thread) (λ frame. (x : ℕ) →
+            byte_at self.new.bytes x ≡ with_args frame.addr offsets.now widths.now args.now x
+            (byte_at self.old.bytes x)) }
         ensures rest { self.new ≡ record self.old { bytes = self.new.bytes } }
     {
         if let Some(frame) = self.top(side, thread) {
@@ -171,11 +216,15 @@ impl Spaces {
     pub fn leave(&mut self, side: Side, thread: u8) -> Result<Range, Refusal>
         requires in_range { thread < THREADS }
         requires frame { 0 < length (frames_of (side_of self.old.sides side) thread) }
-        ensures left { IfOk result (λ frame. frames_of (side_of self.old.sides side) thread ≡ frames_of (side_of self.new.sides side) thread ++ frame ∷ []) }
-        ensures others { OnOk result (self.new.sides ≡ with_side self.old.sides side (with_thread (side_of self.old.sides side) thread (frames_of (side_of self.new.sides side) thread))) }
+        ensures left { IfOk result (λ frame. frames_of (side_of self.old.sides side) thread ≡
+            frames_of (side_of self.new.sides side) thread ++ frame ∷ []) }
+        ensures others { OnOk result (self.new.sides ≡
+            with_side self.old.sides side (with_thread (side_of self.old.sides side) thread
+            (frames_of (side_of self.new.sides side) thread))) }
         ensures dead { IfOk result (λ frame. FillsWith frame None self.old.bytes self.new.bytes) }
         ensures held { self.new.held ≡ self.old.held }
-        ensures refused { (r : Refusal) → (result ≡ Err r) ↔ IsLeaveRefused side self.old.held.regions (top_of (side_of self.old.sides side) thread) r }
+        ensures refused { (r : Refusal) → (result ≡ Err r) ↔ IsLeaveRefused side self.old.held.regions
+            (top_of (side_of self.old.sides side) thread) r }
         ensures unchanged { OnErr result (self.new ≡ self.old) }
     {
         if let Some(addr) = self.first_pending_in_frame(side, thread) {
@@ -199,7 +248,11 @@ impl Spaces {
     /// Opens a call of the thread, which has no regions yet.
     pub fn open(&mut self, thread: u8) -> Result<(), AllocError>
         requires { thread < THREADS }
-        ensures opened { OnOk result (self.new.held ≡ record self.old.held { depths = slice_set self.old.held.depths thread (slice_index self.old.held.depths thread + 1) }) }
+        ensures opened { OnOk result (self.new.held ≡
+            record self.old.held {
+              depths = slice_set self.old.held.depths thread
+                  (slice_index self.old.held.depths thread + 1);
+            }) }
         ensures rest { self.new ≡ record self.old { held = self.new.held } }
         ensures unchanged { OnErr result (self.new ≡ self.old) }
     {
@@ -217,11 +270,14 @@ impl Spaces {
     ) -> Result<(), HoldError>
         requires in_range { thread < THREADS }
         requires open { 1 ≤ slice_index self.old.held.depths thread }
-        ensures held { OnOk result (AddsRegion self.old.bytes (region_range range) (holder_of write (innermost self.old.held thread)) self.old.held self.new.held) }
+        ensures held { OnOk result (AddsRegion self.old.bytes (region_range range)
+            (holder_of write (innermost self.old.held thread)) self.old.held self.new.held) }
         ensures calls { self.new.held.depths ≡ self.old.held.depths }
         ensures rest { self.new ≡ record self.old { held = self.new.held } }
-        ensures allowed { OnOk result (IsAllowed self.old.bytes self.old.held.regions (region_access thread range write)) }
-        ensures refused { (r : Refusal) → (result ≡ Err (Refused r)) ↔ IsRefused self.old.bytes self.old.held.regions (region_access thread range write) r }
+        ensures allowed { OnOk result (IsAllowed self.old.bytes self.old.held.regions
+            (region_access thread range write)) }
+        ensures refused { (r : Refusal) → (result ≡ Err (Refused r)) ↔ IsRefused self.old.bytes
+            self.old.held.regions (region_access thread range write) r }
         ensures unchanged { OnErr result (self.new ≡ self.old) }
     {
         let range = region_range(range);
@@ -243,11 +299,14 @@ impl Spaces {
     ) -> Result<(), HoldError>
         requires in_range { thread < THREADS }
         requires open { 1 ≤ slice_index self.old.held.depths thread }
-        ensures prepared { OnOk result (AddsRegion self.old.bytes (region_range range) (Key key (Some (innermost self.old.held thread))) self.old.held self.new.held) }
+        ensures prepared { OnOk result (AddsRegion self.old.bytes (region_range range)
+            (Key key (Some (innermost self.old.held thread))) self.old.held self.new.held) }
         ensures calls { self.new.held.depths ≡ self.old.held.depths }
         ensures rest { self.new ≡ record self.old { held = self.new.held } }
-        ensures allowed { OnOk result (IsAllowed self.old.bytes self.old.held.regions (region_access thread range true)) }
-        ensures refused { (r : Refusal) → (result ≡ Err (Refused r)) ↔ IsPrepareRefused self.old.bytes self.old.held.regions (region_access thread range true) key r }
+        ensures allowed { OnOk result (IsAllowed self.old.bytes self.old.held.regions
+            (region_access thread range true)) }
+        ensures refused { (r : Refusal) → (result ≡ Err (Refused r)) ↔ IsPrepareRefused self.old.bytes
+            self.old.held.regions (region_access thread range true) key r }
         ensures unchanged { OnErr result (self.new ≡ self.old) }
     {
         let range = region_range(range);
@@ -265,8 +324,10 @@ impl Spaces {
     pub fn undo(&mut self, thread: u8)
         requires in_range { thread < THREADS }
         requires open { 1 ≤ slice_index self.old.held.depths thread }
-        ensures regions { self.new.held.regions ≡ without_call (innermost self.old.held thread) self.old.held.regions }
-        ensures depths { self.new.held.depths ≡ slice_set self.old.held.depths thread (slice_index self.old.held.depths thread - 1) }
+        ensures regions { self.new.held.regions ≡
+            without_call (innermost self.old.held thread) self.old.held.regions }
+        ensures depths { self.new.held.depths ≡
+            slice_set self.old.held.depths thread (slice_index self.old.held.depths thread - 1) }
         ensures rest { self.new ≡ record self.old { held = self.new.held } }
     {
         self.held.undo(thread);
@@ -284,12 +345,18 @@ impl Spaces {
     ) -> Result<(), Refusal>
         requires in_range { thread < THREADS }
         requires open { 1 ≤ slice_index self.old.held.depths thread }
-        requires sizes { length used.now ≡ length (outs_of (innermost self.old.held thread) self.old.held.regions) }
-        ensures regions { OnOk result (self.new.held.regions ≡ without_closed (innermost self.old.held thread) (committed_key commit) self.old.held.regions) }
-        ensures depths { OnOk result (self.new.held.depths ≡ slice_set self.old.held.depths thread (slice_index self.old.held.depths thread - 1)) }
+        requires sizes { length used.now ≡ length
+            (outs_of (innermost self.old.held thread) self.old.held.regions) }
+        ensures regions { OnOk result (self.new.held.regions ≡
+            without_closed (innermost self.old.held thread) (committed_key commit) self.old.held.regions) }
+        ensures depths { OnOk result (self.new.held.depths ≡
+            slice_set self.old.held.depths thread (slice_index self.old.held.depths thread - 1)) }
         ensures rest { self.new ≡ record self.old { held = self.new.held } }
-        ensures released { IsOk result ↔ (HasKey self.old.held.regions commit × AllReturned self.old.bytes self.old.held.regions (innermost self.old.held thread) used.now commit) }
-        ensures refused { (r : Refusal) → (result ≡ Err r) ↔ IsReleaseRefused self.old.bytes self.old.held.regions (innermost self.old.held thread) used.now commit r }
+        ensures released { IsOk result ↔ (HasKey self.old.held.regions commit ×
+            AllReturned self.old.bytes self.old.held.regions (innermost self.old.held thread) used.now
+            commit) }
+        ensures refused { (r : Refusal) → (result ≡ Err r) ↔ IsReleaseRefused self.old.bytes
+            self.old.held.regions (innermost self.old.held thread) used.now commit r }
         ensures unchanged { OnErr result (self.new ≡ self.old) }
     {
         let call = self.held.innermost(thread);
@@ -302,9 +369,13 @@ impl Spaces {
     /// where they fit nowhere or `n` is 0.
     pub fn alloc_in(&mut self, side: Side, n: u64) -> Option<u64>
         ensures place { IfSome result (IsLeastPlace (side_of self.old.sides side).pool n) }
-        ensures taken { IfSome result (λ addr. self.new.sides ≡ with_side self.old.sides side (with_blocks (side_of self.old.sides side) (with_block (side_of self.old.sides side).pool.blocks (record { addr = addr; len = n })))) }
-        ensures zero { IfSome result (λ addr. FillsWith (record { addr = addr; len = n }) (Some 0) self.old.bytes self.new.bytes) }
-        ensures none { IfNone result ((n ≡ 0) ⊎ ((addr : ℕ) → ¬ IsPlace (side_of self.old.sides side).pool n addr)) }
+        ensures taken { IfSome result (λ addr. self.new.sides ≡
+            with_side self.old.sides side (with_blocks (side_of self.old.sides side)
+            (with_block (side_of self.old.sides side).pool.blocks (record { addr = addr; len = n })))) }
+        ensures zero { IfSome result (λ addr.
+            FillsWith (record { addr = addr; len = n }) (Some 0) self.old.bytes self.new.bytes) }
+        ensures none { IfNone result ((n ≡ 0) ⊎
+            ((addr : ℕ) → ¬ IsPlace (side_of self.old.sides side).pool n addr)) }
         ensures some { IfSome result (λ _. 1 ≤ n) }
         ensures held { self.new.held ≡ self.old.held }
         ensures unchanged { IfNone result (self.new ≡ self.old) }
@@ -322,11 +393,17 @@ impl Spaces {
     /// of the side begins there; else `Pending` for the least byte of the block that replay code may not touch.
     pub fn free_in(&mut self, side: Side, addr: u64) -> Result<u64, Refusal>
         ensures null { addr ≡ 0 → (result ≡ Ok 0) × (self.new ≡ self.old) }
-        ensures length { IfOk result (λ len. 0 < addr → length_at (side_of self.old.sides side).pool.blocks addr ≡ Some len) }
-        ensures freed { OnOk result (0 < addr → self.new.sides ≡ with_side self.old.sides side (with_blocks (side_of self.old.sides side) (without_block (side_of self.old.sides side).pool.blocks addr))) }
-        ensures dead { IfOk result (λ len. FillsWith (record { addr = addr; len = len }) None self.old.bytes self.new.bytes) }
+        ensures length { IfOk result (λ len. 0 < addr →
+            length_at (side_of self.old.sides side).pool.blocks addr ≡ Some len) }
+        ensures freed { OnOk result (0 < addr →
+            self.new.sides ≡ with_side self.old.sides side
+            (with_blocks (side_of self.old.sides side)
+            (without_block (side_of self.old.sides side).pool.blocks addr))) }
+        ensures dead { IfOk result (λ len. FillsWith (record { addr = addr; len = len }) None
+            self.old.bytes self.new.bytes) }
         ensures held { self.new.held ≡ self.old.held }
-        ensures refused { (r : Refusal) → (result ≡ Err r) ↔ ((0 < addr) × IsFreeRefused side (side_of self.old.sides side).pool.blocks self.old.held.regions addr r) }
+        ensures refused { (r : Refusal) → (result ≡ Err r) ↔ ((0 < addr) ×
+            IsFreeRefused side (side_of self.old.sides side).pool.blocks self.old.held.regions addr r) }
         ensures unchanged { OnErr result (self.new ≡ self.old) }
     {
         if addr == 0 {
@@ -341,8 +418,11 @@ impl Spaces {
     // Whether an access of code of the side is one that passes each test, as far as a glance shows it.
     #[inline(always)]
     fn is_plain(&self, side: Side, thread: u8, range: Range, write: bool) -> bool
-        ensures allowed { IsTrue result → IsAllowed self.now.bytes self.now.held.regions (record { side = side; thread = thread; range = range; write = write }) }
-        ensures not_refused { IsTrue result → (r : Refusal) → ¬ IsRefused self.now.bytes self.now.held.regions (record { side = side; thread = thread; range = range; write = write }) r }
+        ensures allowed { IsTrue result → IsAllowed self.now.bytes self.now.held.regions
+            (record { side = side; thread = thread; range = range; write = write }) }
+        ensures not_refused { IsTrue result → (r : Refusal) →
+            ¬ IsRefused self.now.bytes self.now.held.regions
+            (record { side = side; thread = thread; range = range; write = write }) r }
         ensures ends { IsTrue result → range.addr + range.len < 2 ^ 64 }
         ensures one_area { IsTrue result → LiesIn range (extents self.now.bytes) }
     {
@@ -364,8 +444,10 @@ impl Spaces {
         range: Range,
         write: bool,
     ) -> Result<(), Refusal>
-        ensures allowed { IsOk result ↔ IsAllowed self.now.bytes self.now.held.regions (record { side = side; thread = thread; range = range; write = write }) }
-        ensures refused { (r : Refusal) → (result ≡ Err r) ↔ IsRefused self.now.bytes self.now.held.regions (record { side = side; thread = thread; range = range; write = write }) r }
+        ensures allowed { IsOk result ↔ IsAllowed self.now.bytes self.now.held.regions
+            (record { side = side; thread = thread; range = range; write = write }) }
+        ensures refused { (r : Refusal) → (result ≡ Err r) ↔ IsRefused self.now.bytes self.now.held.regions
+            (record { side = side; thread = thread; range = range; write = write }) r }
         ensures ends { IfOk result (λ _. range.addr + range.len < 2 ^ 64) }
         ensures one_area { IfOk result (λ _. 1 ≤ range.len → LiesIn range (extents self.now.bytes)) }
     {
@@ -382,7 +464,8 @@ impl Spaces {
     fn first_pending_in_frame(&self, side: Side, thread: u8) -> Option<u64>
         requires in_range { thread < THREADS }
         requires frame { 0 < length (frames_of (side_of self.now.sides side) thread) }
-        ensures { IsSomeAnd (top_of (side_of self.now.sides side) thread) (λ frame. IsFirstIn frame (IsPendingTo side self.now.held.regions) result) }
+        ensures { IsSomeAnd (top_of (side_of self.now.sides side) thread) (λ frame.
+            IsFirstIn frame (IsPendingTo side self.now.held.regions) result) }
     {
         match self.top(side, thread) {
             Some(frame) => first_pending(&self.held, side, frame),
@@ -393,9 +476,12 @@ impl Spaces {
     // The length of the side's block that begins at the address, unless its free is refused.
     fn check_free(&self, side: Side, addr: u64) -> Result<u64, Refusal>
         requires { 0 < addr }
-        ensures length { IfOk result (λ len. length_at (side_of self.now.sides side).pool.blocks addr ≡ Some len) }
-        ensures in_pool { IfOk result (λ len. IsWithin (pool_range (side_of self.now.sides side).pool) (record { addr = addr; len = len })) }
-        ensures refused { (r : Refusal) → (result ≡ Err r) ↔ IsFreeRefused side (side_of self.now.sides side).pool.blocks self.now.held.regions addr r }
+        ensures length { IfOk result (λ len. length_at (side_of self.now.sides side).pool.blocks addr ≡
+            Some len) }
+        ensures in_pool { IfOk result (λ len.
+            IsWithin (pool_range (side_of self.now.sides side).pool) (record { addr = addr; len = len })) }
+        ensures refused { (r : Refusal) → (result ≡ Err r) ↔ IsFreeRefused side
+            (side_of self.now.sides side).pool.blocks self.now.held.regions addr r }
     {
         let other = match side {
             Side::Replay => SYSTEM_MEMORY,

@@ -23,7 +23,8 @@ impl Model for Stack {
 
     ghost view = { λ s. record { base = s.base; frames = s.frames.items } };
 
-    ghost invariant = { λ s. (s.base + STACK_SIZE < 2 ^ 64) × (FRAMES ≤ vec_capacity s.frames) × (length s.frames.items ≤ FRAMES) × LieInStack (record { base = s.base; frames = s.frames.items }) };
+    ghost invariant = { λ s. (s.base + STACK_SIZE < 2 ^ 64) × (FRAMES ≤ vec_capacity s.frames) ×
+        (length s.frames.items ≤ FRAMES) × LieInStack (record { base = s.base; frames = s.frames.items }) };
 }
 
 impl Stack {
@@ -47,7 +48,8 @@ impl Stack {
     pub fn enter(&mut self, size: u64) -> Option<Range>
         ensures full { IsNone result ↔ IsFullFor self.old size }
         ensures frame { IfSome result (λ frame. frame ≡ next_frame self.old size) }
-        ensures entered { IfSome result (λ frame. self.new ≡ record { base = self.old.base; frames = self.old.frames ++ frame ∷ [] }) }
+        ensures entered { IfSome result (λ frame. self.new ≡
+            record { base = self.old.base; frames = self.old.frames ++ frame ∷ [] }) }
         ensures in_stack { LieInStack self.new }
         ensures unchanged { IfNone result (self.new ≡ self.old) }
     {

@@ -11,7 +11,8 @@ use Rattle.space_memory_access.specs.declared.access.Access.{Access}
 use Rattle.space_memory_access.specs.declared.refusal.Refusal.{Refusal}
 use Rattle.space_memory_access.specs.declared.refusal.Refusal.TheVariants.{NotLive, Pending, OtherSpace, ReadOnly, StackFull, KeyInUse, NoKey, Size}
 
--- system code may touch the byte of replay memory: it lives, in a region that a call of the thread holds for that, or in
+-- system code may touch the byte of replay memory: it lives, in a region that a call of the thread holds
+-- for that, or in
 -- one that is prepared
 abbrev pub HasRight : List AreaState → List Region → Access → ℕ → Type 0
 HasRight bytes regions a x = (¬ IsDead bytes x) × IsServed regions a.thread a.write x
@@ -20,7 +21,8 @@ HasRight bytes regions a x = (¬ IsDead bytes x) × IsServed regions a.thread a.
 abbrev pub IsWithoutRight : List AreaState → List Region → Access → ℕ → Type 0
 IsWithoutRight bytes regions a x = IsInRange REPLAY_MEMORY x × ¬ HasRight bytes regions a x
 
--- the byte is of the other side: of system memory for replay code, of replay memory without right for system code
+-- the byte is of the other side: of system memory for replay code, of replay memory without right for
+-- system code
 abbrev pub IsForeignTo : Side → List AreaState → List Region → Access → ℕ → Type 0
 IsForeignTo Replay bytes regions a x = IsInRange SYSTEM_MEMORY x
 IsForeignTo System bytes regions a x = IsWithoutRight bytes regions a x
@@ -48,9 +50,13 @@ pub record IsAllowed (bytes : List AreaState) (regions : List Region) (a : Acces
 -- a byte of the access fails a test, and none fails one before it: the refusal shows the least such byte
 abbrev pub IsRefused : List AreaState → List Region → Access → Refusal → Type 0
 IsRefused bytes regions a (OtherSpace x) = IsLeastIn a.range (IsForeign bytes regions a) x
-IsRefused bytes regions a (NotLive x) = NoneIn a.range (IsForeign bytes regions a) × IsLeastIn a.range (IsDead bytes) x
-IsRefused bytes regions a (Pending x) = NoneIn a.range (IsForeign bytes regions a) × NoneIn a.range (IsDead bytes) × IsLeastIn a.range (IsPendingTo a.side regions) x
-IsRefused bytes regions a (ReadOnly x) = NoneIn a.range (IsForeign bytes regions a) × NoneIn a.range (IsDead bytes) × NoneIn a.range (IsPendingTo a.side regions) × IsLeastIn a.range (IsConstantTo a.write) x
+IsRefused bytes regions a (NotLive x) = NoneIn a.range (IsForeign bytes regions a) ×
+    IsLeastIn a.range (IsDead bytes) x
+IsRefused bytes regions a (Pending x) = NoneIn a.range (IsForeign bytes regions a) ×
+    NoneIn a.range (IsDead bytes) × IsLeastIn a.range (IsPendingTo a.side regions) x
+IsRefused bytes regions a (ReadOnly x) = NoneIn a.range (IsForeign bytes regions a) ×
+    NoneIn a.range (IsDead bytes) × NoneIn a.range (IsPendingTo a.side regions) ×
+    IsLeastIn a.range (IsConstantTo a.write) x
 IsRefused bytes regions a (StackFull x) = ⊥
 IsRefused bytes regions a (KeyInUse x) = ⊥
 IsRefused bytes regions a (NoKey x) = ⊥

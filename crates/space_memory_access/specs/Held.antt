@@ -21,7 +21,8 @@ IsPending regions x = list_any (λ r. is_pending r.holder && covers r.range x) r
 
 -- system code of the thread may read the byte at the address, or write it, while it lives
 abbrev pub IsServed : List Region → ℕ → Bool → ℕ → Type 0
-IsServed regions thread write x = list_any (λ r. serves thread write r.holder && covers r.range x) regions ≡ true
+IsServed regions thread write x = list_any (λ r. serves thread write r.holder &&
+    covers r.range x) regions ≡ true
 
 -- the region that is prepared under the key
 abbrev pub prepared_region : List Region → ℕ → Option Region
@@ -36,7 +37,8 @@ without_call call regions = filter (λ r. not (is_of call r.holder)) regions
 abbrev pub disown : OpenCall → Region → Region
 disown call r = record { range = r.range; before = r.before; holder = disowned call r.holder }
 
--- the regions once the call is closed: those that it held and the committed one are gone, the others that it prepared stay
+-- the regions once the call is closed: those that it held and the committed one are gone, the others that
+-- it prepared stay
 abbrev pub without_closed : OpenCall → Option ℕ → List Region → List Region
 without_closed call commit regions = map (disown call) (filter (λ r. outlives call commit r.holder) regions)
 

@@ -51,4 +51,5 @@ abbrev pub disowned : OpenCall → Holder → Holder
 disowned call (In holder) = In holder
 disowned call (Out holder) = Out holder
 disowned call (Key key None) = Key key None
-disowned call (Key key (Some holder)) = if is_same_call holder call then Key key None else Key key (Some holder)
+disowned call (Key key (Some holder)) = if is_same_call holder call then Key key None else Key key
+    (Some holder)

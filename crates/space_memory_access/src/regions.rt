@@ -63,7 +63,10 @@ impl Regions {
     /// Opens a call of the thread, which has no regions yet. It fails where calls can't be counted any more.
     pub fn open(&mut self, thread: u8) -> Result<(), AllocError>
         requires { thread < THREADS }
-        ensures ok { OnOk result (self.new ≡ record self.old { depths = slice_set self.old.depths thread (slice_index self.old.depths thread + 1) }) }
+        ensures ok { OnOk result (self.new ≡ record self.old {
+          depths =
+              slice_set self.old.depths thread (slice_index self.old.depths thread + 1);
+        }) }
         ensures err { OnErr result (self.new ≡ self.old) }
     {
         let depth = self.depths[thread as usize];
@@ -130,7 +133,8 @@ impl Regions {
         requires in_range { thread < THREADS }
         requires open { 1 ≤ slice_index self.old.depths thread }
         ensures regions { self.new.regions ≡ without_call (innermost self.old thread) self.old.regions }
-        ensures depths { self.new.depths ≡ slice_set self.old.depths thread (slice_index self.old.depths thread - 1) }
+        ensures depths { self.new.depths ≡ slice_set self.old.depths thread
+            (slice_index self.old.depths thread - 1) }
     {
         let call = self.innermost(thread);
         self.regions.retain(|region| !region.holder.is_of(call));
@@ -142,8 +146,10 @@ impl Regions {
     pub fn close(&mut self, thread: u8, commit: Option<u64>)
         requires in_range { thread < THREADS }
         requires open { 1 ≤ slice_index self.old.depths thread }
-        ensures regions { self.new.regions ≡ without_closed (innermost self.old thread) commit self.old.regions }
-        ensures depths { self.new.depths ≡ slice_set self.old.depths thread (slice_index self.old.depths thread - 1) }
+        ensures regions { self.new.regions ≡ without_closed (innermost self.old thread) commit
+            self.old.regions }
+        ensures depths { self.new.depths ≡ slice_set self.old.depths thread
+            (slice_index self.old.depths thread - 1) }
     {
         let call = self.innermost(thread);
         self.regions

@@ -31,4 +31,5 @@ pub record FillsArea (r : Range) (byte : Option ℕ) (old new : AreaState) : Typ
 -- the n bytes from the address on are the low bytes of the value, and all others are as before
 pub record WritesArea (addr n value : ℕ) (old new : AreaState) : Type 0 where
   pub extent : SameExtent old new
-  pub bytes : (x : ℕ) → old.base ≤ x → cell new x ≡ (if covers (record { addr = addr; len = n }) x then Some (digit value (x - addr)) else cell old x)
+  pub bytes : (x : ℕ) → old.base ≤ x → cell new x ≡
+      (if covers (record { addr = addr; len = n }) x then Some (digit value (x - addr)) else cell old x)

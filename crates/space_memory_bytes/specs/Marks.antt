@@ -16,4 +16,6 @@ cells_of (mark ∷ marks) (value ∷ values) = marked mark value ∷ cells_of ma
 -- the eight bytes from a place on are those of the number, and all others are as before
 pub record WritesWord (at value : ℕ) (old new : List (Option ℕ)) : Type 0 where
   pub size : length new ≡ length old
-  pub bytes : (k : ℕ) → slice_index_or new k None ≡ (if covers (record { addr = at; len = 8 }) k then Some (digit value (k - at)) else slice_index_or old k None)
+  pub bytes : (k : ℕ) → slice_index_or new k None ≡
+      (if covers (record { addr = at; len = 8 }) k then Some (digit value (k - at)) else slice_index_or old
+      k None)

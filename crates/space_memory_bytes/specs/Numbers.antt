@@ -14,7 +14,8 @@ HasNumber bytes addr n value = (i : ℕ) → i < n → byte_at bytes (addr + i) 
 
 -- the bytes from the address on are those of the list
 abbrev pub HasBytes : List AreaState → ℕ → List ℕ → Type 0
-HasBytes bytes addr values = (i : ℕ) → i < length values → byte_at bytes (addr + i) ≡ Some (slice_index values i)
+HasBytes bytes addr values = (i : ℕ) → i < length values →
+    byte_at bytes (addr + i) ≡ Some (slice_index values i)
 
 -- the areas and every byte out of the range are as before
 pub record SameOutside (r : Range) (old new : List AreaState) : Type 0 where

@@ -33,7 +33,8 @@ impl Area {
     /// The bytes of the range, all dead.
     pub fn new(alloc: Global, range: Range) -> Result<Area, AllocError>
         requires { range.addr + range.len < 2 ^ 64 }
-        ensures { IfOk result (λ area. area ≡ record { base = range.addr; cells = replicate range.len None }) }
+        ensures { IfOk result (λ area. area ≡
+            record { base = range.addr; cells = replicate range.len None }) }
     {
         let cells = MarkedBytes::new(alloc, range.len as usize)?;
         Ok(Area {

@@ -143,7 +143,9 @@ fn number_at(bytes: &[u8], at: usize) -> u64
 fn put_eight(bytes: &mut [u8], at: usize, eight: [u8; 8])
     requires { at + 8 ≤ length bytes.old }
     ensures len { length bytes.new ≡ length bytes.old }
-    ensures put { (k : ℕ) → slice_index bytes.new k ≡ (if covers (record { addr = at; len = 8 }) k then slice_index eight (k - at) else slice_index bytes.old k) }
+    ensures put { (k : ℕ) → slice_index bytes.new k ≡
+        (if covers (record { addr = at; len = 8 }) k then slice_index eight (k - at) else slice_index
+        bytes.old k) }
 {
     bytes[at..at + 8].copy_from_slice(&eight);
 }

@@ -1,4 +1,5 @@
--- Code below the cut: what it does to memory leaves the memory above the cut as a run has it. A run doesn't see what such
+-- Code below the cut: what it does to memory leaves the memory above the cut as a run has it. A run doesn't
+-- see what such
 -- code writes to bytes that are pending, before the Ret that gives them.
 use Rattle.std.specs.Prelude.{◌≡◌, ℕ, ◌+◌, ◌^◌, ◌<◌, ◌≤◌, true, List, [], ◌∷◌, ◌++◌, length, Some, None, slice_index}
 use Rattle.marks.specs.declared.side.Side.TheVariants.{System}
@@ -27,7 +28,13 @@ StoresBelowAreUnseen =
     HasNumber new.bytes addr width value →
     SameOutside (record { addr = addr; len = width }) old.bytes new.bytes →
     new ≡ record old { bytes = new.bytes } →
-    IsAllowed old.bytes old.held.regions (record { side = System; thread = thread; range = record { addr = addr; len = width }; write = true }) →
+    IsAllowed old.bytes old.held.regions (record {
+      side = System;
+      thread = thread;
+      range =
+          record { addr = addr; len = width };
+      write = true;
+    }) →
     StandsFor s past new
 
 -- bytes that code below the cut writes, there likewise
@@ -39,7 +46,13 @@ WritesBelowAreUnseen =
     HasBytes new.bytes addr bytes →
     SameOutside (record { addr = addr; len = length bytes }) old.bytes new.bytes →
     new ≡ record old { bytes = new.bytes } →
-    IsAllowed old.bytes old.held.regions (record { side = System; thread = thread; range = record { addr = addr; len = length bytes }; write = true }) →
+    IsAllowed old.bytes old.held.regions (record {
+      side = System;
+      thread = thread;
+      range =
+          record { addr = addr; len = length bytes };
+      write = true;
+    }) →
     StandsFor s past new
 
 -- a frame that is entered below the cut
@@ -48,8 +61,10 @@ FramesBelowAreUnseen =
     (s : Start) (past : List Mark) (old new : SpaceState) (thread addr size : ℕ) →
     StandsFor s past old →
     thread < thread_count →
-    new.sides ≡ with_side old.sides System (with_thread (side_of old.sides System) thread (frames_of (side_of old.sides System) thread ++ record { addr = addr; len = size } ∷ [])) →
-    addr ≡ end_of (stack_of (side_of old.sides System).stacks thread).base (frames_of (side_of old.sides System) thread) →
+    new.sides ≡ with_side old.sides System (with_thread (side_of old.sides System) thread
+    (frames_of (side_of old.sides System) thread ++ record { addr = addr; len = size } ∷ [])) →
+    addr ≡ end_of (stack_of (side_of old.sides System).stacks thread).base
+    (frames_of (side_of old.sides System) thread) →
     ((r : Refusal) → ¬ IsEnterRefused (stack_of (side_of old.sides System).stacks thread) size r) →
     FillsWith (record { addr = addr; len = size }) (Some 0) old.bytes new.bytes →
     new.held ≡ old.held →
@@ -58,7 +73,8 @@ FramesBelowAreUnseen =
 -- the arguments of such a frame
 abbrev pub ArgumentsBelowAreUnseen : Type 0
 ArgumentsBelowAreUnseen =
-    (s : Start) (past : List Mark) (old new : SpaceState) (thread : ℕ) (frame : Range) (offsets widths args : List ℕ) →
+    (s : Start) (past : List Mark) (old new : SpaceState) (thread : ℕ) (frame : Range)
+    (offsets widths args : List ℕ) →
     StandsFor s past old →
     thread < thread_count →
     top_of (side_of old.sides System) thread ≡ Some frame →
@@ -74,8 +90,10 @@ LeavesBelowAreUnseen =
     (s : Start) (past : List Mark) (old new : SpaceState) (thread : ℕ) (frame : Range) →
     StandsFor s past old →
     thread < thread_count →
-    frames_of (side_of old.sides System) thread ≡ frames_of (side_of new.sides System) thread ++ frame ∷ [] →
-    new.sides ≡ with_side old.sides System (with_thread (side_of old.sides System) thread (frames_of (side_of new.sides System) thread)) →
+    frames_of (side_of old.sides System) thread ≡ frames_of (side_of new.sides System) thread ++
+    frame ∷ [] →
+    new.sides ≡ with_side old.sides System (with_thread (side_of old.sides System) thread
+    (frames_of (side_of new.sides System) thread)) →
     FillsWith frame None old.bytes new.bytes →
     new.held ≡ old.held →
     StandsFor s past new
@@ -87,7 +105,8 @@ AllocsBelowAreUnseen =
     StandsFor s past old →
     IsLeastPlace (side_of old.sides System).pool size addr →
     1 ≤ size →
-    new.sides ≡ with_side old.sides System (with_blocks (side_of old.sides System) (with_block (side_of old.sides System).pool.blocks (record { addr = addr; len = size }))) →
+    new.sides ≡ with_side old.sides System (with_blocks (side_of old.sides System)
+    (with_block (side_of old.sides System).pool.blocks (record { addr = addr; len = size }))) →
     FillsWith (record { addr = addr; len = size }) (Some 0) old.bytes new.bytes →
     new.held ≡ old.held →
     StandsFor s past new
@@ -98,7 +117,8 @@ FreesBelowAreUnseen =
     (s : Start) (past : List Mark) (old new : SpaceState) (addr size : ℕ) →
     StandsFor s past old →
     length_at (side_of old.sides System).pool.blocks addr ≡ Some size →
-    new.sides ≡ with_side old.sides System (with_blocks (side_of old.sides System) (without_block (side_of old.sides System).pool.blocks addr)) →
+    new.sides ≡ with_side old.sides System (with_blocks (side_of old.sides System)
+    (without_block (side_of old.sides System).pool.blocks addr)) →
     FillsWith (record { addr = addr; len = size }) None old.bytes new.bytes →
     new.held ≡ old.held →
     StandsFor s past new

@@ -1,4 +1,5 @@
--- A Call, part by part: its thread opens a call, then each range is read, held or prepared. It is undone, or it is a mark.
+-- A Call, part by part: its thread opens a call, then each range is read, held or prepared. It is undone,
+-- or it is a mark.
 use Rattle.std.specs.Prelude.{◌≡◌, ℕ, ◌+◌, ◌-◌, ◌^◌, ◌<◌, Bool, true, false, List, [], ◌∷◌, ◌++◌, length, map, Some, slice_index, slice_set, All}
 use Rattle.run_events.specs.declared.key.Class.TheVariants.{Async}
 use Rattle.marks.specs.Places.{thread_count, is_constant, is_system}
@@ -27,7 +28,8 @@ use Rattle.space_memory_laws.specs.Held.{AreHeld}
 use Rattle.space_memory_laws.specs.StandsFor.{StandsFor}
 use Rattle.space_memory_laws.specs.Marks.{IsMark}
 
--- a part of a Call: a range that it reads, one that it holds until its Ret, or one that it prepares under a key
+-- a part of a Call: a range that it reads, one that it holds until its Ret, or one that it prepares under a
+-- key
 pub data Part : Type 0 where
   Reads : (range : Range) → Part
   Holds : (range : Range) → Part
@@ -67,16 +69,19 @@ parts_of ins outs prepared = map Reads ins ++ (map Holds outs ++ map prepared_pa
 -- each part has its region
 abbrev pub HaveRegions : List AreaState → OpenCall → List Part → List Region → Type 0
 HaveRegions bytes call [] [] = Unit {0}
-HaveRegions bytes call (p ∷ ps) (r ∷ rs) = IsRegionOf bytes (range_of p) (holder_for call p) r × HaveRegions bytes call ps rs
+HaveRegions bytes call (p ∷ ps) (r ∷ rs) = IsRegionOf bytes (range_of p) (holder_for call p) r ×
+    HaveRegions bytes call ps rs
 HaveRegions bytes call _ _ = ⊥
 
 -- these regions were added, in this order
-pub record AddsRegions (bytes : List AreaState) (call : OpenCall) (parts : List Part) (old new : List Region) : Type 0 where
+pub record AddsRegions (bytes : List AreaState) (call : OpenCall) (parts : List Part) (old new :
+    List Region) : Type 0 where
   pub added : List Region
   pub regions : HaveRegions bytes call parts added
   pub all : new ≡ old ++ added
 
--- code above the cut may hand the part's range down: its bytes are of the own side, live, not pending, and no constants
+-- code above the cut may hand the part's range down: its bytes are of the own side, live, not pending, and
+-- no constants
 -- where they are written
 pub record IsFree (memory : SpaceState) (p : Part) : Type 0 where
   pub own : (x : ℕ) → covers (range_of p) x ≡ true → is_system x ≡ false
@@ -84,8 +89,10 @@ pub record IsFree (memory : SpaceState) (p : Part) : Type 0 where
   pub free : (x : ℕ) → covers (range_of p) x ≡ true → is_held memory.held.regions x ≡ false
   pub writable : (x : ℕ) → covers (range_of p) x ≡ true → is_written p ≡ true → is_constant x ≡ false
 
--- memory while a thread makes a Call: it is that of the past, with one more call open, which has these parts so far
-pub record InCall (s : Start) (past : List Mark) (t : ℕ) (parts : List Part) (base memory : SpaceState) : Type 0 where
+-- memory while a thread makes a Call: it is that of the past, with one more call open, which has these
+-- parts so far
+pub record InCall (s : Start) (past : List Mark) (t : ℕ) (parts : List Part) (base memory : SpaceState) :
+    Type 0 where
   pub thread : t < thread_count
   pub stands : StandsFor s past base
   pub rest : memory ≡ record base { held = memory.held }
@@ -100,14 +107,17 @@ OpenedCallsHaveNoParts =
     (s : Start) (past : List Mark) (old new : SpaceState) (t : ℕ) →
     StandsFor s past old →
     t < thread_count →
-    new.held ≡ record old.held { depths = slice_set old.held.depths t (slice_index old.held.depths t + 1) } →
+    new.held ≡ record old.held {
+      depths = slice_set old.held.depths t (slice_index old.held.depths t + 1);
+    } →
     new ≡ record old { held = new.held } →
     InCall s past t [] old new
 
 -- a range that is held is one more part. A run has the empty range for that of a NULL pointer
 abbrev pub HeldRangesAreParts : Type 0
 HeldRangesAreParts =
-    (s : Start) (past : List Mark) (base old new : SpaceState) (t : ℕ) (parts : List Part) (given : Range) (r : Range) (write : Bool) →
+    (s : Start) (past : List Mark) (base old new : SpaceState) (t : ℕ) (parts : List Part) (given : Range)
+    (r : Range) (write : Bool) →
     InCall s past t parts base old →
     given.addr < 2 ^ 64 →
     region_range given ≡ r →
@@ -119,7 +129,8 @@ HeldRangesAreParts =
 -- a range that is prepared is one more part
 abbrev pub PreparedRangesAreParts : Type 0
 PreparedRangesAreParts =
-    (s : Start) (past : List Mark) (base old new : SpaceState) (t k : ℕ) (parts : List Part) (given : Range) (r : Range) →
+    (s : Start) (past : List Mark) (base old new : SpaceState) (t k : ℕ) (parts : List Part) (given :
+    Range) (r : Range) →
     InCall s past t parts base old →
     given.addr < 2 ^ 64 →
     region_range given ≡ r →
@@ -145,7 +156,8 @@ pub record IsShown (bytes : List AreaState) (p : Piece) : Type 0 where
   pub bytes_are : HasBytes bytes p.range.addr p.bytes
 
 -- a Call that the rules of runs allow
-pub record IsCall (s : Start) (past : List Mark) (m : Mark) (outs : List Range) (prepared : List Prepared) (new : SpaceState) : Type 0 where
+pub record IsCall (s : Start) (past : List Mark) (m : Mark) (outs : List Range) (prepared : List Prepared)
+    (new : SpaceState) : Type 0 where
   pub mark : IsMark s past m new
   pub other_space : (x : ℕ) → touches m.act x ≡ true → is_system x ≡ false
   pub read_only : (x : ℕ) → writes m.act x ≡ true → is_constant x ≡ false
@@ -156,7 +168,8 @@ pub record IsCall (s : Start) (past : List Mark) (m : Mark) (outs : List Range) 
 -- a call with all its parts is a Call
 abbrev pub CallsAreMarks : Type 0
 CallsAreMarks =
-    (s : Start) (past : List Mark) (base new : SpaceState) (m : Mark) (e : Event) (func : ℕ) (args : List ℕ) (ins : List Piece) (outs : List Range) (prepared : List Prepared) →
+    (s : Start) (past : List Mark) (base new : SpaceState) (m : Mark) (e : Event) (func : ℕ) (args :
+    List ℕ) (ins : List Piece) (outs : List Range) (prepared : List Prepared) →
     InCall s past m.thread (parts_of (piece_ranges ins) outs prepared) base new →
     m.act ≡ Made e →
     e.kind ≡ Call func args ins outs prepared →

@@ -15,5 +15,6 @@ WhatIsEndedIsThere =
     (s : Start) (past : List Mark) (memory : SpaceState) (t : ℕ) (want : Want) →
     StandsFor s past memory →
     t < thread_count →
-    ((at size : ℕ) → want ≡ Leaves at size → top_of memory.sides.replay t ≡ Some (record { addr = at; len = size })) →
+    ((at size : ℕ) → want ≡ Leaves at size → top_of memory.sides.replay t ≡
+    Some (record { addr = at; len = size })) →
     EndsWhatIsThere s past want

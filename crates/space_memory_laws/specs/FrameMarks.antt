@@ -18,7 +18,8 @@ use Rattle.space_memory_laws.specs.StandsFor.{StandsFor}
 use Rattle.space_memory_laws.specs.Marks.{IsMark}
 
 -- an Enter that the rules of frames allow
-pub record IsEnter (s : Start) (past : List Mark) (m : Mark) (addr size : ℕ) (new : SpaceState) : Type 0 where
+pub record IsEnter (s : Start) (past : List Mark) (m : Mark) (addr size : ℕ) (new : SpaceState) :
+    Type 0 where
   pub mark : IsMark s past m new
   pub place : addr ≡ frame_place m.thread (marks_of s m.thread past)
   pub room : HasRoom m.thread (marks_of s m.thread past) size
@@ -26,11 +27,14 @@ pub record IsEnter (s : Start) (past : List Mark) (m : Mark) (addr size : ℕ) (
 -- a frame that is entered and then filled with bytes is an Enter with those bytes
 abbrev pub EntersAreMarks : Type 0
 EntersAreMarks =
-    (s : Start) (past : List Mark) (old new : SpaceState) (m : Mark) (func : ℕ) (args bytes : List ℕ) (addr size : ℕ) →
+    (s : Start) (past : List Mark) (old new : SpaceState) (m : Mark) (func : ℕ) (args bytes : List ℕ)
+    (addr size : ℕ) →
     StandsFor s past old →
     m.thread < thread_count →
-    new.sides ≡ with_side old.sides Replay (with_thread (side_of old.sides Replay) m.thread (frames_of (side_of old.sides Replay) m.thread ++ record { addr = addr; len = size } ∷ [])) →
-    addr ≡ end_of (stack_of (side_of old.sides Replay).stacks m.thread).base (frames_of (side_of old.sides Replay) m.thread) →
+    new.sides ≡ with_side old.sides Replay (with_thread (side_of old.sides Replay) m.thread
+    (frames_of (side_of old.sides Replay) m.thread ++ record { addr = addr; len = size } ∷ [])) →
+    addr ≡ end_of (stack_of (side_of old.sides Replay).stacks m.thread).base
+    (frames_of (side_of old.sides Replay) m.thread) →
     ((r : Refusal) → ¬ IsEnterRefused (stack_of (side_of old.sides Replay).stacks m.thread) size r) →
     new.held ≡ old.held →
     HasBytes new.bytes addr bytes →
@@ -41,7 +45,8 @@ EntersAreMarks =
 
 -- the bytes of a frame of so many, with arguments in it at their offsets and in their widths, and zeros
 abbrev pub bytes_with_args : ℕ → List ℕ → List ℕ → List ℕ → List ℕ
-bytes_with_args size offsets widths args = map (λ i. unwrap_or (with_args 0 offsets widths args i (Some 0)) 0) (range_with_len 0 size)
+bytes_with_args size offsets widths args = map (λ i.
+    unwrap_or (with_args 0 offsets widths args i (Some 0)) 0) (range_with_len 0 size)
 
 -- memory after arguments were set in a frame of zeros
 pub record HasArgs (addr size : ℕ) (offsets widths args : List ℕ) (old new : List AreaState) : Type 0 where
@@ -49,7 +54,8 @@ pub record HasArgs (addr size : ℕ) (offsets widths args : List ℕ) (old new :
   pub outside : SameOutside (record { addr = addr; len = size }) old new
   pub count : length (bytes_with_args size offsets widths args) ≡ size
 
--- a frame that `enter` fills with zeros, and `set_args` with arguments, has those bytes, and all others are as before
+-- a frame that `enter` fills with zeros, and `set_args` with arguments, has those bytes, and all others are
+-- as before
 abbrev pub ArgumentsAreBytes : Type 0
 ArgumentsAreBytes =
     (old entered new : List AreaState) (frame : Range) (offsets widths args : List ℕ) →
@@ -67,9 +73,12 @@ LeavesAreMarks =
     (s : Start) (past : List Mark) (old new : SpaceState) (m : Mark) (frame : Range) →
     StandsFor s past old →
     m.thread < thread_count →
-    frames_of (side_of old.sides Replay) m.thread ≡ frames_of (side_of new.sides Replay) m.thread ++ frame ∷ [] →
-    new.sides ≡ with_side old.sides Replay (with_thread (side_of old.sides Replay) m.thread (frames_of (side_of new.sides Replay) m.thread)) →
-    ((r : Refusal) → ¬ IsLeaveRefused Replay old.held.regions (top_of (side_of old.sides Replay) m.thread) r) →
+    frames_of (side_of old.sides Replay) m.thread ≡ frames_of (side_of new.sides Replay) m.thread ++
+    frame ∷ [] →
+    new.sides ≡ with_side old.sides Replay (with_thread (side_of old.sides Replay) m.thread
+    (frames_of (side_of new.sides Replay) m.thread)) →
+    ((r : Refusal) → ¬ IsLeaveRefused Replay old.held.regions (top_of (side_of old.sides Replay) m.thread)
+    r) →
     new.held ≡ old.held →
     FillsWith frame None old.bytes new.bytes →
     m.act ≡ Leave frame.addr frame.len →

@@ -13,12 +13,14 @@ use Rattle.space_memory.specs.Spaces.{IsWhole}
 -- no two regions that wait meet
 abbrev pub AreApart : List Region → Type 0
 AreApart [] = Unit {0}
-AreApart (r ∷ rest) = ((x : ℕ) → (is_pending r.holder && covers r.range x) ≡ true → is_held rest x ≡ false) × AreApart rest
+AreApart (r ∷ rest) = ((x : ℕ) → (is_pending r.holder && covers r.range x) ≡ true →
+    is_held rest x ≡ false) × AreApart rest
 
 -- no two regions are prepared under one key
 abbrev pub HaveOwnKeys : List Region → Type 0
 HaveOwnKeys [] = Unit {0}
-HaveOwnKeys (r ∷ rest) = ((k : ℕ) → has_key k r.holder ≡ true → prepared_region rest k ≡ None) × HaveOwnKeys rest
+HaveOwnKeys (r ∷ rest) = ((k : ℕ) → has_key k r.holder ≡ true → prepared_region rest k ≡ None) ×
+    HaveOwnKeys rest
 
 -- whether a region is held for the call, or prepared by it while it is open
 abbrev pub has_region : OpenCall → List Region → Bool
@@ -31,4 +33,5 @@ pub record AreHeld (held : HeldState) : Type 0 where
   pub apart : AreApart held.regions
   pub keys : HaveOwnKeys held.regions
   -- a call that isn't open has no regions
-  pub owned : (call : OpenCall) → (call.thread < thread_count → slice_index held.depths call.thread < call.depth) → has_region call held.regions ≡ false
+  pub owned : (call : OpenCall) → (call.thread < thread_count →
+      slice_index held.depths call.thread < call.depth) → has_region call held.regions ≡ false

@@ -33,28 +33,43 @@ IsQuiet _ = ⊥
 
 -- memory stands for the past with such a mark too
 abbrev pub QuietMarksLeaveMemory : Type 0
-QuietMarksLeaveMemory = (s : Start) (past : List Mark) (memory : SpaceState) (m : Mark) → StandsFor s past memory → IsQuiet m.act → StandsFor s (m ∷ past) memory
+QuietMarksLeaveMemory = (s : Start) (past : List Mark) (memory : SpaceState) (m : Mark) →
+    StandsFor s past memory → IsQuiet m.act → StandsFor s (m ∷ past) memory
 
 -- a load that is answered is a Load of the bytes of the number
 abbrev pub LoadsAreMarks : Type 0
 LoadsAreMarks =
-    (s : Start) (past : List Mark) (memory : SpaceState) (m : Mark) (origin : Option ℕ) (thread addr width value : ℕ) →
+    (s : Start) (past : List Mark) (memory : SpaceState) (m : Mark) (origin : Option ℕ)
+    (thread addr width value : ℕ) →
     StandsFor s past memory →
     addr < 2 ^ 64 →
     HasNumber memory.bytes addr width value →
-    IsAllowed memory.bytes memory.held.regions (record { side = Replay; thread = thread; range = record { addr = addr; len = width }; write = false }) →
+    IsAllowed memory.bytes memory.held.regions (record {
+      side = Replay;
+      thread = thread;
+      range =
+          record { addr = addr; len = width };
+      write = false;
+    }) →
     m.act ≡ Load origin addr (bytes_of_number width value) →
     IsMark s past m memory
 
 -- a store that is done is a Store of the bytes of the number
 abbrev pub StoresAreMarks : Type 0
 StoresAreMarks =
-    (s : Start) (past : List Mark) (old new : SpaceState) (m : Mark) (origin : Option ℕ) (thread addr width value : ℕ) →
+    (s : Start) (past : List Mark) (old new : SpaceState) (m : Mark) (origin : Option ℕ)
+    (thread addr width value : ℕ) →
     StandsFor s past old →
     addr < 2 ^ 64 →
     HasNumber new.bytes addr width value →
     SameOutside (record { addr = addr; len = width }) old.bytes new.bytes →
     new ≡ record old { bytes = new.bytes } →
-    IsAllowed old.bytes old.held.regions (record { side = Replay; thread = thread; range = record { addr = addr; len = width }; write = true }) →
+    IsAllowed old.bytes old.held.regions (record {
+      side = Replay;
+      thread = thread;
+      range =
+          record { addr = addr; len = width };
+      write = true;
+    }) →
     m.act ≡ Store origin addr (bytes_of_number width value) →
     IsMark s past m new

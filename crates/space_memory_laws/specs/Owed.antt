@@ -28,7 +28,9 @@ IsPreparedUnder s past k x = (r : Range) × (in_use s k past ≡ Some r) × (cov
 abbrev pub IsOwed : Start → List Mark → ℕ → Type 0
 IsOwed s past x = ((t : ℕ) × IsHeldFor s past t x) ⊎ ((k : ℕ) × IsPreparedUnder s past k x)
 
--- in a past that memory stands for, the pending bytes are those that open calls hold and those of keys in use
+-- in a past that memory stands for, the pending bytes are those that open calls hold and those of keys in
+-- use
 abbrev pub PendingBytesAreOwed : Type 0
 PendingBytesAreOwed =
-    (s : Start) (past : List Mark) (memory : SpaceState) → StandsFor s past memory → (x : ℕ) → is_system x ≡ false → IsHeld (byte s x past).cell ↔ IsOwed s past x
+    (s : Start) (past : List Mark) (memory : SpaceState) → StandsFor s past memory → (x : ℕ) →
+    is_system x ≡ false → IsHeld (byte s x past).cell ↔ IsOwed s past x

@@ -19,7 +19,8 @@ use Rattle.space_memory_laws.specs.StandsFor.{StandsFor}
 use Rattle.space_memory_laws.specs.Marks.{IsMark}
 
 -- an Alloc that the rules of the pool allow
-pub record IsAlloc (s : Start) (past : List Mark) (m : Mark) (size addr : ℕ) (new : SpaceState) : Type 0 where
+pub record IsAlloc (s : Start) (past : List Mark) (m : Mark) (size addr : ℕ) (new : SpaceState) :
+    Type 0 where
   pub mark : IsMark s past m new
   pub place : IsPlace replay_pool (blocks s past) size addr
 
@@ -30,7 +31,8 @@ AllocsAreMarks =
     StandsFor s past old →
     IsLeastPlace (side_of old.sides Replay).pool size addr →
     1 ≤ size →
-    new.sides ≡ with_side old.sides Replay (with_blocks (side_of old.sides Replay) (with_block (side_of old.sides Replay).pool.blocks (record { addr = addr; len = size }))) →
+    new.sides ≡ with_side old.sides Replay (with_blocks (side_of old.sides Replay)
+    (with_block (side_of old.sides Replay).pool.blocks (record { addr = addr; len = size }))) →
     FillsWith (record { addr = addr; len = size }) (Some 0) old.bytes new.bytes →
     new.held ≡ old.held →
     m.act ≡ Made e →
@@ -54,10 +56,12 @@ FreesAreMarks =
     (s : Start) (past : List Mark) (old new : SpaceState) (m : Mark) (e : Event) (addr size : ℕ) →
     StandsFor s past old →
     length_at (side_of old.sides Replay).pool.blocks addr ≡ Some size →
-    new.sides ≡ with_side old.sides Replay (with_blocks (side_of old.sides Replay) (without_block (side_of old.sides Replay).pool.blocks addr)) →
+    new.sides ≡ with_side old.sides Replay (with_blocks (side_of old.sides Replay)
+    (without_block (side_of old.sides Replay).pool.blocks addr)) →
     FillsWith (record { addr = addr; len = size }) None old.bytes new.bytes →
     new.held ≡ old.held →
-    ((r : Refusal) → ¬ IsFreeRefused Replay (side_of old.sides Replay).pool.blocks old.held.regions addr r) →
+    ((r : Refusal) → ¬ IsFreeRefused Replay (side_of old.sides Replay).pool.blocks old.held.regions addr
+    r) →
     m.act ≡ Made e →
     e.kind ≡ Free addr size →
     has m (OfKey (key Pool 0)) ≡ true →
@@ -66,4 +70,5 @@ FreesAreMarks =
 -- a free of the address 0 is a Free that touches nothing
 abbrev pub FreesOfNullAreMarks : Type 0
 FreesOfNullAreMarks =
-    (s : Start) (past : List Mark) (memory : SpaceState) (m : Mark) (e : Event) → StandsFor s past memory → m.act ≡ Made e → e.kind ≡ Free 0 0 → IsMark s past m memory
+    (s : Start) (past : List Mark) (memory : SpaceState) (m : Mark) (e : Event) → StandsFor s past memory →
+    m.act ≡ Made e → e.kind ≡ Free 0 0 → IsMark s past m memory

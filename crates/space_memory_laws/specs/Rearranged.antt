@@ -10,4 +10,5 @@ use Rattle.space_memory_laws.specs.StandsFor.{StandsFor}
 -- memory that stands for a run stands for each that is one with the same marks in another order
 abbrev pub RearrangedRunsShareMemory : Type 0
 RearrangedRunsShareMemory =
-    (program : Program) (s : Start) (a b : List Mark) (memory : SpaceState) → Rearranged program s a b → StandsFor s a memory → StandsFor s b memory
+    (program : Program) (s : Start) (a b : List Mark) (memory : SpaceState) → Rearranged program s a b →
+    StandsFor s a memory → StandsFor s b memory

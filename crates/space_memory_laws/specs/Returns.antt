@@ -31,7 +31,8 @@ used_at r used = if r.addr == 0 then 0 else used
 -- each piece has the bytes of memory, as many as are used
 abbrev pub ShowUsed : List AreaState → List Piece → List ℕ → Type 0
 ShowUsed bytes [] [] = Unit {0}
-ShowUsed bytes (p ∷ ps) (n ∷ ns) = (length p.bytes ≡ used_at p.range n) × HasBytes bytes p.range.addr p.bytes × ShowUsed bytes ps ns
+ShowUsed bytes (p ∷ ps) (n ∷ ns) = (length p.bytes ≡ used_at p.range n) ×
+    HasBytes bytes p.range.addr p.bytes × ShowUsed bytes ps ns
 ShowUsed bytes _ _ = ⊥
 
 -- what `release` is told to commit is what the Ret commits: nothing, or the region of a key that it has
@@ -40,14 +41,16 @@ CommitsAs m held None commit = released commit ≡ []
 CommitsAs m held (Some c) NoRegion = ⊥
 CommitsAs m held (Some c) Withheld = ⊥
 CommitsAs m held (Some c) (Released k p) =
-    (option_map (λ r. r.range) (prepared_region held.regions k) ≡ Some p.range) × (k ≡ c.0) × (has m (OfKey (key Async k)) ≡ true)
+    (option_map (λ r. r.range) (prepared_region held.regions k) ≡ Some p.range) × (k ≡ c.0) ×
+    (has m (OfKey (key Async k)) ≡ true)
 
 -- a piece has no more bytes than its range
 abbrev pub FitsIn : Piece → Type 0
 FitsIn p = length p.bytes ≤ p.range.len
 
 -- a Ret that the rules of runs allow
-pub record IsRet (s : Start) (past : List Mark) (m : Mark) (pieces : List Piece) (committing : Option (ℕ × ℕ)) (commit : Commit) (new : SpaceState) : Type 0 where
+pub record IsRet (s : Start) (past : List Mark) (m : Mark) (pieces : List Piece) (committing :
+    Option (ℕ × ℕ)) (commit : Commit) (new : SpaceState) : Type 0 where
   pub mark : IsMark s past m new
   pub fits : All FitsIn (pieces ++ released commit)
   pub in_use : ReleasesInUse s past commit
@@ -55,10 +58,13 @@ pub record IsRet (s : Start) (past : List Mark) (m : Mark) (pieces : List Piece)
 -- a release is a Ret with the bytes of the regions, over the ranges of the call that it closes
 abbrev pub ReturnsAreMarks : Type 0
 ReturnsAreMarks =
-    (s : Start) (past : List Mark) (old new : SpaceState) (m : Mark) (e : Event) (func : ℕ) (args : List ℕ) (result : ℕ) (same : Bool) (pieces : List Piece) (commit : Commit) (used : List ℕ) (committing : Option (ℕ × ℕ)) →
+    (s : Start) (past : List Mark) (old new : SpaceState) (m : Mark) (e : Event) (func : ℕ) (args : List ℕ)
+    (result : ℕ) (same : Bool) (pieces : List Piece) (commit : Commit) (used : List ℕ) (committing :
+    Option (ℕ × ℕ)) →
     StandsFor s past old →
     m.thread < thread_count →
-    new.held.regions ≡ without_closed (innermost old.held m.thread) (committed_key committing) old.held.regions →
+    new.held.regions ≡ without_closed (innermost old.held m.thread) (committed_key committing)
+    old.held.regions →
     new.held.depths ≡ slice_set old.held.depths m.thread (slice_index old.held.depths m.thread - 1) →
     new ≡ record old { held = new.held } →
     HasKey old.held.regions committing →
@@ -90,15 +96,22 @@ IsCommitted None committing = committing ≡ None
 IsCommitted (Some c) committing = committing ≡ option_map (λ used. (c.key, used)) c.used
 
 -- the checks of a Ret find what memory refuses, and nothing else
-pub record ReturnsFind (i : Interface) (s : Start) (past : List Mark) (memory : SpaceState) (t func : ℕ) (args : List ℕ) (result : ℕ) (used : List ℕ) (committing : Option (ℕ × ℕ)) : Type 0 where
-  pub refused : (r : Refusal) → IsReleaseRefused memory.bytes memory.held.regions (innermost memory.held t) used committing r → Finds (return_checks i s past (filled memory) func args result) (finding_of r)
-  pub found : (f : Finding) → Finds (return_checks i s past (filled memory) func args result) f → (r : Refusal) × IsReleaseRefused memory.bytes memory.held.regions (innermost memory.held t) used committing r × (f ≡ finding_of r)
-  pub passes : Passes (return_checks i s past (filled memory) func args result) ↔ (HasKey memory.held.regions committing × AllReturned memory.bytes memory.held.regions (innermost memory.held t) used committing)
+pub record ReturnsFind (i : Interface) (s : Start) (past : List Mark) (memory : SpaceState) (t func : ℕ)
+    (args : List ℕ) (result : ℕ) (used : List ℕ) (committing : Option (ℕ × ℕ)) : Type 0 where
+  pub refused : (r : Refusal) → IsReleaseRefused memory.bytes memory.held.regions (innermost memory.held t)
+      used committing r → Finds (return_checks i s past (filled memory) func args result) (finding_of r)
+  pub found : (f : Finding) → Finds (return_checks i s past (filled memory) func args result) f →
+      (r : Refusal) × IsReleaseRefused memory.bytes memory.held.regions (innermost memory.held t) used
+      committing r × (f ≡ finding_of r)
+  pub passes : Passes (return_checks i s past (filled memory) func args result) ↔
+      (HasKey memory.held.regions committing ×
+      AllReturned memory.bytes memory.held.regions (innermost memory.held t) used committing)
 
 -- a Ret of the innermost open call isn't made for a cause exactly where its release is refused for it
 abbrev pub RefusedReturnsAreFindings : Type 0
 RefusedReturnsAreFindings =
-    (i : Interface) (s : Start) (past : List Mark) (memory : SpaceState) (t func : ℕ) (args : List ℕ) (result : ℕ) (used : List ℕ) (committing : Option (ℕ × ℕ)) →
+    (i : Interface) (s : Start) (past : List Mark) (memory : SpaceState) (t func : ℕ) (args : List ℕ)
+    (result : ℕ) (used : List ℕ) (committing : Option (ℕ × ℕ)) →
     StandsFor s past memory →
     t < thread_count →
     Closes (open_calls (marks_of s t past)) func args (i.outs func args) →

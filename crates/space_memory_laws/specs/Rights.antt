@@ -20,13 +20,17 @@ abbrev pub any_in : List OpenCall → ℕ → Bool
 any_in [] x = false
 any_in (c ∷ cs) x = any_range c.ins x || any_in cs x
 
--- an open call of the thread holds the byte to be written, or reads it, which only a read may use; or it lies in the region of
+-- an open call of the thread holds the byte to be written, or reads it, which only a read may use; or it
+-- lies in the region of
 -- a key in use
 abbrev pub IsHandedDown : Start → List Mark → ℕ → Bool → ℕ → Type 0
 IsHandedDown s past t write x =
-    (any_out (open_calls (marks_of s t past)) x ≡ true) ⊎ ((write ≡ false) × (any_in (open_calls (marks_of s t past)) x ≡ true)) ⊎ ((k : ℕ) × IsPreparedUnder s past k x)
+    (any_out (open_calls (marks_of s t past)) x ≡ true) ⊎
+    ((write ≡ false) × (any_in (open_calls (marks_of s t past)) x ≡ true)) ⊎
+    ((k : ℕ) × IsPreparedUnder s past k x)
 
--- memory gives code of a thread below the cut the right to a byte above it exactly where that is handed down to the thread
+-- memory gives code of a thread below the cut the right to a byte above it exactly where that is handed
+-- down to the thread
 abbrev pub RightsAreHandedDown : Type 0
 RightsAreHandedDown =
     (s : Start) (past : List Mark) (memory : SpaceState) (t : ℕ) (write : Bool) (x : ℕ) →
@@ -41,5 +45,13 @@ LoadsBelowShowTheRun =
     StandsFor s past memory →
     addr < 2 ^ 64 →
     HasNumber memory.bytes addr width value →
-    IsAllowed memory.bytes memory.held.regions (record { side = System; thread = thread; range = record { addr = addr; len = width }; write = false }) →
-    (x : ℕ) → covers (record { addr = addr; len = width }) x ≡ true → is_system x ≡ false → ((byte s x past).cell ≡ Live (marks.byte_at addr (bytes_of_number width value) x)) ⊎ IsHeld (byte s x past).cell
+    IsAllowed memory.bytes memory.held.regions (record {
+      side = System;
+      thread = thread;
+      range =
+          record { addr = addr; len = width };
+      write = false;
+    }) →
+    (x : ℕ) → covers (record { addr = addr; len = width }) x ≡ true → is_system x ≡ false →
+    ((byte s x past).cell ≡ Live (marks.byte_at addr (bytes_of_number width value) x)) ⊎
+    IsHeld (byte s x past).cell

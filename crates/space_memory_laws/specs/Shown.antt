@@ -17,12 +17,15 @@ use Rattle.replay_runs.specs.Threads as run
 
 -- a range of marks as a range of memory
 
--- what the first region that waits and has the address had there when it was held; None where no such region has it
+-- what the first region that waits and has the address had there when it was held; None where no such
+-- region has it
 abbrev pub value_when_held : List Region → ℕ → Option ℕ
 value_when_held [] x = None
-value_when_held (r ∷ rest) x = if is_pending r.holder && covers r.range x then Some (slice_index_or r.before (x - r.range.addr) 0) else value_when_held rest x
+value_when_held (r ∷ rest) x = if is_pending r.holder &&
+    covers r.range x then Some (slice_index_or r.before (x - r.range.addr) 0) else value_when_held rest x
 
--- a byte that is there now, as a run has it: of a pending one it knows the value that it had when it was held
+-- a byte that is there now, as a run has it: of a pending one it knows the value that it had when it was
+-- held
 abbrev pub cell_of : Option ℕ → Option ℕ → Cell
 cell_of None held = Dead
 cell_of (Some now) None = Live now

@@ -1,4 +1,5 @@
--- What memory keeps through a run: where frames and blocks lie, and that in stacks and pool just their bytes live.
+-- What memory keeps through a run: where frames and blocks lie, and that in stacks and pool just their
+-- bytes live.
 use Rattle.std.specs.Prelude.{◌≡◌, ℕ, suc, ◌+◌, ◌^◌, ◌<◌, ◌≤◌, true, false, List, [], ◌∷◌, length, None, is_some}
 use Rattle.marks.specs.declared.side.Side.TheVariants.{Replay, System}
 use Rattle.marks.specs.Places.{thread_count, stack, stack_size, replay_pool, system_pool, pool_size, is_constant, is_replay, is_system}
@@ -19,7 +20,8 @@ use Rattle.space_memory_laws.specs.Held.{AreHeld}
 -- each frame, the innermost first, begins where the one below it ends, and ends in the stack
 abbrev pub AreStacked : ℕ → List Range → Type 0
 AreStacked base [] = Unit {0}
-AreStacked base (f ∷ fs) = (f.addr ≡ end_of base fs) × (f.addr + f.len ≤ base + stack_size) × AreStacked base fs
+AreStacked base (f ∷ fs) = (f.addr ≡ end_of base fs) × (f.addr + f.len ≤ base + stack_size) ×
+    AreStacked base fs
 
 -- of an area just the bytes of these ranges live
 abbrev pub JustTheseLive : Range → List Range → List AreaState → Type 0
@@ -42,10 +44,12 @@ pub record IsSound (s : Start) (past : List Mark) (memory : SpaceState) : Type 0
   pub unheld : (x : ℕ) → IsDead memory.bytes x → value_when_held memory.held.regions x ≡ None
   -- nothing is held of system memory, and no object lies out of all memories
   pub own : (x : ℕ) → is_system x ≡ true → value_when_held memory.held.regions x ≡ None
-  pub inside : (x : ℕ) → is_constant x ≡ false → is_replay x ≡ false → is_system x ≡ false → IsDead memory.bytes x
+  pub inside : (x : ℕ) → is_constant x ≡ false → is_replay x ≡ false → is_system x ≡ false →
+      IsDead memory.bytes x
   pub below : IsBelow memory.sides.system
   pub held : AreHeld memory.held
   pub stacked : (t : ℕ) → t < thread_count → AreStacked (stack Replay t) (frames (marks_of s t past))
-  pub frames_live : (t : ℕ) → t < thread_count → JustTheseLive (range (stack Replay t) stack_size) (frames (marks_of s t past)) memory.bytes
+  pub frames_live : (t : ℕ) → t < thread_count →
+      JustTheseLive (range (stack Replay t) stack_size) (frames (marks_of s t past)) memory.bytes
   pub laid_out : LieBetween replay_pool (replay_pool + pool_size) (by_address (blocks s past))
   pub blocks_live : JustTheseLive (range replay_pool pool_size) (blocks s past) memory.bytes

@@ -14,9 +14,14 @@ use Rattle.space_memory_laws.specs.StandsFor.{StandsFor}
 
 -- a byte of the globals and strings, which begins no block
 abbrev pub placed_byte : Placed → ℕ → Byte
-placed_byte placed x = record { cell = cell_of (byte_of placed.strings x (byte_of placed.globals x None)) None; block = 0 }
+placed_byte placed x = record {
+  cell = cell_of (byte_of placed.strings x (byte_of placed.globals x None))
+      None;
+  block = 0;
+}
 
--- memory that `Spaces::new` gives stands for the start at which nothing was done and each byte outside system memory is
+-- memory that `Spaces::new` gives stands for the start at which nothing was done and each byte outside
+-- system memory is
 -- that of a placed object
 abbrev pub NewMemoryStandsForTheStart : Type 0
 NewMemoryStandsForTheStart =
@@ -26,5 +31,9 @@ NewMemoryStandsForTheStart =
     ((x : ℕ) → is_system x ≡ false → start x ≡ placed_byte placed x) →
     ((x : ℕ) → byte_at memory.bytes x ≡ byte_of placed.strings x (byte_of placed.globals x None)) →
     memory.held ≡ record { regions = []; depths = replicate THREADS 0 } →
-    memory.sides ≡ record { replay = fresh_side REPLAY_STACKS REPLAY_POOL; system = fresh_side SYSTEM_STACKS SYSTEM_POOL } →
+    memory.sides ≡ record {
+      replay = fresh_side REPLAY_STACKS REPLAY_POOL;
+      system =
+          fresh_side SYSTEM_STACKS SYSTEM_POOL;
+    } →
     StandsFor (fresh start) [] memory

@@ -18,7 +18,8 @@ second_of args outcome (Some term) = value_of args outcome term
 
 -- the product of the terms, and 2^127 - 1 where the product is greater
 abbrev pub size_of : Size → List ℤ → ℤ → ℤ
-size_of size args outcome = int_min (value_of args outcome size.a *ℤ second_of args outcome size.b) (pos (2 ^ 127 - 1))
+size_of size args outcome = int_min (value_of args outcome size.a *ℤ second_of args outcome size.b)
+    (pos (2 ^ 127 - 1))
 
 -- a term that is a parameter names one of n arguments
 abbrev pub IsWithin : ℕ → Term → Type 0

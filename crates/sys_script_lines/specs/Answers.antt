@@ -7,18 +7,21 @@ use Rattle.sys_script_lines.specs.Each.{each}
 use Rattle.sys_script_lines.specs.Numbers.{number_in}
 use Rattle.sys_script_lines.specs.Pieces.{piece}
 
--- the result that a text spells, in the range of the function's type, as its two's complement pattern of 64 bits: a number,
+-- the result that a text spells, in the range of the function's type, as its two's complement pattern of 64
+-- bits: a number,
 -- or after `-` one that isn't 0
 abbrev pub result_in : External → List ℕ → Option ℕ
 result_in e [] = None
-result_in e (b ∷ bs) = if b == 45 then option_map (λ n. 2 ^ 64 - n) (number_in 1 e.below bs) else number_in 0 e.most (b ∷ bs)
+result_in e (b ∷ bs) = if b == 45 then option_map (λ n. 2 ^ 64 - n) (number_in 1 e.below bs) else number_in
+    0 e.most (b ∷ bs)
 
 abbrev pub scripted : External → List (List ℕ) → ℕ → Scripted
 scripted e pieces result = record { func = e.func; result = result; pieces = pieces }
 
 -- an answer has as many pieces as the function asks
 abbrev pub answer_by : External → (result : List ℕ) → List (List ℕ) → Option Scripted
-answer_by e result pieces = if length pieces == e.pieces then option_map (scripted e pieces) (result_in e result) else None
+answer_by e result pieces = if length pieces == e.pieces then option_map (scripted e pieces)
+    (result_in e result) else None
 
 -- the words after the name: the result, and the pieces
 abbrev pub answer_of : External → List (List ℕ) → Option Scripted

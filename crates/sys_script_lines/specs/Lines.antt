@@ -1,4 +1,5 @@
--- What one line of a system file says, without the byte that ends it. None: it is none of the lines that there are.
+-- What one line of a system file says, without the byte that ends it. None: it is none of the lines that
+-- there are.
 use Rattle.std.specs.Prelude.{ℕ, ◌==◌, if◌then◌else◌, List, [], ◌∷◌, codes, Option, Some, None}
 use Rattle.std.specs.Option.{option_map, option_and_then}
 use Rattle.std.specs.Str.{bytes_eq}
@@ -35,4 +36,5 @@ said_by who word rest =
 -- an empty line and one that begins with `#` say nothing
 abbrev pub says : (List ℕ → Option External) → List ℕ → Option Item
 says who [] = Some Nothing
-says who (b ∷ bs) = if b == 35 then Some Nothing else option_and_then (λ c. said_by who c.0 c.1) (cut_at 32 (b ∷ bs))
+says who (b ∷ bs) = if b == 35 then Some Nothing else option_and_then (λ c. said_by who c.0 c.1)
+    (cut_at 32 (b ∷ bs))

@@ -5,7 +5,8 @@ use Rattle.sys_script_lines.specs.Each.{before}
 
 -- the value of a digit
 abbrev pub hex_digit : ℕ → Option ℕ
-hex_digit b = if nat_le 48 b && nat_le b 57 then Some (b - 48) else if nat_le 97 b && nat_le b 102 then Some (b - 97 + 10) else None
+hex_digit b = if nat_le 48 b && nat_le b 57 then Some (b - 48) else if nat_le 97 b &&
+    nat_le b 102 then Some (b - 97 + 10) else None
 
 -- the byte that two digits spell, the high one first
 abbrev pub hex_byte : (high low : ℕ) → Option ℕ

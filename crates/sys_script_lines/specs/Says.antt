@@ -8,7 +8,8 @@ use Rattle.sys_script_lines.specs.declared.error.Wrong.TheVariants.{Text, Memory
 abbrev pub same : {A : Type 0} → A → A
 same x = x
 
--- seen by a view, it is what the text says; it is wrong exactly where the text says nothing; of memory nothing is said
+-- seen by a view, it is what the text says; it is wrong exactly where the text says nothing; of memory
+-- nothing is said
 abbrev pub Says : {A B : Type 0} → (A → B) → Result A Wrong → Option B → Type 0
 Says view (Ok x) said = said ≡ Some (view x)
 Says view (Err Text) said = said ≡ None

@@ -55,7 +55,8 @@ goes_on line (Some s) f = f s
 abbrev pub script : (List ℕ → Option External) → (line : ℕ) → SaidSoFar → List (List ℕ) → Script
 script who line s [] = Reads s
 script who line s (text ∷ []) = at_end line s text
-script who line s (text ∷ next ∷ texts) = goes_on line (after_line who s text) (λ t. script who (line + 1) t (next ∷ texts))
+script who line s (text ∷ next ∷ texts) = goes_on line (after_line who s text) (λ t.
+    script who (line + 1) t (next ∷ texts))
 
 -- what the bytes of a file say
 abbrev pub script_of : (List ℕ → Option External) → List ℕ → Script

@@ -52,7 +52,9 @@ impl Externals {
 
     /// Puts one more function in. A name that is there already keeps what it has.
     pub fn add(&mut self, name: &[u8], external: External) -> Result<(), AllocError>
-        ensures added { OnOk result ((n : List ℕ) → external_named n self.new ≡ option_or (external_named n self.old) (only_named n name.now external)) }
+        ensures added { OnOk result ((n : List ℕ) →
+            external_named n self.new ≡ option_or (external_named n self.old)
+            (only_named n name.now external)) }
         ensures err { OnErr result (self.new ≡ self.old) }
     {
         if self.by_name.contains_key(name) {

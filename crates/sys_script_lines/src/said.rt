@@ -30,7 +30,13 @@ impl Model for Said {
 
     ghost Value = { SaidSoFar };
 
-    ghost view = { λ s. record { budget = s.budget; chunk = s.chunk; schedule = s.schedule; answers = s.answers.items } };
+    ghost view = { λ s. record {
+      budget = s.budget;
+      chunk = s.chunk;
+      schedule = s.schedule;
+      answers =
+          s.answers.items;
+    } };
 }
 
 impl Said {

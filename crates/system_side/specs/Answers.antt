@@ -5,7 +5,8 @@ use Rattle.system_side.specs.declared.file.Scripted.{Scripted}
 -- the places of a function's answers in a list whose first place has this number
 abbrev pub places_of : ℕ → ℕ → List Scripted → List ℕ
 places_of f from [] = []
-places_of f from (a ∷ as_) = if a.func == f then from ∷ places_of f (from + 1) as_ else places_of f (from + 1) as_
+places_of f from (a ∷ as_) = if a.func == f then from ∷
+    places_of f (from + 1) as_ else places_of f (from + 1) as_
 
 -- the places of a function's answers that are left
 abbrev pub left_of : List (List ℕ) → ℕ → List ℕ

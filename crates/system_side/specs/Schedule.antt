@@ -19,7 +19,8 @@ wish_at items step = entry items (step % round items)
 -- the last step of each item in the round that begins after so many steps, as far as steps are counted
 abbrev pub lasts_from : ℕ → List (ℕ × ℕ) → List ℕ
 lasts_from before [] = []
-lasts_from before (item ∷ items) = min (before + item.1 - 1) (2 ^ 64 - 1) ∷ lasts_from (before + item.1) items
+lasts_from before (item ∷ items) = min (before + item.1 - 1) (2 ^ 64 - 1) ∷
+    lasts_from (before + item.1) items
 
 -- a schedule that can be asked, with the last step of each item
 pub record IsKept (items : List (ℕ × ℕ)) (lasts : List ℕ) : Type 0 where

@@ -5,7 +5,8 @@ use Rattle.std.specs.BTreeMap.{is_at}
 use Rattle.std.specs.Map.{lookup}
 use Rattle.system_side.specs.declared.threads.Standing.{Standing}
 
--- the schedule, where each started thread stands, which thread holds each mutex that is held, and for each function the
+-- the schedule, where each started thread stands, which thread holds each mutex that is held, and for each
+-- function the
 -- places of its answers that are left
 pub record SystemState : Type 0 where
   pub schedule : List (ℕ × ℕ)

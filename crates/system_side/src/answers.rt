@@ -89,7 +89,8 @@ impl Left {
 
     // Puts a place at the end of those of the function.
     fn add(&mut self, alloc: Global, func: u16, place: usize) -> Result<(), AllocError>
-        ensures { OnOk result ((f : ℕ) → left_of self.new f ≡ (if func == f then left_of self.old f ++ place ∷ [] else left_of self.old f)) }
+        ensures { OnOk result ((f : ℕ) → left_of self.new f ≡ (if func == f then left_of self.old f ++
+            place ∷ [] else left_of self.old f)) }
     {
         let at = usize::from(func);
         make_room(&mut self.queues, alloc, at)?;

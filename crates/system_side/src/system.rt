@@ -33,7 +33,13 @@ impl Model for System {
 
     ghost Value = { SystemState };
 
-    ghost view = { λ s. record { schedule = s.turns; threads = s.threads; held = s.held.entries; left = s.left } };
+    ghost view = { λ s. record {
+      schedule = s.turns;
+      threads = s.threads;
+      held = s.held.entries;
+      left =
+          s.left;
+    } };
 }
 
 impl System {
@@ -44,7 +50,8 @@ impl System {
         ensures schedule { IfOk result (λ system. system.schedule ≡ file.now.schedule) }
         ensures threads { IfOk result (λ system. system.threads ≡ Standing.Ready ∷ []) }
         ensures mutexes { IfOk result (λ system. system.held ≡ []) }
-        ensures answers { IfOk result (λ system. (f : ℕ) → left_of system.left f ≡ places_of f 0 file.now.answers) }
+        ensures answers { IfOk result (λ system. (f : ℕ) →
+            left_of system.left f ≡ places_of f 0 file.now.answers) }
     {
         let turns = Turns::new(alloc, &file.schedule)?;
         let threads = Threads::new(alloc)?;
@@ -77,9 +84,13 @@ impl System {
     pub fn lock(&mut self, thread: u8, m: i32) -> Result<bool, AllocError>
         requires { has_not_ended self.old.threads thread ≡ true }
         ensures answer { IfOk result (λ taken. taken ≡ not (is_some (holder self.old.held m))) }
-        ensures taken { result ≡ Ok true → self.new ≡ record self.old { held = insert_entry int_cmp self.old.held m thread } }
+        ensures taken { result ≡ Ok true → self.new ≡
+            record self.old { held = insert_entry int_cmp self.old.held m thread } }
         ensures blocked { result ≡ Ok false
-            → self.new ≡ record self.old { threads = slice_set self.old.threads thread (Standing.Waits (Wait.Mutex m)) } }
+            → self.new ≡ record self.old {
+              threads =
+                  slice_set self.old.threads thread (Standing.Waits (Wait.Mutex m));
+            } }
         ensures unchanged { OnErr result (self.new ≡ self.old) }
     {
         if self.held.contains_key(&m) {
@@ -95,7 +106,11 @@ impl System {
         requires { has_not_ended self.old.threads thread ≡ true }
         ensures answer { result ≡ (if holds self.old.held thread m then pos 0 else negsuc 0) }
         ensures freed { holds self.old.held thread m ≡ true
-            → self.new ≡ record self.old { held = remove_entry (is_at (int_cmp m)) self.old.held; threads = map (woken (Wait.Mutex m)) self.old.threads } }
+            → self.new ≡ record self.old {
+              held = remove_entry (is_at (int_cmp m)) self.old.held;
+              threads =
+                  map (woken (Wait.Mutex m)) self.old.threads;
+            } }
         ensures unchanged { holds self.old.held thread m ≡ false → self.new ≡ self.old }
     {
         if self.holds(thread, m) {
@@ -120,7 +135,8 @@ impl System {
     /// Starts a thread and answers its number, the count of those before; -1 where 32 were started.
     pub fn spawn(&mut self) -> i32
         ensures started { length self.old.threads < 32
-            → (result ≡ pos (length self.old.threads)) × (self.new ≡ record self.old { threads = self.old.threads ++ Standing.Ready ∷ [] }) }
+            → (result ≡ pos (length self.old.threads)) ×
+            (self.new ≡ record self.old { threads = self.old.threads ++ Standing.Ready ∷ [] }) }
         ensures full { 32 ≤ length self.old.threads → (result ≡ negsuc 0) × (self.new ≡ self.old) }
         ensures few { length self.new.threads ≤ 32 }
     {
@@ -135,7 +151,11 @@ impl System {
     /// Ends a thread with the result of its first function, and frees the threads that wait for its end.
     pub fn end(&mut self, thread: u8, value: i32)
         requires { has_not_ended self.old.threads thread ≡ true }
-        ensures { self.new ≡ record self.old { threads = map (woken (Wait.Thread (pos thread))) (slice_set self.old.threads thread (Standing.Ended value)) } }
+        ensures { self.new ≡ record self.old {
+          threads =
+              map (woken (Wait.Thread (pos thread)))
+              (slice_set self.old.threads thread (Standing.Ended value));
+        } }
     {
         self.threads.stop(thread, Standing::Ended(value));
         self.threads.wake(Wait::Thread(i32::from(thread)));
@@ -147,7 +167,10 @@ impl System {
         requires { has_not_ended self.old.threads thread ≡ true }
         ensures answer { result ≡ joined self.old.threads thread t }
         ensures blocked { IfNone result
-            (self.new ≡ record self.old { threads = slice_set self.old.threads thread (Standing.Waits (Wait.Thread t)) }) }
+            (self.new ≡ record self.old {
+              threads =
+                  slice_set self.old.threads thread (Standing.Waits (Wait.Thread t));
+            }) }
         ensures unchanged { IsSome result → self.new ≡ self.old }
     {
         if t == i32::from(thread) {
@@ -166,7 +189,10 @@ impl System {
     /// The place, in the answers of the file, of the function's next answer; `None` where there is none.
     pub fn answer(&mut self, func: u16) -> Option<usize>
         ensures next { result ≡ slice_get (left_of self.old.left func) 0 }
-        ensures rest { self.new ≡ record self.old { left = slice_set self.old.left func (drop 1 (left_of self.old.left func)) } }
+        ensures rest { self.new ≡ record self.old {
+          left =
+              slice_set self.old.left func (drop 1 (left_of self.old.left func));
+        } }
     {
         self.left.take(func)
     }

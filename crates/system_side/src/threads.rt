@@ -161,7 +161,8 @@ fn wake_one(standings: &mut [Standing], ready: u32, at: usize, wait: Wait) -> u3
     requires inside { at < length standings.old }
     requires few { length standings.old ≤ 32 }
     requires bits { HasBits ready standings.old }
-    ensures woken { standings.new ≡ slice_set standings.old at (woken wait (slice_index_or standings.old at Standing.Ready)) }
+    ensures woken { standings.new ≡ slice_set standings.old at
+        (woken wait (slice_index_or standings.old at Standing.Ready)) }
     ensures bits { HasBits result standings.new }
 {
     if standings[at].waits_for(wait) {

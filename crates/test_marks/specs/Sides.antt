@@ -11,6 +11,7 @@ use Rattle.c_machine.specs.Readers.{side_of}
 abbrev pub side_told : Laid → Config → Side
 side_told l c = cond (crosses_at l c) System (side_of c)
 
--- the call of the function is told a value, and makes no marks: it crosses the cut, or the function has no body
+-- the call of the function is told a value, and makes no marks: it crosses the cut, or the function has no
+-- body
 abbrev pub is_told : Laid → Config → ℕ → Bool
 is_told l d f = crosses_at l d || not (has_entry (entry l f))

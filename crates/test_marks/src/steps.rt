@@ -270,7 +270,8 @@ fn begin_back(thread: &mut Thread, image: &Image, func: u16, number: u64) -> boo
 
 /// Whether system code calls through an address, so that it may call back.
 fn may_go_up(thread: &Thread) -> bool
-    ensures { IsTrue result → (side_of thread.now.config ≡ System) × (is_indirect thread.now.config ≡ true) }
+    ensures { IsTrue result → (side_of thread.now.config ≡ System) ×
+        (is_indirect thread.now.config ≡ true) }
 {
     match thread.side() {
         Side::System => thread.indirect(),

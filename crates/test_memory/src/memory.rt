@@ -96,7 +96,8 @@ fn out_count(held: &[Region], call: OpenCall) -> usize
 
 /// The spaces of a memory before a run; none where an object lies in no area.
 fn spaces_of(alloc: Global, placed: &Placed) -> Result<Option<Spaces>, AllocError>
-    ensures { IfOk result (λ spaces. IfSome spaces (λ s. s.held ≡ record { regions = []; depths = replicate THREADS 0 })) }
+    ensures { IfOk result (λ spaces. IfSome spaces (λ s. s.held ≡
+        record { regions = []; depths = replicate THREADS 0 })) }
 {
     if !are_in_areas(placed.globals.as_slice()) || !are_in_areas(placed.strings.as_slice()) {
         return Ok(None);
