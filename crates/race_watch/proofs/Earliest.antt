@@ -1,7 +1,7 @@
 -- The first race with what was seen, one access further.
 use Rattle.std.proofs.Common.{◌≡◌, ℕ, ◌<◌, ◌≤◌, Bool, true, false, ◌&&◌, ◌||◌, cond, eqb, ltb, List, [], ◌∷◌, ◌++◌, Option, Some, None, ◌⊎◌, inl, inr, ⊎_elim, refl, sym, subst, arith}
 use Rattle.std.proofs.lemmas.Bool.Decides.{nat_tests}
-use Rattle.memory_map.specs.Ranges.{IsInRange, IsLeastIn, NoneIn, IsFirstIn}
+use Rattle.marks.specs.Ranges.{IsInRange, IsLeastIn, NoneIn, IsFirstIn}
 use Rattle.race_watch.specs.declared.seen.Seen.{Seen}
 use Rattle.race_watch.specs.declared.first.Tested.{Tested}
 use Rattle.race_watch.specs.Hits.{Hits, In, IsFirstOf, IsFirstHit, earlier}

@@ -1,7 +1,7 @@
 -- The first of what was found in some places is that of all.
 use Rattle.std.proofs.Common.{◌≡◌, ℕ, ◌<◌, ◌≤◌, Bool, true, false, ◌&&◌, ◌||◌, cond, eqb, ltb, List, Option, Some, None, ◌⊎◌, inl, inr, ⊎_elim, refl, subst, arith}
-use Rattle.memory_map.specs.declared.range.Range.{Range}
-use Rattle.memory_map.specs.Ranges.{IsInRange}
+use Rattle.marks.specs.declared.range.Range.{Range}
+use Rattle.marks.specs.Ranges.{IsInRange}
 use Rattle.race_watch.specs.declared.bytes.Bytes.{Bytes}
 use Rattle.race_watch.specs.declared.seen.Seen.{Seen}
 use Rattle.race_watch.specs.declared.first.Tested.{Tested}

@@ -3,8 +3,8 @@ use Rattle.std.proofs.Common.{◌≡◌, ◌≢◌, ℕ, suc, ◌+◌, ◌^◌, 
 use Rattle.std.specs.Prelude.{not, ltb, nat_le, nat_lt}
 use Rattle.std.proofs.lemmas.Bool.{and_parts}
 use Rattle.std.proofs.lemmas.Bool.Decides.{nat_tests}
-use Rattle.memory_map.specs.declared.range.Range.{Range}
-use Rattle.memory_map.specs.Ranges.{covers, IsInRange}
+use Rattle.marks.specs.declared.range.Range.{Range}
+use Rattle.marks.specs.Ranges.{covers, IsInRange}
 use Rattle.causal_order.specs.Order.{Link, OfThread}
 use Rattle.logical_clock.specs.Events.{Occurrence, has}
 use Rattle.logical_clock.specs.Counts.{latest}

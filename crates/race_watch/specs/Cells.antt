@@ -1,7 +1,7 @@
 -- Which bytes have cells.
 use Rattle.std.specs.Prelude.{◌≡◌, ℕ, ◌+◌, ◌-◌, ◌*◌, ◌<◌, ◌≤◌, Bool, ◌&&◌, nat_le, nat_lt, cond, Option, Some, None, MatchOption}
-use Rattle.memory_map.specs.declared.range.Range.{Range}
-use Rattle.memory_map.specs.Ranges.{IsInRange}
+use Rattle.marks.specs.declared.range.Range.{Range}
+use Rattle.marks.specs.Ranges.{IsInRange}
 use Rattle.race_watch.specs.declared.bytes.Bytes.{Bytes}
 
 -- the byte's number among those of the areas of replay code, of which each follows the one before

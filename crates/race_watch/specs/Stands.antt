@@ -2,8 +2,8 @@
 use Rattle.std.specs.Prelude.{◌≡◌, ◌≢◌, ℕ, ◌+◌, ◌<◌, ◌≤◌, ◌^◌, Bool, true, false, ◌||◌, cond, ◌⊎◌, List, [], ◌∷◌, length, get_or, slice_index, Result, Err}
 use Rattle.std.specs.List.{All}
 use Rattle.run_events.specs.declared.key.Key.{Key}
-use Rattle.memory_map.specs.declared.range.Range.{Range}
-use Rattle.memory_map.specs.Ranges.{IsInRange, covers}
+use Rattle.marks.specs.declared.range.Range.{Range}
+use Rattle.marks.specs.Ranges.{IsInRange, covers}
 use Rattle.causal_order.specs.Order.{OfThread, OfKey}
 use Rattle.logical_clock.specs.Names.{name}
 use Rattle.race_watch.specs.declared.error.WatchError.{WatchError}

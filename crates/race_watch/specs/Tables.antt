@@ -1,8 +1,8 @@
 -- What tables keep.
 use Rattle.std.specs.Prelude.{◌≡◌, ◌≢◌, ◌⊎◌, nat_le, ℕ, ◌+◌, ◌*◌, ◌<◌, ◌≤◌, Bool, ◌||◌, ◌&&◌, nat_lt, eqb, cond, suc, slice_index, map, List, Option, Some, None, MatchOption}
 use Rattle.std.specs.List.{range_with_len}
-use Rattle.memory_map.specs.declared.range.Range.{Range}
-use Rattle.memory_map.specs.Ranges.{IsInRange, covers}
+use Rattle.marks.specs.declared.range.Range.{Range}
+use Rattle.marks.specs.Ranges.{IsInRange, covers}
 use Rattle.race_watch_pages.specs.Kept.{kept, size}
 use Rattle.race_watch.specs.declared.seen.Seen.{Seen}
 use Rattle.race_watch.specs.declared.first.Tested.{Tested}
@@ -59,7 +59,7 @@ HasEither a seen epochs x u = HasHit a seen x u ⊎ HasEpoch a epochs x u
 
 -- the least byte of the range for which something holds with a thread, and the least thread of those
 pub record IsLeastOf (range : Range) (R : ℕ → ℕ → Type 0) (addr other : ℕ) : Type 0 where
-  pub in_range : IsInRange range addr
+  pub covers : IsInRange range addr
   pub holds : R addr other
   pub least : (x u : ℕ) → IsInRange range x → R x u → (addr ≤ x) × (x ≡ addr → other ≤ u)
 

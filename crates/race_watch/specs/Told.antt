@@ -1,8 +1,8 @@
 -- What a watch is told, the newest first, and which accesses race.
 use Rattle.std.specs.Prelude.{◌≡◌, ◌≢◌, ℕ, suc, ◌<◌, ◌≤◌, max, Bool, false, ◌&&◌, cond, eqb, List, [], ◌∷◌}
 use Rattle.marks.specs.Places.{is_constant}
-use Rattle.memory_map.specs.declared.range.Range.{Range}
-use Rattle.memory_map.specs.Ranges.{covers, IsLeastIn}
+use Rattle.marks.specs.declared.range.Range.{Range}
+use Rattle.marks.specs.Ranges.{covers, IsLeastIn}
 use Rattle.causal_order.specs.Order.{Link, OfThread}
 use Rattle.logical_clock.specs.Events.{Occurrence, has}
 use Rattle.logical_clock.specs.Counts.{latest}

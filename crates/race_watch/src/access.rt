@@ -2,7 +2,7 @@
 
 ghost use Rattle.std.specs.Prelude.{◌≡◌, ◌+◌, ◌<◌, ◌≤◌, ℕ, true, not, length, IfErr, OnOk, OnErr, IsTrue};
 ghost use Rattle.std.specs.List.{All};
-ghost use Rattle.memory_map.specs.Ranges.{covers};
+ghost use Rattle.marks.specs.Ranges.{covers};
 ghost use Rattle.race_watch.specs.declared.seen.Seen.{Seen};
 ghost use Rattle.race_watch.specs.Stands.{IsNoted};
 ghost use Rattle.race_watch.specs.Tables.{at, cells_of, AreTables, HasEither, IsFirst};

@@ -3,7 +3,7 @@
 ghost use Rattle.std.specs.Prelude.{◌≡◌, ◌<◌, false, length};
 ghost use Rattle.std.specs.List.{All};
 ghost use Rattle.marks.specs.Places.{is_constant};
-ghost use Rattle.memory_map.specs.Ranges.{IsInRange, IsFirstIn};
+ghost use Rattle.marks.specs.Ranges.{IsInRange, IsFirstIn};
 ghost use Rattle.race_watch.specs.Hits.{Hits, IsFirstHit, earlier};
 ghost use Rattle.race_watch.specs.declared.seen.Seen.{Seen};
 

@@ -6,11 +6,10 @@ use Rattle.std.proofs.lemmas.Bool.Decides.{nat_tests}
 use Rattle.causal_order.specs.Order.{OfThread, In}
 use Rattle.marks.specs.declared.breach.BreachKind.TheVariants.{Race}
 use Rattle.marks.specs.Places.{is_constant}
-use Rattle.marks.specs.Ranges.{range, in_range}
+use Rattle.marks.specs.declared.range.Range.{Range}
+use Rattle.marks.specs.Ranges.{range, covers, IsInRange}
 use Rattle.marks.specs.Marks.{Mark}
 use Rattle.marks.specs.Bytes.{Byte, reads, writes, touches, place}
-use Rattle.memory_map.specs.declared.range.Range.{Range}
-use Rattle.memory_map.specs.Ranges.{IsInRange}
 use Rattle.replay_runs.specs.Runs.{events_with, Run, Start, Rules}
 use Rattle.replay_runs.specs.Interface.{Program}
 use Rattle.replay_runs.specs.Rules.{replay_rules}
@@ -129,14 +128,14 @@ knows_the_run program memory past h =
 
 -- the check finds it
 
-in_it : (r : Range) (x : ℕ) → r.addr + r.len ≤ 2 ^ 64 → in_range (range r.addr r.len) x ≡ true → IsInRange r x
+in_it : (r : Range) (x : ℕ) → r.addr + r.len ≤ 2 ^ 64 → covers (range r.addr r.len) x ≡ true → IsInRange r x
 in_it r x fits e =
     let p = and_parts (leb r.addr x) (ltb x (r.addr + r.len)) e in
     let low : r.addr ≤ x = grind (arith, nat_tests) in
     let high : x < r.addr + r.len = grind (arith, nat_tests) in
     (low, high, omega (arith, high, fits))
 
-is_in : (r : Range) (x : ℕ) → IsInRange r x → in_range (range r.addr r.len) x ≡ true
+is_in : (r : Range) (x : ℕ) → IsInRange r x → covers (range r.addr r.len) x ≡ true
 is_in r x h = grind (arith, nat_tests, h.0, h.1)
 
 abbrev address_of : Finding → ℕ
@@ -157,7 +156,7 @@ answers program memory past h t r write fits = record { races = λ other addr. (
     back x u b = raced program memory past h t write x u b
 
     Bad : ℕ → Type 0
-    Bad x = (in_range (range r.addr r.len) x ≡ true) × ((u : ℕ) × Races past t write x u)
+    Bad x = (covers (range r.addr r.len) x ≡ true) × ((u : ℕ) × Races past t write x u)
 
     finds : (other addr : ℕ) → IsRace t r write (told past) other addr → Finds (race_check past t write (range r.addr r.len) Done) (BreachFound Race addr (Some other))
     finds other addr b =

@@ -5,7 +5,7 @@ use Rattle.run_events.specs.declared.key.KeyMark.{KeyMark}
 use Rattle.causal_order.specs.Order.{Link, OfThread, OfKey, same_key, is_listed}
 use Rattle.marks.specs.Places.{is_constant}
 use Rattle.marks.specs.declared.range.Range.{Range}
-use Rattle.marks.specs.Ranges.{in_range, any_range}
+use Rattle.marks.specs.Ranges.{covers, any_range}
 use Rattle.marks.specs.Marks.{Event, Act, Turn, Load, Store, Enter, Leave, Step, Fault, Made, Mark, is_event}
 use Rattle.marks.specs.Bytes.{Byte, reads, writes, touches, late, late_event}
 use Rattle.marks.specs.Bytes as bytes
@@ -49,7 +49,7 @@ told_last w write u x t [] past = none (eqb t u) (w || write)
 told_last w write u x t (r ∷ rs) past =
     told_last w write u x t rs (Accessed t (record { addr = r.at; len = r.size }) write ∷ past)
     ∙ ap (cond (eqb t u && ((w || write) && any_range rs x)) (suc (place u past))) (last_step w u x t (record { addr = r.at; len = r.size }) write past ∙ ap (λ c. cond (eqb t u && ((w || write) && c)) (suc (place u past)) (last w u x past)) (covers_is r x))
-    ∙ both (eqb t u) (w || write) (in_range r x) (any_range rs x)
+    ∙ both (eqb t u) (w || write) (covers r x) (any_range rs x)
   where
     both : (a b c d : Bool) → cond (a && (b && d)) (suc (place u past)) (cond (a && (b && c)) (suc (place u past)) (last w u x past)) ≡ cond (a && (b && (c || d))) (suc (place u past)) (last w u x past)
     both true true true true = refl

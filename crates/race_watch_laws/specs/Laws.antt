@@ -2,10 +2,10 @@
 use Rattle.std.specs.Prelude.{◌≡◌, ◌↔◌, ℕ, ◌+◌, ◌≤◌, ◌^◌, Bool, false, List, length, Some}
 use Rattle.marks.specs.declared.breach.BreachKind.TheVariants.{Race}
 use Rattle.marks.specs.Places.{is_constant}
+use Rattle.marks.specs.declared.range.Range.{Range}
 use Rattle.marks.specs.Ranges.{range}
 use Rattle.marks.specs.Marks.{Mark}
 use Rattle.marks.specs.Bytes.{Byte}
-use Rattle.memory_map.specs.declared.range.Range.{Range}
 use Rattle.replay_runs.specs.Runs.{Link, OfThread, Run, events_with}
 use Rattle.replay_runs.specs.Known.{known, touched_by, wrote_by}
 use Rattle.replay_runs.specs.Laws.{fresh}

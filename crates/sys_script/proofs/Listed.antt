@@ -4,7 +4,7 @@ use Rattle.std.specs.Option.{option_or, is_some}
 use Rattle.std.specs.Str.{bytes_eq}
 use Rattle.c_types_table.specs.declared.ty.Ty.{Ty}
 use Rattle.c_types_program.specs.declared.function.Function.{Function}
-use Rattle.annot_reader_cut.specs.Interface.{Interface}
+use Rattle.annot_reader.specs.Interface.{Interface}
 use Rattle.sys_script_lines.specs.declared.externals.External.{External}
 use Rattle.sys_script_lines.specs.Externals.{external_named, only_named}
 use Rattle.sys_script.specs.Externals.{external_in, external_of, externals_from, externals_in}

@@ -9,8 +9,8 @@ use Rattle.c_types_program.specs.declared.function.Function.{Function}
 use Rattle.c_types_program.specs.Declarations.{Declared}
 use Rattle.c_builtins.specs.Table.{first_source_function}
 use Rattle.annot_reader_words.specs.declared.notes.Annots.{Annots}
-use Rattle.annot_reader_cut.specs.Interface.{Interface}
-use Rattle.annot_reader_cut.specs.Interfaces.{declared_at}
+use Rattle.annot_reader.specs.Interface.{Interface}
+use Rattle.annot_reader.specs.Interfaces.{declared_at}
 use Rattle.sys_script_lines.specs.declared.externals.External.{External}
 use Rattle.sys_script_lines.specs.Externals.{external_named}
 

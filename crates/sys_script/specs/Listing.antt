@@ -3,7 +3,7 @@ use Rattle.std.specs.Prelude.{◌≡◌, ℕ, ◌+◌, List, ◌∷◌, Option}
 use Rattle.std.specs.Option.{option_or}
 use Rattle.c_types_table.specs.declared.ty.Ty.{Ty}
 use Rattle.c_types_program.specs.declared.function.Function.{Function}
-use Rattle.annot_reader_cut.specs.Interface.{Interface}
+use Rattle.annot_reader.specs.Interface.{Interface}
 use Rattle.sys_script_lines.specs.declared.externals.External.{External}
 use Rattle.sys_script_lines.specs.Externals.{external_named}
 use Rattle.sys_script.specs.Externals.{externals_from}

@@ -6,7 +6,7 @@ ghost use Rattle.c_types_table.specs.Tables.{type_at};
 ghost use Rattle.sys_script.specs.Listing.{IsListed};
 ghost use Rattle.sys_script.specs.Externals.{external_in, external_of, kind_range, pieces_of, range_of, result_range};
 
-use annot_reader_cut::Iface;
+use annot_reader::Iface;
 use annot_reader_words::Annots;
 use c_builtins::FIRST_SOURCE_FUNCTION;
 use c_types_program::{Function, TypedProgram};

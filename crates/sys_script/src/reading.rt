@@ -5,7 +5,7 @@ ghost use Rattle.sys_script_lines.specs.Scripts.{IsRead, script_of};
 ghost use Rattle.sys_script.specs.Externals.{external_in};
 
 use crate::externals::externals_of;
-use annot_reader_cut::Iface;
+use annot_reader::Iface;
 use c_types_program::TypedProgram;
 use std::alloc::Global;
 use sys_script_lines::{ScriptError, read_lines};
