@@ -25,9 +25,6 @@ and_true : (a : Bool) → a ≡ (a && true)
 and_true true = refl
 and_true false = refl
 
-pub covers_is : (r : Range) (x : ℕ) → covers (record { addr = r.at; len = r.size }) x ≡ covers r x
-covers_is r x = grind (arith, nat_tests)
-
 any_append : (rs ss : List Range) (x : ℕ) → any_range (rs ++ ss) x ≡ (any_range rs x || any_range ss x)
 any_append [] ss x = refl
 any_append (r ∷ rs) ss x = ap (λ b. covers r x || b) (any_append rs ss x) ∙ or_assoc (covers r x) (any_range rs x) (any_range ss x)

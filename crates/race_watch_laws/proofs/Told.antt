@@ -19,20 +19,20 @@ use Rattle.race_watch.specs.Told.{Told, Accessed, place, knows, learned}
 use Rattle.race_watch.proofs.Last.{last, last_step, last_made}
 use Rattle.race_watch_laws.specs.Told.{read_by, written_by, tell, accesses, happens, told_act, told}
 use Rattle.race_watch_laws.specs.Laws.{IsRunOf}
-use Rattle.race_watch_laws.proofs.Bytes.{covers_is, reads_same, writes_same}
+use Rattle.race_watch_laws.proofs.Bytes.{reads_same, writes_same}
 
 -- accesses change neither places nor what is known
 
 place_tell : (t : ℕ) (write : Bool) (rs : List Range) (past : List Told) (u : ℕ) → place u (tell t write rs past) ≡ place u past
 place_tell t write [] past u = refl
-place_tell t write (r ∷ rs) past u = place_tell t write rs (Accessed t (record { addr = r.at; len = r.size }) write ∷ past) u
+place_tell t write (r ∷ rs) past u = place_tell t write rs (Accessed t r write ∷ past) u
 
 place_accesses : (t : ℕ) (a : Act) (past : List Told) (u : ℕ) → place u (accesses t a past) ≡ place u past
 place_accesses t a past u = place_tell t true (written_by a) (tell t false (read_by a) past) u ∙ place_tell t false (read_by a) past u
 
 knows_tell : (t : ℕ) (write : Bool) (rs : List Range) (past : List Told) (l : Link) (u : ℕ) → knows (tell t write rs past) l u ≡ knows past l u
 knows_tell t write [] past l u = refl
-knows_tell t write (r ∷ rs) past l u = knows_tell t write rs (Accessed t (record { addr = r.at; len = r.size }) write ∷ past) l u
+knows_tell t write (r ∷ rs) past l u = knows_tell t write rs (Accessed t r write ∷ past) l u
 
 knows_accesses : (t : ℕ) (a : Act) (past : List Told) (l : Link) (u : ℕ) → knows (accesses t a past) l u ≡ knows past l u
 knows_accesses t a past l u = knows_tell t true (written_by a) (tell t false (read_by a) past) l u ∙ knows_tell t false (read_by a) past l u
@@ -47,8 +47,8 @@ told_last w write u x t [] past = none (eqb t u) (w || write)
     none true false = refl
     none false b = refl
 told_last w write u x t (r ∷ rs) past =
-    told_last w write u x t rs (Accessed t (record { addr = r.at; len = r.size }) write ∷ past)
-    ∙ ap (cond (eqb t u && ((w || write) && any_range rs x)) (suc (place u past))) (last_step w u x t (record { addr = r.at; len = r.size }) write past ∙ ap (λ c. cond (eqb t u && ((w || write) && c)) (suc (place u past)) (last w u x past)) (covers_is r x))
+    told_last w write u x t rs (Accessed t r write ∷ past)
+    ∙ ap (cond (eqb t u && ((w || write) && any_range rs x)) (suc (place u past))) (last_step w u x t r write past)
     ∙ both (eqb t u) (w || write) (covers r x) (any_range rs x)
   where
     both : (a b c d : Bool) → cond (a && (b && d)) (suc (place u past)) (cond (a && (b && c)) (suc (place u past)) (last w u x past)) ≡ cond (a && (b && (c || d))) (suc (place u past)) (last w u x past)

@@ -65,7 +65,7 @@ written_by (Made e) = written_by_event e.kind
 -- the thread reads, or writes, one range after the other
 abbrev pub tell : ℕ → Bool → List Range → List Told → List Told
 tell t write [] past = past
-tell t write (r ∷ rs) past = tell t write rs (Accessed t (record { addr = r.at; len = r.size }) write ∷
+tell t write (r ∷ rs) past = tell t write rs (Accessed t r write ∷
     past)
 
 -- it reads what the mark reads, then writes what the mark writes
