@@ -18,7 +18,7 @@ In s (x ∷ xs) = (s ≡ x) ⊎ In s xs
 
 -- the least byte of a race with one of those that were seen, and the least thread of it
 pub record IsFirstOf (a : Tested) (seen : List Seen) (addr other : ℕ) : Type 0 where
-  pub covers : IsInRange a.range addr
+  pub in_range : IsInRange a.range addr
   pub by : (s : Seen) × In s seen × (s.thread ≡ other) × Hits a s addr
   pub least : (s : Seen) (x : ℕ) → In s seen → IsInRange a.range x → Hits a s x → (addr ≤ x) ×
       (x ≡ addr → other ≤ s.thread)

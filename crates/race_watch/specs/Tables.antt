@@ -59,7 +59,7 @@ HasEither a seen epochs x u = HasHit a seen x u ⊎ HasEpoch a epochs x u
 
 -- the least byte of the range for which something holds with a thread, and the least thread of those
 pub record IsLeastOf (range : Range) (R : ℕ → ℕ → Type 0) (addr other : ℕ) : Type 0 where
-  pub covers : IsInRange range addr
+  pub in_range : IsInRange range addr
   pub holds : R addr other
   pub least : (x u : ℕ) → IsInRange range x → R x u → (addr ≤ x) × (x ≡ addr → other ≤ u)
 
