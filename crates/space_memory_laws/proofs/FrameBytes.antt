@@ -8,7 +8,7 @@ use Rattle.std.proofs.lemmas.List.{ext_get_or, get_or_append_left, get_or-append
 use Rattle.std.proofs.lemmas.List.FromFn.{length-map-range_with_len, get_or-range_with_len, length-range_with_len}
 use Rattle.marks.specs.Ranges.{bytes_of_number}
 use Rattle.marks.specs.declared.range.Range.{Range}
-use Rattle.memory_map.specs.Ranges.{covers}
+use Rattle.marks.specs.Ranges.{covers}
 use Rattle.c_code.specs.declared.shape.Shape.{Shape}
 use Rattle.c_code.specs.declared.code.FuncInfo.{FuncInfo}
 use Rattle.c_code.specs.Frames.{size_of, param_offsets, param_widths, params_bytes, params_end, frame_bytes}
