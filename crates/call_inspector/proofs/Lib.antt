@@ -1,3 +1,4 @@
 pub mod RowSteps
 pub mod LineSteps
 pub mod DropSteps
+pub mod LiveRows

@@ -1,7 +1,6 @@
 -- Rows without a live byte add nothing.
-use Rattle.std.proofs.Common.{◌≡◌, ◌≤◌, ◌<◌, ◌+◌, ◌-◌, ◌*◌, ◌/◌, ◌%◌, ℕ, zero, suc, Bool, true, false, cond, List, [], ◌++◌, codes, refl, sym, ap, ◌∙◌, append_assoc, arith, inl, inr}
+use Rattle.std.proofs.Common.{◌≡◌, ◌≤◌, ◌+◌, ◌-◌, ◌*◌, ◌/◌, ◌%◌, ℕ, zero, suc, false, cond, List, [], ◌++◌, codes, refl, sym, ap, ◌∙◌, append_assoc, arith}
 use Rattle.space_memory.specs.declared.cell.Cell.{Cell}
-use Rattle.std.proofs.lemmas.Bool.{cases_lt}
 use Rattle.space_memory.specs.Spaces.{SpaceState}
 use Rattle.call_inspector.specs.MemoryText.{row_of, row_text, is_live_row, rows_text, rows_end, rows_from}
 use Rattle.call_inspector.specs.Rows.{NoneLive, IsRow}
@@ -51,13 +50,6 @@ module _ (memory : SpaceState) where
       skip k from aligned (omega arith) (λ x lo hi al. none x lo (omega arith) al)
       ∙ ap (rows_from memory) at
       ∙ no_rows rows_end
-
-  -- one row more without a live byte
-  pub none_more : (from addr : ℕ) → addr % 16 ≡ 0 → is_live_row memory addr ≡ false → NoneLive memory from addr → NoneLive memory from (addr + 16)
-  none_more from addr aligned dead none = λ x lo hi at. elim (cases_lt x addr) [
-    | inl below ↦ none x lo below at
-    | inr above ↦ let same : x ≡ addr = omega arith in ap (is_live_row memory) same ∙ dead
-  ]
 
   -- the text of a row, added to what stands before it
   pub next_rows : (from row : ℕ) (t0 t1 t2 t3 : List ℕ) (cells : List Cell) → from % 16 ≡ 0 → IsRow memory from row → cells ≡ row_of memory row

@@ -1,5 +1,5 @@
 -- The next row that has a live byte.
-use Rattle.std.specs.Prelude.{◌≡◌, ℕ, ◌+◌, ◌<◌, ◌≤◌, ◌%◌, true, false, Option, Some, None}
+use Rattle.std.specs.Prelude.{◌≡◌, ℕ, ◌<◌, ◌≤◌, ◌%◌, true, false, Option, Some, None}
 use Rattle.space_memory.specs.Spaces.{SpaceState}
 use Rattle.call_inspector.specs.MemoryText.{is_live_row, rows_end}
 

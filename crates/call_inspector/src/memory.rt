@@ -1,9 +1,8 @@
 //! The rows of memory.
 
-ghost use Rattle.std.specs.Prelude.{◌≡◌, ◌++◌, ◌≤◌, ◌<◌, ◌%◌, ◌^◌, OnOk, flat_map};
-ghost use Rattle.std.specs.List.{list_any};
+ghost use Rattle.std.specs.Prelude.{◌≡◌, ◌++◌, ◌<◌, ◌%◌, ◌^◌, OnOk, flat_map};
 ghost use Rattle.memory_map.specs.declared.areas.TheConstants.{REPLAY_MEMORY};
-ghost use Rattle.call_inspector.specs.MemoryText.{cell_text, is_live, is_live_row, row_text, rows_end, memory_text};
+ghost use Rattle.call_inspector.specs.MemoryText.{cell_text, row_text, memory_text};
 ghost use Rattle.call_inspector.specs.Rows.{IsNextRow};
 
 use crate::values::{hex_pair, put_bytes};
@@ -44,35 +43,17 @@ fn put_row(text: &mut Vec<u8>, addr: u64, cells: &[Cell]) -> Result<(), AllocErr
     put_cells(text, cells)
 }
 
-/// Whether a byte of the row is live.
-fn has_live(cells: &[Cell]) -> bool
-    ensures { result ≡ list_any is_live cells.now }
-{
-    for cell in cells {
-        match cell {
-            Cell::Dead => {}
-            Cell::Pending => return true,
-            Cell::Byte(_) => return true,
-        }
-    }
-    false
-}
-
 /// The first row above the cut, from an address on, that has a live byte.
 fn next_row(memory: &Spaces, from: u64) -> Option<u64>
-    requires start { REPLAY_MEMORY.addr ≤ from }
-    requires end { from ≤ rows_end }
-    requires aligned { from % 16 ≡ 0 }
+    requires { from % 16 ≡ 0 }
     ensures { IsNextRow memory.now from result }
 {
-    let mut addr = from;
-    while addr < REPLAY_MEMORY.addr + REPLAY_MEMORY.len {
-        if has_live(&memory.cells(addr)) {
-            return Some(addr);
-        }
-        addr += 16;
+    let row = memory.live_row(from)?;
+    if row < REPLAY_MEMORY.addr + REPLAY_MEMORY.len {
+        Some(row)
+    } else {
+        None
     }
-    None
 }
 
 /// Adds a line for each row above the cut that has a live byte.

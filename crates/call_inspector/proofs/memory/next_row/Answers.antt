@@ -1,15 +1,15 @@
-use Rattle.std.proofs.Common.{◌≡◌, false, sym, ap, ◌∙◌, arith}
-use Rattle.std.specs.List.{list_any}
-use Rattle.call_inspector.specs.MemoryText.{is_live, is_live_row}
-use Rattle.call_inspector.proofs.RowSteps.{none_more}
+use Rattle.std.proofs.Common.{ℕ, Option, sym, subst, arith}
+use Rattle.call_inspector.specs.Rows.{IsNextRow}
+use Rattle.call_inspector.proofs.LiveRows.{row_found, none_found, found_beyond}
 use Rattle.call_inspector.proofs.memory.next_row.Goals as goal
 
-pub loop-addr-preserved : goal.loop-addr-preserved
-loop-addr-preserved c =
-    let dead : is_live_row c.args.memory.now c.loop-addr.addr ≡ false = sym (ap (list_any is_live) c.cells.ensures) ∙ sym c.has_live.ensures ∙ c.if-has_live.false in
-    record {
-      from = omega arith;
-      end = omega arith;
-      aligned = omega arith;
-      none = none_more c.args.memory.now c.args.from c.loop-addr.addr c.loop-addr.invariant.aligned dead c.loop-addr.invariant.none;
-    }
+pub returns-in_err-row : goal.returns-in_err-row
+returns-in_err-row c =
+    subst (λ (o : Option ℕ). IsNextRow c.args.memory.now c.args.from o) (sym c.from_residual.ensures)
+    (none_found c.args.memory.now c.args.from c.in_err-row.ensures)
+
+pub returns-then-row : goal.returns-then-row
+returns-then-row c = row_found c.args.memory.now c.args.from c.in_ok-row.row c.if-row.true c.in_ok-row.ensures
+
+pub returns-else-row : goal.returns-else-row
+returns-else-row c = found_beyond c.args.memory.now c.args.from c.in_ok-row.row (omega (arith, c.if-row.false)) c.in_ok-row.ensures
