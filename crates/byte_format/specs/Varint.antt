@@ -1,17 +1,17 @@
 -- Reading numbers in groups of seven bits, the low group first.
-use Rattle.std.specs.Prelude.{◌≡◌, ℕ, zero, suc, ◌+◌, ◌*◌, ◌-◌, ◌^◌, ◌<◌, Bool, true, false, cond, ltb, eqb, ◌&&◌, ◌||◌, not, List, Option, Some, None}
+use Rattle.std.specs.Prelude.{◌≡◌, ℕ, zero, suc, ◌+◌, ◌*◌, ◌-◌, ◌^◌, ◌<◌, Bool, true, false, if◌then◌else◌, ltb, ◌==◌, ◌&&◌, ◌||◌, not, List, Option, Some, None}
 use Rattle.byte_format.specs.Reading.{Reading, Done, Short, ◌>>=◌, coded_at}
 
 -- a group where so many bits are left: the last, which is 0 only where it is the only one, or one with
 -- another after it
 abbrev pub last_from : ℕ → Bool → ℕ → Option ℕ
-last_from bits only b = cond (ltb b (2 ^ bits) && (only || not (eqb b 0))) (Some b) None
+last_from bits only b = if ltb b (2 ^ bits) && (only || not (b == 0)) then Some b else None
 
 abbrev pub inner_from : ℕ → ℕ → Option ℕ
-inner_from bits b = cond (ltb 7 bits && ltb b 256) (Some b) None
+inner_from bits b = if ltb 7 bits && ltb b 256 then Some b else None
 
 abbrev pub group_from : ℕ → Bool → ℕ → Option ℕ
-group_from bits only b = cond (ltb b 128) (last_from bits only b) (inner_from bits b)
+group_from bits only b = if ltb b 128 then last_from bits only b else inner_from bits b
 
 unfoldable pub after : Bool → ℕ → (List ℕ → Reading ℕ) → List ℕ → Reading ℕ
 after true b more bytes = Done (b, bytes)

@@ -1,5 +1,5 @@
 -- What is open in a thread: as its marks say, and as the place says where it stands in the code.
-use Rattle.std.specs.Prelude.{◌≡◌, ◌≢◌, ◌⊎◌, ℕ, ◌+◌, ◌-◌, true, cond, List, [], ◌∷◌, map, drop, Option, Some, None, is_some}
+use Rattle.std.specs.Prelude.{◌≡◌, ◌≢◌, ◌⊎◌, ℕ, ◌+◌, ◌-◌, true, if◌then◌else◌, List, [], ◌∷◌, map, drop, Option, Some, None, is_some}
 use Rattle.marks.specs.declared.side.Side.{Side}
 use Rattle.marks.specs.declared.side.Side.TheVariants.{Replay, System}
 use Rattle.marks.specs.declared.range.Range.{Range}
@@ -38,7 +38,7 @@ nothing = record { above = []; below = []; calls = []; ups = [] }
 -- the marks below the cut
 abbrev pub system_part : List Mark → List Mark
 system_part [] = []
-system_part (m ∷ ms) = cond (same_side m.side System) (m ∷ system_part ms) (system_part ms)
+system_part (m ∷ ms) = if same_side m.side System then m ∷ system_part ms else system_part ms
 
 abbrev pub call_below : OpenCall → CallBelow
 call_below c = record { func = c.func; args = c.args }
@@ -64,7 +64,7 @@ opens_above past = record {
 -- ---- as the place in the code says
 
 abbrev pub added : Side → Side → Range → List Range → List Range
-added side on r rs = cond (same_side on side) (r ∷ rs) rs
+added side on r rs = if same_side on side then r ∷ rs else rs
 
 abbrev pub with_frame : Side → Range → Opens → Opens
 with_frame side r o = record {

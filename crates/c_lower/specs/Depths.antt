@@ -1,5 +1,5 @@
 -- The depth of the evaluation stack in the functions of a program.
-use Rattle.std.specs.Prelude.{ℕ, suc, ◌+◌, Bool, ◌||◌, cond, nat_lt, max, min, List, [], ◌∷◌, slice_index_or, Option, Some, None}
+use Rattle.std.specs.Prelude.{ℕ, suc, ◌+◌, Bool, ◌||◌, if◌then◌else◌, nat_lt, max, min, List, [], ◌∷◌, slice_index_or, Option, Some, None}
 use Rattle.c_builtins.specs.Table.{first_source_function}
 use Rattle.c_code.specs.Valid.{most_values}
 use Rattle.c_types_rules.specs.TypedTree.{Callee, Typed, AnObject, AFunction, AValue, SourceFunction, BuiltinFunction, Through}
@@ -46,8 +46,8 @@ counted_at us place = slice_index_or us place 0
 -- the number of the first such function, where these have the places from one on
 abbrev pub first_wide : Table → (counted : List ℕ) → (place : ℕ) → List Function → Option ℕ
 first_wide t us place [] = None
-first_wide t us place (f ∷ fs) = cond (is_wide t f.body (counted_at us place))
-    (Some (first_source_function + place)) (first_wide t us (suc place) fs)
+first_wide t us place (f ∷ fs) = if is_wide t f.body (counted_at us place)
+    then Some (first_source_function + place) else first_wide t us (suc place) fs
 
 -- so many nodes a source may have
 abbrev pub most_nodes : ℕ

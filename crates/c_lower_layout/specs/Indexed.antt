@@ -1,5 +1,5 @@
 -- What is computed of a program once.
-use Rattle.std.specs.Prelude.{◌≡◌, ℕ, suc, Bool, true, false, cond, eqb, List, [], ◌∷◌, map, nat_eq, Option, Some, None}
+use Rattle.std.specs.Prelude.{◌≡◌, ℕ, suc, Bool, true, false, if◌then◌else◌, ◌==◌, List, [], ◌∷◌, map, nat_eq, Option, Some, None}
 use Rattle.std.specs.Option.{option_map}
 use Rattle.std.specs.HashMap.{HashMap, get}
 use Rattle.std.specs.declared.hash.FoldHasher.{FoldHasher}
@@ -56,7 +56,7 @@ all_offsets p = map (offsets_in p) p.structs
 -- the first place of a number in a list; None where it isn't there
 abbrev pub found : ℕ → List ℕ → Option ℕ
 found q [] = None
-found q (x ∷ xs) = cond (eqb q x) (Some 0) (option_map suc (found q xs))
+found q (x ∷ xs) = if q == x then Some 0 else option_map suc (found q xs)
 
 -- a place for what has none yet
 abbrev pub or_there : Option ℕ → Bool → ℕ → Option ℕ

@@ -1,6 +1,6 @@
 -- The source that a typed program stands for, before it is known where anything lies, and numbers of types
 -- of functions.
-use Rattle.std.specs.Prelude.{ℕ, zero, suc, cond, List, [], ◌∷◌, ◌++◌, map}
+use Rattle.std.specs.Prelude.{ℕ, zero, suc, if◌then◌else◌, List, [], ◌∷◌, ◌++◌, map}
 use Rattle.memory_map.specs.declared.placed.Placed.{Placed}
 use Rattle.c_types_model.specs.Types.{CType}
 use Rattle.c_builtins.specs.Table.{prototype_of, thread_function}
@@ -29,7 +29,7 @@ types_of_functions fs = map (λ f. f.type) fs
 -- the place of the first type that is equal; that after the last where none is
 abbrev pub place_among : CType → List CType → ℕ
 place_among t [] = zero
-place_among t (u ∷ us) = cond (same_type t u) zero (suc (place_among t us))
+place_among t (u ∷ us) = if same_type t u then zero else suc (place_among t us)
 
 -- the number of a type of functions: its place among those types and then those of the source's functions
 unfoldable pub sig_in : Declared → CType → ℕ

@@ -1,5 +1,5 @@
 -- Which conversions have an instruction: those that may change the value which is converted.
-use Rattle.std.specs.Prelude.{eqb, Bool, false, cond, not, ◌&&◌, ◌||◌, Option, Some, None}
+use Rattle.std.specs.Prelude.{◌==◌, Bool, false, if◌then◌else◌, not, ◌&&◌, ◌||◌, Option, Some, None}
 use Rattle.r2_num.specs.declared.kinds.IntKind.{IntKind}
 use Rattle.r2_num.specs.declared.kinds.IntKind.TheVariants.{I32, U64}
 use Rattle.r2_num.specs.Kinds.{width_of}
@@ -14,7 +14,7 @@ use Rattle.c_semantics.specs.Values.{is_read}
 -- has all bits
 -- of a pattern, or all values of the first
 abbrev pub is_within : IntKind → IntKind → Bool
-is_within from to = eqb (width_of to) 64 || represents_all to from
+is_within from to = width_of to == 64 || represents_all to from
 
 -- a value that was converted to the first kind is converted by an instruction to the second
 abbrev pub reconverts : IntKind → IntKind → Bool
@@ -22,7 +22,7 @@ reconverts from to = not (is_within from to)
 
 -- the kind of a scalar type
 abbrev pub scalar_kind : CType → Option IntKind
-scalar_kind t = cond (is_read t) (Some (kind_of t)) None
+scalar_kind t = if is_read t then Some (kind_of t) else None
 
 -- the kind to which all that a value may be is converted already, where its form tells
 abbrev pub sure_kind : Value → Option IntKind
@@ -44,7 +44,7 @@ is_kept None to = false
 
 -- a conversion to the kind may change the value; of a constant it is known
 abbrev pub may_change : IntKind → Value → Bool
-may_change k (Constant j n) = not (eqb (converted k (written n)) (written n))
+may_change k (Constant j n) = not (converted k (written n) == written n)
 may_change k v = not (is_kept (sure_kind v) k)
 
 -- a conversion of the value to the type has an instruction

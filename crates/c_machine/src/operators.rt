@@ -1,6 +1,6 @@
 // What the operators make of values, in words of 64 bits.
 
-ghost use Rattle.std.specs.Prelude.{◌≡◌, ◌-◌, ◌^◌, cond, pos, ◌*ℤ◌, unsigned_abs, int_lt, int_div, int_rem, option_map, Some, None};
+ghost use Rattle.std.specs.Prelude.{◌≡◌, ◌-◌, ◌^◌, if◌then◌else◌, pos, ◌*ℤ◌, unsigned_abs, int_lt, int_div, int_rem, option_map, Some, None};
 ghost use Rattle.std.specs.Int.{int_div_euclid};
 ghost use Rattle.std.specs.Result.{result_ok};
 ghost use Rattle.r2_num.specs.declared.kinds.IntKind.TheVariants.{I64};
@@ -169,7 +169,8 @@ fn remainder(kind: IntKind, a: u64, b: u64) -> Option<u64>
 // The count of a shift at the kind; `None` where it is out of range.
 #[inline(always)]
 fn count_of(kind: IntKind, right: u64) -> Option<u32>
-    ensures { result ≡ cond (shift_fault kind (read I64 right)) None (Some (unsigned_abs (read I64 right))) }
+    ensures { result ≡ (if shift_fault kind (read I64 right) then None
+        else Some (unsigned_abs (read I64 right))) }
 {
     if right < u64::from(kind.width()) {
         Some(right as u32)

@@ -1,6 +1,6 @@
 // How the function of a call begins where its arguments lie.
 
-ghost use Rattle.std.specs.Prelude.{◌≡◌, ◌+◌, ◌<◌, ◌≤◌, ◌&&◌, true, false, not, cond, ◌∷◌, [], length, take, drop, reverse};
+ghost use Rattle.std.specs.Prelude.{◌≡◌, ◌+◌, ◌<◌, ◌≤◌, ◌&&◌, true, false, not, if◌then◌else◌, ◌∷◌, [], length, take, drop, reverse};
 ghost use Rattle.marks.specs.declared.side.Side.TheVariants.{Replay, System};
 ghost use Rattle.c_code.specs.declared.activation.Waiting.TheVariants.{ForUpRet};
 ghost use Rattle.c_code.specs.Valid.{most_values};
@@ -69,8 +69,8 @@ impl Position {
         requires enough { call.args ≤ length (held self.old.values) }
         requires values { length (held self.old.values) + call.args < room_of self.old.values }
         requires waits { length (held self.old.waits.all) < room_of self.old.waits.all }
-        ensures run { config self.new ≡ Entering (cond crosses System call.then.side) (call.indirect &&
-            not crosses) call.func (reverse (take call.args (held self.old.values)))
+        ensures run { config self.new ≡ Entering (if crosses then System else call.then.side)
+            (call.indirect && not crosses) call.func (reverse (take call.args (held self.old.values)))
             (kept crosses (held self.old.values)
             (uncovered call.indirect (drop call.args (held self.old.values)))) (waiting_of crosses call ∷
             held self.old.waits.all) }

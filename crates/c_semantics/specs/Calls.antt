@@ -1,5 +1,5 @@
 -- The marks of calls, by the mode of the caller and the interface of the cut.
-use Rattle.std.specs.Prelude.{ℕ, zero, suc, ◌-◌, ◌/◌, Bool, true, false, ◌&&◌, cond, eqb, leb, ltb, List, [], ◌∷◌, length, Option, Some, None, is_some}
+use Rattle.std.specs.Prelude.{ℕ, zero, suc, ◌-◌, ◌/◌, Bool, true, false, ◌&&◌, if◌then◌else◌, ◌==◌, leb, ltb, List, [], ◌∷◌, length, Option, Some, None, is_some}
 use Rattle.marks.specs.declared.side.Side.{Side}
 use Rattle.marks.specs.declared.side.Side.TheVariants.{Replay, System}
 use Rattle.marks.specs.declared.fault.FaultKind.TheVariants.{BadCall}
@@ -30,9 +30,9 @@ entering s bodies mark_side side i f args go =
 -- a function that is called back above the cut, and the return of its Up
 abbrev pub called_back : Source → Bodies → (func : ℕ) → (args : List ℕ) → (ℕ → Marks) → Marks
 called_back s bodies g args go =
-    cond (is_some (body_of s g) && are_values (param_shapes s g) args)
-    (entering s bodies Replay Replay false g args (λ v. ask Replay (UpReturns g v) (λ x. go v)))
-    wrong
+    if is_some (body_of s g) && are_values (param_shapes s g) args
+    then (entering s bodies Replay Replay false g args (λ v. ask Replay (UpReturns g v) (λ x. go v)))
+    else wrong
 
 -- a builtin or external that makes no event
 abbrev pub stepping : Source → Side → (indirect : Bool) → (func : ℕ) → (args : List ℕ) → (ℕ → Marks) → Marks
@@ -102,14 +102,14 @@ call r s bodies side i f args go = calling r s bodies side (is_face s f) (is_som
 
 abbrev pub call_by_name : Reading → Source → Bodies → Side → (func : ℕ) → (args : List ℕ) → (ℕ → Marks) →
     Marks
-call_by_name r s bodies side f args go = cond (is_pool side f) (pooling f args go)
-    (call r s bodies side false f args go)
+call_by_name r s bodies side f args go = if is_pool side f then pooling f args go
+    else call r s bodies side false f args go
 
 -- the function of the source at an address, if it is of this type
 abbrev pub callee : Source → CType → (address : ℕ) → Option ℕ
 callee s t address =
     let f = (address - function_address 0) / 16 in
-    cond (eqb address (function_address f) && (leb builtin_count f && is_function_of s t f)) (Some f) None
+    (if address == function_address f && (leb builtin_count f && is_function_of s t f) then Some f else None)
 
 abbrev pub to_callee : Reading → Source → Bodies → Side → Option ℕ → (args : List ℕ) → (ℕ → Marks) → Marks
 to_callee r s bodies side (Some f) args go = call r s bodies side true f args go

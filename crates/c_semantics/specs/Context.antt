@@ -1,5 +1,5 @@
 -- What the meaning of code hangs on: the source's declarations, and where its objects lie.
-use Rattle.std.specs.Prelude.{ℕ, suc, ◌-◌, ltb, eqb, Bool, false, cond, List, [], ◌∷◌, ◌++◌, length, map, replicate, Option, Some, None, slice_get}
+use Rattle.std.specs.Prelude.{ℕ, suc, ◌-◌, ltb, ◌==◌, Bool, false, if◌then◌else◌, List, [], ◌∷◌, ◌++◌, length, map, replicate, Option, Some, None, slice_get}
 use Rattle.r2_num.specs.declared.kinds.IntKind.{IntKind}
 use Rattle.r2_num.specs.declared.kinds.IntKind.TheVariants.{U64}
 use Rattle.marks.specs.Places.{builtin_count}
@@ -37,7 +37,7 @@ global_address s place = address_of (slice_get s.placed.globals place)
 -- the place of an offset in a list
 abbrev pub order_of : ℕ → List ℕ → ℕ
 order_of from [] = 0
-order_of from (x ∷ xs) = cond (eqb from x) 0 (suc (order_of from xs))
+order_of from (x ∷ xs) = if from == x then 0 else suc (order_of from xs)
 
 -- where the string that begins at an offset lies
 abbrev pub text_address : Source → (from : ℕ) → ℕ
@@ -87,11 +87,11 @@ kind_of t = U64
 -- ---- functions
 
 abbrev pub source_function : Source → ℕ → Option Function
-source_function s f = cond (ltb f builtin_count) None (slice_get s.program.functions (f - builtin_count))
+source_function s f = if ltb f builtin_count then None else slice_get s.program.functions (f - builtin_count)
 
 abbrev first_numbered : ℕ → List Builtin → Option Builtin
 first_numbered n [] = None
-first_numbered n (b ∷ bs) = cond (eqb n (number_of b)) (Some b) (first_numbered n bs)
+first_numbered n (b ∷ bs) = if n == number_of b then Some b else first_numbered n bs
 
 abbrev pub builtin_of : ℕ → Option Builtin
 builtin_of f = first_numbered f (Malloc ∷ Free ∷ Spawn ∷ Join ∷ Lock ∷ Unlock ∷ Print ∷ [])

@@ -1,5 +1,5 @@
 -- What is said of a list of marks, read from its prefix: each construct is given what follows it.
-use Rattle.std.specs.Prelude.{ℕ, cond, List, [], ◌∷◌, Option, Some, None, Result, Ok, Err}
+use Rattle.std.specs.Prelude.{ℕ, if◌then◌else◌, List, [], ◌∷◌, Option, Some, None, Result, Ok, Err}
 use Rattle.marks.specs.declared.side.Side.{Side}
 use Rattle.marks.specs.declared.fault.FaultKind.{FaultKind}
 use Rattle.marks.specs.Marks.{Mark}
@@ -45,7 +45,7 @@ or_fault side (Err kind) go = fails side kind
 
 -- a value of this type that was answered
 abbrev pub with_value : Shape → (ℕ → Marks) → Answer → Marks
-with_value shape go (Value v) = cond (is_value shape v) (go v) wrong
+with_value shape go (Value v) = if is_value shape v then go v else wrong
 with_value shape go a = wrong
 
 -- any value that was answered
@@ -55,5 +55,5 @@ with_any go a = wrong
 
 -- where a frame lies that was answered
 abbrev pub with_frame : (ℕ → Marks) → Answer → Marks
-with_frame go (Frame base) = cond (is_value Pointer base) (go base) wrong
+with_frame go (Frame base) = if is_value Pointer base then go base else wrong
 with_frame go a = wrong

@@ -1,6 +1,6 @@
 -- The marks of expressions, in the order of evaluation, and their values (C11 6.5). `go` is what follows a
 -- value.
-use Rattle.std.specs.Prelude.{ℕ, ◌+◌, ◌-◌, ◌*◌, ◌%◌, ◌^◌, pos, negsuc, ◌-ℤ◌, Bool, true, false, cond, List, [], ◌∷◌, Option, Some, None, slice_get}
+use Rattle.std.specs.Prelude.{ℕ, ◌+◌, ◌-◌, ◌*◌, ◌%◌, ◌^◌, pos, negsuc, ◌-ℤ◌, Bool, true, false, if◌then◌else◌, List, [], ◌∷◌, Option, Some, None, slice_get}
 use Rattle.r2_num.specs.declared.kinds.IntKind.TheVariants.{I64, U64}
 use Rattle.r2_num.specs.declared.operations.Op.TheVariants.{Div}
 use Rattle.r2_num.specs.Conversions.{wrapped}
@@ -76,7 +76,7 @@ is_read t = false
 
 -- a value that is converted to a scalar type; what has no such type has no value that counts
 abbrev pub converted_to : CType → ℕ → ℕ
-converted_to t n = cond (is_read t) (converted (kind_of t) n) n
+converted_to t n = if is_read t then converted (kind_of t) n else n
 
 abbrev pub width : CType → ℕ
 width t = bytes_of (kind_of t)
@@ -87,7 +87,7 @@ fetch h o t go a = ask h.side (Loads o a (width t)) (with_any (λ v. go (convert
 
 -- a scalar object is loaded; of a struct its address is all
 abbrev pub load : Here → (origin : Option ℕ) → CType → (ℕ → Marks) → ℕ → Marks
-load h o t go a = cond (is_read t) (fetch h o t go a) (go a)
+load h o t go a = if is_read t then fetch h o t go a else go a
 
 -- the low bytes of a value are stored
 abbrev pub store : Here → (origin : Option ℕ) → CType → (at value : ℕ) → Marks → Marks
@@ -108,7 +108,7 @@ abbrev mutual
   origin o = None
 
   pub array_origin : Value → Option ℕ
-  array_origin (AddressOf o t) = cond (decayed (object_type o) t) (origin o) None
+  array_origin (AddressOf o t) = if decayed (object_type o) t then origin o else None
   array_origin v = None
 
 -- the type of the function that a pointer leads to

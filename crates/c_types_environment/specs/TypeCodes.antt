@@ -1,5 +1,5 @@
 -- How the logic stores a type: as a list of steps, by which two stacks make it again.
-use Rattle.std.specs.Prelude.{◌≡◌, ℕ, ◌==◌, cond, List, [], ◌∷◌, drop, refl}
+use Rattle.std.specs.Prelude.{◌≡◌, ℕ, ◌==◌, if◌then◌else◌, List, [], ◌∷◌, drop, refl}
 use Rattle.std.specs.Coded.{Coded, code_by, coded×, coded_ℕ, coded_list}
 use Rattle.std.proofs.Common.{ap, ◌∙◌}
 use Rattle.r2_num.specs.declared.kinds.IntKind.{IntKind}
@@ -20,8 +20,9 @@ number_of I64 = 6
 number_of U64 = 7
 
 abbrev kind_of : ℕ → IntKind
-kind_of n = cond (n == 0) I8 (cond (n == 1) U8
-    (cond (n == 2) I16 (cond (n == 3) U16 (cond (n == 4) I32 (cond (n == 5) U32 (cond (n == 6) I64 U64))))))
+kind_of n = if n == 0 then I8 else if n == 1 then U8
+    else if n == 2 then I16 else if n == 3 then U16 else if n == 4 then I32 else if n == 5 then U32
+    else if n == 6 then I64 else U64
 
 pub kind_of-number_of : (k : IntKind) → kind_of (number_of k) ≡ k
 kind_of-number_of I8 = refl
@@ -64,15 +65,15 @@ abbrev mutual
 abbrev made_by : Steps → List CType → List CTypes → List CType
 made_by [] s l = s
 made_by (k ∷ ks) s l =
-    cond (k.0 == 0) (made_by ks (Void ∷ s) l)
-    (cond (k.0 == 1) (made_by ks (Integer (kind_of (number_in k.1)) ∷ s) l)
-    (cond (k.0 == 2) (made_by ks (StructOf (number_in k.1) ∷ s) l)
-    (cond (k.0 == 3) (made_by ks (UndefinedStruct k.1 ∷ s) l)
-    (cond (k.0 == 4) (made_by ks (PointerTo (top s) ∷ drop 1 s) l)
-    (cond (k.0 == 5) (made_by ks (ArrayOf (number_in k.1) (top s) ∷ drop 1 s) l)
-    (cond (k.0 == 6) (made_by ks s (NoTypes ∷ l))
-    (cond (k.0 == 7) (made_by ks (drop 1 s) (MoreTypes (top s) (top_list l) ∷ drop 1 l))
-    (made_by ks (FunctionOf (top s) (top_list l) ∷ drop 1 s) (drop 1 l)))))))))
+    if k.0 == 0 then made_by ks (Void ∷ s) l
+    else if k.0 == 1 then made_by ks (Integer (kind_of (number_in k.1)) ∷ s) l
+    else if k.0 == 2 then made_by ks (StructOf (number_in k.1) ∷ s) l
+    else if k.0 == 3 then made_by ks (UndefinedStruct k.1 ∷ s) l
+    else if k.0 == 4 then made_by ks (PointerTo (top s) ∷ drop 1 s) l
+    else if k.0 == 5 then made_by ks (ArrayOf (number_in k.1) (top s) ∷ drop 1 s) l
+    else if k.0 == 6 then made_by ks s (NoTypes ∷ l)
+    else if k.0 == 7 then made_by ks (drop 1 s) (MoreTypes (top s) (top_list l) ∷ drop 1 l)
+    else made_by ks (FunctionOf (top s) (top_list l) ∷ drop 1 s) (drop 1 l)
 
 mutual
   type_made : (t : CType) (rest : Steps) (s : List CType) (l : List CTypes) →

@@ -1,6 +1,6 @@
 -- Causal order (Lamport 1978), over any kind of event that is numbered among those with which it has
 -- something in common.
-use Rattle.std.specs.Prelude.{◌≡◌, ◌⊎◌, ℕ, suc, ◌≤◌, Bool, false, ◌&&◌, ◌||◌, cond, eqb, List, [], ◌∷◌}
+use Rattle.std.specs.Prelude.{◌≡◌, ◌⊎◌, ℕ, suc, ◌≤◌, Bool, false, ◌&&◌, ◌||◌, if◌then◌else◌, ◌==◌, List, [], ◌∷◌}
 use Rattle.run_events.specs.Class.{number_of}
 use Rattle.run_events.specs.declared.key.Key.{Key}
 use Rattle.run_events.specs.declared.key.KeyMark.{KeyMark}
@@ -11,7 +11,7 @@ pub data Link : Type 0 where
   OfKey : (key : Key) → Link
 
 abbrev pub same_key : Key → Key → Bool
-same_key j k = eqb (number_of j.class) (number_of k.class) && eqb j.value k.value
+same_key j k = number_of j.class == number_of k.class && j.value == k.value
 
 -- the key is among these
 abbrev pub is_listed : List KeyMark → Key → Bool
@@ -21,7 +21,7 @@ is_listed (q ∷ qs) k = same_key q.key k || is_listed qs k
 -- its ticket there
 abbrev pub ticket_in : List KeyMark → Key → ℕ
 ticket_in [] k = 0
-ticket_in (q ∷ qs) k = cond (same_key q.key k) q.ticket (ticket_in qs k)
+ticket_in (q ∷ qs) k = if same_key q.key k then q.ticket else ticket_in qs k
 
 abbrev pub In : {E : Type 0} → E → List E → Type 0
 In x [] = ⊥

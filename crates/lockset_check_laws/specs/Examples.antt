@@ -1,5 +1,5 @@
 -- Small lists of marks: one in which the guards are kept, and one in which the numbers of marks fall.
-use Rattle.std.specs.Prelude.{◌≡◌, ℕ, ◌<◌, eqb, cond, List, [], ◌∷◌, Option, Some, None, false}
+use Rattle.std.specs.Prelude.{◌≡◌, ℕ, ◌<◌, ◌==◌, if◌then◌else◌, List, [], ◌∷◌, Option, Some, None, false}
 use Rattle.run_events.specs.declared.key.Class.TheVariants.{Mutex}
 use Rattle.run_events.specs.declared.key.KeyMark.{KeyMark}
 use Rattle.marks.specs.declared.side.Side.TheVariants.{Replay, System}
@@ -16,7 +16,7 @@ calls = record { lock = 4; unlock = 5 }
 
 -- the mutex 0 guards the global 7
 abbrev pub guard : ℕ → Option ℕ
-guard o = cond (eqb o 7) (Some 0) None
+guard o = if o == 7 then Some 0 else None
 
 abbrev pub event : ℕ → ℕ → EventKind → List KeyMark → Mark
 event t i kind keys = record {

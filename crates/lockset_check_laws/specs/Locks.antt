@@ -1,5 +1,5 @@
 -- Mutexes, as a look back over marks: who holds one, and what each thread may count on.
-use Rattle.std.specs.Prelude.{ℕ, Bool, false, ◌&&◌, cond, eqb, List, [], ◌∷◌, Option, Some, None}
+use Rattle.std.specs.Prelude.{ℕ, Bool, false, ◌&&◌, if◌then◌else◌, ◌==◌, List, [], ◌∷◌, Option, Some, None}
 use Rattle.marks.specs.declared.side.Side.{Side}
 use Rattle.marks.specs.declared.side.Side.TheVariants.{Replay, System}
 use Rattle.marks.specs.Marks.{EventKind, Call, Ret, Up, UpRet, Alloc, Free, Stop, Act, Turn, Load, Store, Enter, Leave, Step, Fault, Made, Mark}
@@ -21,11 +21,11 @@ pub data Deed : Type 0 where
   Other : Deed
 
 abbrev pub event_deed : LockCalls → EventKind → Deed
-event_deed l (Call func (k ∷ []) ins outs prepared) = cond (eqb func l.unlock) (GivesBack k) Other
+event_deed l (Call func (k ∷ []) ins outs prepared) = if func == l.unlock then GivesBack k else Other
 event_deed l (Call func [] ins outs prepared) = Other
 event_deed l (Call func (j ∷ k ∷ ks) ins outs prepared) = Other
 event_deed l (Ret func (k ∷ []) result same outs commit) =
-    cond (eqb func l.lock) (Takes Replay k) (cond (eqb func l.unlock) (Frees k) Other)
+    if func == l.lock then Takes Replay k else if func == l.unlock then Frees k else Other
 event_deed l (Ret func [] result same outs commit) = Other
 event_deed l (Ret func (j ∷ k ∷ ks) result same outs commit) = Other
 event_deed l (Up func args) = Other
@@ -37,7 +37,7 @@ event_deed l (Stop fault) = Other
 abbrev pub deed : LockCalls → Act → Deed
 deed l (Made e) = event_deed l e.kind
 deed l (Step func (k ∷ []) result ins pieces freed) =
-    cond (eqb func l.lock) (Takes System k) (cond (eqb func l.unlock) (Drops k) Other)
+    if func == l.lock then Takes System k else if func == l.unlock then Drops k else Other
 deed l (Step func [] result ins pieces freed) = Other
 deed l (Step func (j ∷ k ∷ ks) result ins pieces freed) = Other
 deed l Turn = Other
@@ -50,12 +50,12 @@ deed l (Fault kind crosses ins outs access) = Other
 -- a thread's own marks
 abbrev pub own : ℕ → List Mark → List Mark
 own t [] = []
-own t (m ∷ past) = cond (eqb m.thread t) (m ∷ own t past) (own t past)
+own t (m ∷ past) = if m.thread == t then m ∷ own t past else own t past
 
 abbrev pub taken_after : ℕ → Deed → Option Side → Option Side
-taken_after k (Takes side j) s = cond (eqb j k) (Some side) s
-taken_after k (GivesBack j) s = cond (eqb j k) None s
-taken_after k (Drops j) s = cond (eqb j k) None s
+taken_after k (Takes side j) s = if j == k then Some side else s
+taken_after k (GivesBack j) s = if j == k then None else s
+taken_after k (Drops j) s = if j == k then None else s
 taken_after k (Frees j) s = s
 taken_after k Other s = s
 
@@ -66,12 +66,12 @@ taken l k (m ∷ mine) = taken_after k (deed l m.act) (taken l k mine)
 
 abbrev pub is_that : Option ℕ → ℕ → Bool
 is_that None t = false
-is_that (Some u) t = eqb u t
+is_that (Some u) t = u == t
 
 abbrev pub holder_after : ℕ → ℕ → Deed → Option ℕ → Option ℕ
-holder_after k t (Takes side j) h = cond (eqb j k) (Some t) h
-holder_after k t (Frees j) h = cond (eqb j k && is_that h t) None h
-holder_after k t (Drops j) h = cond (eqb j k && is_that h t) None h
+holder_after k t (Takes side j) h = if j == k then Some t else h
+holder_after k t (Frees j) h = if j == k && is_that h t then None else h
+holder_after k t (Drops j) h = if j == k && is_that h t then None else h
 holder_after k t (GivesBack j) h = h
 holder_after k t Other h = h
 

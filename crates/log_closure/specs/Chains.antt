@@ -1,5 +1,5 @@
 -- Causal chains, and counts along an order.
-use Rattle.std.specs.Prelude.{◌≡◌, ℕ, eqb, List, ◌∷◌, ◌++◌}
+use Rattle.std.specs.Prelude.{◌≡◌, ℕ, ◌==◌, List, ◌∷◌, ◌++◌}
 use Rattle.std.specs.List.{count_by}
 use Rattle.causal_order.specs.Order.{is_listed}
 use Rattle.causal_order.specs.Order as order
@@ -13,7 +13,7 @@ IsClock set e = order.IsClock numbered set e.entry.clock e
 
 -- how many of the events are of the thread
 abbrev pub thread_count : ℕ → List LogEvent → ℕ
-thread_count t es = count_by (λ (e : LogEvent). eqb e.name.thread t) es
+thread_count t es = count_by (λ (e : LogEvent). (e.name.thread == t)) es
 
 -- how many of the events have the key
 abbrev pub key_count : Key → List LogEvent → ℕ

@@ -1,5 +1,5 @@
 -- The events of a log: its records, with the names that file order gives them.
-use Rattle.std.specs.Prelude.{◌≡◌, ℕ, Bool, eqb, List, [], ◌∷◌, ◌++◌}
+use Rattle.std.specs.Prelude.{◌≡◌, ℕ, Bool, ◌==◌, List, [], ◌∷◌, ◌++◌}
 use Rattle.std.specs.List.{count_by}
 use Rattle.causal_order.specs.Order.{Link, OfThread, OfKey}
 pub use Rattle.causal_order.specs.Order.{In}
@@ -18,7 +18,7 @@ marks e = e.entry.keys
 
 -- how many of the records are of the thread
 abbrev pub of_thread : ℕ → List Record → ℕ
-of_thread t rs = count_by (λ (r : Record). eqb r.thread t) rs
+of_thread t rs = count_by (λ (r : Record). (r.thread == t)) rs
 
 -- the event of a record that stands after these in the file
 abbrev pub event_of : List Record → Record → LogEvent

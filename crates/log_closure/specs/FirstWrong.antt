@@ -1,5 +1,5 @@
 -- The first wrong event, computed.
-use Rattle.std.specs.Prelude.{ℕ, ◌+◌, Bool, false, ◌||◌, cond, eqb, max, List, [], ◌∷◌, ◌++◌, Option, Some, None}
+use Rattle.std.specs.Prelude.{ℕ, ◌+◌, Bool, false, ◌||◌, if◌then◌else◌, ◌==◌, max, List, [], ◌∷◌, ◌++◌, Option, Some, None}
 use Rattle.run_events.specs.declared.event.EventName.{EventName}
 use Rattle.log_closure.specs.declared.tie.Tie.{Tie}
 use Rattle.log_closure.specs.declared.error.OrderError.{OrderError}
@@ -15,7 +15,7 @@ repeats before (k ∷ ks) = listed before k || repeats (before ++ k ∷ []) ks
 -- the clock of the first event of the file that has the tie
 abbrev pub clock_at : List LogEvent → Tie → Option ℕ
 clock_at [] t = None
-clock_at (e ∷ es) t = cond (listed (ties e) t) (Some e.entry.clock) (clock_at es t)
+clock_at (e ∷ es) t = if listed (ties e) t then Some e.entry.clock else clock_at es t
 
 abbrev pub both : Option ℕ → Option ℕ → Option ℕ
 both None r = None
@@ -29,13 +29,13 @@ greatest at (s ∷ ss) = both (at s) (greatest at ss)
 
 -- what is wrong with the clock, where the greatest before is this one
 abbrev pub clock_wrong : Bool → EventName → ℕ → Option ℕ → Option OrderError
-clock_wrong whole name clock None = cond whole (Some (Missing name)) None
-clock_wrong whole name clock (Some c) = cond (eqb clock (c + 1)) None (Some (Clock name))
+clock_wrong whole name clock None = if whole then Some (Missing name) else None
+clock_wrong whole name clock (Some c) = if clock == (c + 1) then None else Some (Clock name)
 
 -- what is wrong with the event
 abbrev pub wrong : Bool → List LogEvent → List LogEvent → LogEvent → Option OrderError
-wrong whole all before e = cond (repeats (keys_of before) (keys e)) (Some (Twice e.name))
-    (clock_wrong whole e.name e.entry.clock (greatest (clock_at all) (needs (ties e))))
+wrong whole all before e = if repeats (keys_of before) (keys e) then Some (Twice e.name)
+    else clock_wrong whole e.name e.entry.clock (greatest (clock_at all) (needs (ties e)))
 
 abbrev pub or_else : {A : Type 0} → Option A → Option A → Option A
 or_else None r = r
@@ -50,5 +50,5 @@ first_wrong whole all before (e ∷ es) = or_else (wrong whole all before e)
 -- the place of the first event that repeats a key, of those after `before`, which begin at n
 abbrev pub first_twice : ℕ → List LogEvent → List LogEvent → Option ℕ
 first_twice n before [] = None
-first_twice n before (e ∷ es) = cond (repeats (keys_of before) (keys e)) (Some n)
-    (first_twice (n + 1) (before ++ e ∷ []) es)
+first_twice n before (e ∷ es) = if repeats (keys_of before) (keys e) then Some n
+    else first_twice (n + 1) (before ++ e ∷ []) es

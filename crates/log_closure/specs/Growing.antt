@@ -1,5 +1,5 @@
 -- How the closed part grows along events in the order of their clocks.
-use Rattle.std.specs.Prelude.{◌≡◌, ◌↔◌, Bool, true, cond, List, [], ◌∷◌, ◌++◌}
+use Rattle.std.specs.Prelude.{◌≡◌, ◌↔◌, Bool, true, if◌then◌else◌, List, [], ◌∷◌, ◌++◌}
 use Rattle.std.specs.List.{list_all}
 use Rattle.log_closure.specs.Events.{LogEvent, In}
 use Rattle.log_closure.specs.Ties.{listed, ties, ties_of, needs}
@@ -22,7 +22,7 @@ abbrev pub IsGrownPart : List LogEvent → List LogEvent → Type 0
 IsGrownPart all part = ((e : LogEvent) → In e part ↔ IsHeld all e) × Ordered part
 
 abbrev pub grown : List LogEvent → LogEvent → List LogEvent
-grown part e = cond (has_before part e) (part ++ e ∷ []) part
+grown part e = if has_before part e then part ++ e ∷ [] else part
 
 abbrev pub grow : List LogEvent → List LogEvent → List LogEvent
 grow part [] = part

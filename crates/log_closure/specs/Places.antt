@@ -1,5 +1,5 @@
 -- Places of events in a file.
-use Rattle.std.specs.Prelude.{ℕ, ◌+◌, Bool, eqb, map, slice_index_or, List, [], ◌∷◌}
+use Rattle.std.specs.Prelude.{ℕ, ◌+◌, Bool, ◌==◌, map, slice_index_or, List, [], ◌∷◌}
 use Rattle.std.specs.List.{filter}
 use Rattle.std.specs.declared.cmp.Ordering.{Ordering}
 use Rattle.std.specs.Ordering.{nat_cmp, ordering_then}
@@ -41,7 +41,7 @@ abbrev pub part_at : List Record → List LogPlace → Bool → Part
 part_at rs ps whole = record { events = events_at rs ps; whole = whole }
 
 abbrev pub of_place : ℕ → LogPlace → Bool
-of_place t p = eqb p.thread t
+of_place t p = p.thread == t
 
 -- where the events of the thread stand in the file
 abbrev pub thread_places : ℕ → List LogPlace → List ℕ

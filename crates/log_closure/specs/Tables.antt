@@ -1,5 +1,5 @@
 -- What the tables of the check hold.
-use Rattle.std.specs.Prelude.{◌≡◌, ℕ, ◌<◌, cond, ltb, length, slice_index_or, List, Option, Some, None, Result, Ok, Err}
+use Rattle.std.specs.Prelude.{◌≡◌, ℕ, ◌<◌, if◌then◌else◌, ltb, length, slice_index_or, List, Option, Some, None, Result, Ok, Err}
 use Rattle.std.specs.List.{All, slice_get}
 use Rattle.std.specs.BTreeMap.{get}
 use Rattle.std.specs.Global.{Vec}
@@ -42,7 +42,7 @@ row_at rows (Some n) = slice_get rows n
 -- the clock in a row at a ticket, or the one apart where the row has no place for it
 abbrev pub clock_in_row : Option (Vec (Option ℕ)) → ℕ → Option ℕ → Option ℕ
 clock_in_row None n apart = apart
-clock_in_row (Some row) n apart = cond (ltb n (length row.items)) (slice_index_or row.items n None) apart
+clock_in_row (Some row) n apart = if ltb n (length row.items) then slice_index_or row.items n None else apart
 
 -- the rows have no clock
 abbrev pub AreBlank : List (Vec (Option ℕ)) → Type 0

@@ -1,6 +1,6 @@
 -- What ties events to each other: the number of an event in its thread, and the ticket of each of its keys.
 -- Threads have the class 0.
-use Rattle.std.specs.Prelude.{◌-◌, map, Bool, ◌&&◌, cond, eqb, List, [], ◌∷◌}
+use Rattle.std.specs.Prelude.{◌-◌, map, Bool, ◌&&◌, if◌then◌else◌, ◌==◌, List, [], ◌∷◌}
 use Rattle.std.specs.List.{list_any, flat_map}
 use Rattle.run_events.specs.Class.{number_of}
 use Rattle.run_events.specs.declared.key.KeyMark.{KeyMark}
@@ -8,7 +8,7 @@ use Rattle.log_closure.specs.declared.tie.Tie.{Tie}
 use Rattle.log_closure.specs.Events.{LogEvent, marks}
 
 abbrev pub same : Tie → Tie → Bool
-same s t = eqb s.class t.class && (eqb s.value t.value && eqb s.number t.number)
+same s t = s.class == t.class && (s.value == t.value && s.number == t.number)
 
 abbrev pub listed : List Tie → Tie → Bool
 listed ts t = list_any (λ s. same s t) ts
@@ -38,4 +38,4 @@ earlier t = record { class = t.class; value = t.value; number = t.number - 1 }
 -- the ties of the direct predecessors of an event with these ties
 abbrev pub needs : List Tie → List Tie
 needs [] = []
-needs (t ∷ ts) = cond (eqb t.number 0) (needs ts) (earlier t ∷ needs ts)
+needs (t ∷ ts) = if t.number == 0 then needs ts else earlier t ∷ needs ts

@@ -1,6 +1,6 @@
 //! The clocks that the check compares with: those of the events before, by their keys.
 
-ghost use Rattle.std.specs.Prelude.{cond, ◌≡◌, ◌<◌, [], List, Some, None, length, map, is_some, OnOk, IfOk};
+ghost use Rattle.std.specs.Prelude.{if◌then◌else◌, ◌≡◌, ◌<◌, [], List, Some, None, length, map, is_some, OnOk, IfOk};
 ghost use Rattle.log_closure.specs.declared.tie.Tie.{Tie};
 ghost use Rattle.log_closure.specs.Events.{events_of};
 ghost use Rattle.log_closure.specs.Ties.{listed, key_tie, needs};
@@ -31,7 +31,8 @@ fn add(
     requires { length numbers.now ≡ length marks.now }
     ensures clocks { (number : Numbers) → AreApart number → HaveNumbers number marks.now numbers.now →
         OnOk result ((t : Tie) → clock_in number table.new t ≡
-        or_else (clock_in number table.old t) (cond (listed (map key_tie marks.now) t) (Some clock) None)) }
+        or_else (clock_in number table.old t) (if listed (map key_tie marks.now) t then Some clock
+        else None)) }
     ensures repeats { (number : Numbers) → AreApart number → HaveNumbers number marks.now numbers.now →
         (before : List Tie) → ((t : Tie) → 0 < t.class →
         is_some (clock_in number table.old t) ≡ listed before t) →

@@ -1,6 +1,6 @@
 //! The closed part of a log that was cut short grows along the clocks.
 
-ghost use Rattle.std.specs.Prelude.{◌≡◌, ◌<◌, ◌≤◌, ◌++◌, ◌∷◌, ◌||◌, [], ℕ, List, cond, map, length, OnOk, IfOk};
+ghost use Rattle.std.specs.Prelude.{◌≡◌, ◌<◌, ◌≤◌, ◌++◌, ◌∷◌, ◌||◌, [], ℕ, List, if◌then◌else◌, map, length, OnOk, IfOk};
 ghost use Rattle.std.specs.List.{All, list_all};
 ghost use Rattle.std.specs.BTreeSet.{contains};
 ghost use Rattle.run_events.specs.declared.event.Record.{Record};
@@ -54,7 +54,8 @@ impl Grown {
     fn join(&mut self, place: &LogPlace, marks: &[KeyMark]) -> Result<bool, AllocError>
         ensures { (part : List LogEvent) (e : LogEvent) → IsGrown self.old part →
             place.now.thread ≡ e.name.thread → place.now.index ≡ e.name.index → marks.now ≡ e.entry.keys →
-            IfOk result (λ r. (r ≡ has_before part e) × IsGrown self.new (cond r (part ++ e ∷ []) part)) }
+            IfOk result (λ r. (r ≡ has_before part e) × IsGrown self.new (if r then part ++ e ∷ []
+            else part)) }
     {
         let thread = usize::from(place.thread);
         let length = self.lengths[thread];

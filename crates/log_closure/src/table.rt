@@ -1,6 +1,6 @@
 //! The table of the check: which clock belongs to a key with a ticket.
 
-ghost use Rattle.std.specs.Prelude.{cond, ◌≡◌, ◌<◌, Some, None, is_some, vec_len, slice_set, slice_index_or, OnOk, IfOk};
+ghost use Rattle.std.specs.Prelude.{if◌then◌else◌, ◌≡◌, ◌<◌, Some, None, is_some, vec_len, slice_set, slice_index_or, OnOk, IfOk};
 ghost use Rattle.std.specs.BTreeMap.{get};
 ghost use Rattle.log_closure.specs.declared.tie.Tie.{Tie};
 ghost use Rattle.log_closure.specs.Ties.{same};
@@ -37,7 +37,7 @@ fn put_in_row(row: &mut Vec<Option<u32>>, number: usize, clock: u32) -> bool
 /// Puts the clock where none is; true where one is.
 fn put_apart(rest: &mut BTreeMap<Tie, u32>, tie: Tie, clock: u32) -> Result<bool, AllocError>
     ensures clock { OnOk result ((t : Tie) → get tie_cmp rest.new t ≡
-        cond (same tie t) (or_else (get tie_cmp rest.old t) (Some clock)) (get tie_cmp rest.old t)) }
+        (if same tie t then or_else (get tie_cmp rest.old t) (Some clock) else get tie_cmp rest.old t)) }
     ensures there { IfOk result (λ r. r ≡ is_some (get tie_cmp rest.old tie)) }
 {
     if let Some(first) = rest.insert(tie, clock)? {
@@ -70,8 +70,8 @@ impl Table {
     pub fn put(&mut self, key: u32, tie: Tie, clock: u32) -> Result<bool, AllocError>
         ensures clock { (number : Numbers) → AreApart number → number (tie_key tie) ≡ Some key →
             OnOk result ((t : Tie) → clock_in number self.new t ≡
-            cond (same tie t) (or_else (clock_in number self.old t) (Some clock))
-            (clock_in number self.old t)) }
+            (if same tie t then or_else (clock_in number self.old t) (Some clock)
+            else clock_in number self.old t)) }
         ensures there { (number : Numbers) → number (tie_key tie) ≡ Some key →
             IfOk result (λ r. r ≡ is_some (clock_in number self.old tie)) }
     {

@@ -1,5 +1,5 @@
 -- What the clocks keep of the events so far.
-use Rattle.std.specs.Prelude.{◌≡◌, ℕ, suc, ◌<◌, max, cond, List, [], ◌∷◌, length, slice_index}
+use Rattle.std.specs.Prelude.{◌≡◌, ℕ, suc, ◌<◌, max, if◌then◌else◌, List, [], ◌∷◌, length, slice_index}
 use Rattle.run_events.specs.declared.key.Key.{Key}
 use Rattle.run_events.specs.declared.event.Stamp.{Stamp}
 use Rattle.causal_order.specs.Order.{Link, OfThread, OfKey}
@@ -15,7 +15,7 @@ latest last m = max (last (OfThread m.thread)) (greatest_of (λ k. last (OfKey k
 -- the clock of the last event with the link, 0 where there is none
 abbrev pub last_clock : List Occurrence → Link → ℕ
 last_clock [] l = 0
-last_clock (m ∷ past) l = cond (has m l) (suc (latest (last_clock past) m)) (last_clock past l)
+last_clock (m ∷ past) l = if has m l then suc (latest (last_clock past) m) else last_clock past l
 
 -- the clocks are those after these events
 pub record Counts (past : List Occurrence) (c : ClockState) : Type 0 where

@@ -1,6 +1,6 @@
 -- The events of a run, the newest first: how they are numbered by what ties them to each other, and their
 -- clocks and tickets.
-use Rattle.std.specs.Prelude.{◌≡◌, ℕ, suc, Bool, true, false, ◌||◌, cond, eqb, List, [], ◌∷◌, map}
+use Rattle.std.specs.Prelude.{◌≡◌, ℕ, suc, Bool, true, false, ◌||◌, if◌then◌else◌, ◌==◌, List, [], ◌∷◌, map}
 use Rattle.run_events.specs.declared.key.Key.{Key}
 use Rattle.run_events.specs.declared.event.Stamp.{Stamp}
 use Rattle.causal_order.specs.Order.{Link, OfThread, OfKey, same_key, IsClock}
@@ -25,13 +25,13 @@ occurrence thread keys = record { thread = thread; keys = keys }
 
 -- the event is of the thread, or has the key
 abbrev pub has : Occurrence → Link → Bool
-has m (OfThread t) = eqb m.thread t
+has m (OfThread t) = m.thread == t
 has m (OfKey k) = is_among m.keys k
 
 -- how many of the events have the link
 abbrev pub count : Link → List Occurrence → ℕ
 count l [] = 0
-count l (m ∷ past) = cond (has m l) (suc (count l past)) (count l past)
+count l (m ∷ past) = if has m l then suc (count l past) else count l past
 
 -- each event as its history: itself, and the events before it
 abbrev pub histories : List Occurrence → List (List Occurrence)

@@ -1,5 +1,5 @@
 -- The numbers of keys, and what is kept of each key.
-use Rattle.std.specs.Prelude.{◌≡◌, ℕ, ◌+◌, ◌<◌, Bool, cond, List, Option, Some, None, get_or, length}
+use Rattle.std.specs.Prelude.{◌≡◌, ℕ, ◌+◌, ◌<◌, Bool, if◌then◌else◌, List, Option, Some, None, get_or, length}
 use Rattle.std.specs.List.{AllZip}
 use Rattle.std.specs.BTreeMap.{get, is_at}
 use Rattle.std.specs.Map.{lookup}
@@ -63,7 +63,7 @@ one_more clock c = record { events = c.events + 1; clock = clock }
 
 -- the same of a key, which the event has or not
 abbrev pub after : Bool → ℕ → Counted → Counted
-after has clock c = cond has (one_more clock c) c
+after has clock c = if has then one_more clock c else c
 
 -- what is kept after one event more, which has these keys
 abbrev pub AreCounted : Keys → Keys → List Key → ℕ → Type 0

@@ -1,5 +1,5 @@
 -- Which bytes a mark reads and writes, what it leaves of a byte, and what it asks of memory.
-use Rattle.std.specs.Prelude.{◌≡◌, ℕ, suc, ◌+◌, Bool, true, false, ◌&&◌, ◌||◌, not, cond, eqb, ltb, List, [], ◌∷◌, ◌++◌, length}
+use Rattle.std.specs.Prelude.{◌≡◌, ℕ, suc, ◌+◌, Bool, true, false, ◌&&◌, ◌||◌, not, if◌then◌else◌, ◌==◌, ltb, List, [], ◌∷◌, ◌++◌, length}
 use Rattle.marks.specs.declared.range.Range.{Range}
 use Rattle.marks.specs.Ranges.{Piece, within, covers, any_range, any_piece, any_prepared, byte_at}
 use Rattle.marks.specs.declared.fault.FaultKind.{FaultKind}
@@ -28,7 +28,7 @@ IsHeld _ = ⊥
 
 -- an Alloc that gives 0 has no block
 abbrev pub granted : ℕ → ℕ → ℕ
-granted at size = cond (eqb at 0) 0 size
+granted at size = if at == 0 then 0 else size
 
 abbrev pub event_reads : EventKind → ℕ → Bool
 event_reads (Call func args ins outs prepared) x = any_piece ins x
@@ -83,7 +83,7 @@ late _ = false
 
 -- how many events of its thread come before a mark's accesses
 abbrev pub place : Mark → ℕ
-place m = cond (late m.act) (suc m.index) m.index
+place m = if late m.act then suc m.index else m.index
 
 -- a live byte becomes pending
 abbrev pub hold : Cell → Cell
@@ -97,32 +97,33 @@ release c = c
 
 -- what a piece leaves of a byte of its range
 abbrev pub give : Piece → ℕ → Cell → Cell
-give p x c = cond (ltb x (p.range.addr + length p.bytes)) (Live (byte_at p.range.addr p.bytes x))
-    (release c)
+give p x c = if ltb x (p.range.addr + length p.bytes) then Live (byte_at p.range.addr p.bytes x)
+    else release c
 
 abbrev pub give_any : List Piece → ℕ → Cell → Cell
 give_any [] x c = c
-give_any (p ∷ ps) x c = cond (covers p.range x) (give p x c) (give_any ps x c)
+give_any (p ∷ ps) x c = if covers p.range x then give p x c else give_any ps x c
 
 abbrev pub event_leaves : EventKind → ℕ → Cell → Cell
 event_leaves (Call func args ins outs prepared) x c =
-    cond (any_range outs x || any_prepared prepared x) (hold c) c
+    if any_range outs x || any_prepared prepared x then hold c else c
 event_leaves (Ret func args result same outs commit) x c = give_any (outs ++ released commit) x c
-event_leaves (Alloc at size) x c = cond (within at (granted at size) x) (Live 0) c
-event_leaves (Free at size) x c = cond (within at size x) Dead c
+event_leaves (Alloc at size) x c = if within at (granted at size) x then Live 0 else c
+event_leaves (Free at size) x c = if within at size x then Dead else c
 event_leaves _ x c = c
 
 abbrev pub cell_after : Act → ℕ → Cell → Cell
-cell_after (Store origin at bytes) x c = cond (within at (length bytes) x) (Live (byte_at at bytes x)) c
-cell_after (Enter func args at bytes) x c = cond (within at (length bytes) x) (Live (byte_at at bytes x)) c
-cell_after (Leave at size) x c = cond (within at size x) Dead c
+cell_after (Store origin at bytes) x c = if within at (length bytes) x then Live (byte_at at bytes x) else c
+cell_after (Enter func args at bytes) x c = if within at (length bytes) x then Live (byte_at at bytes x)
+    else c
+cell_after (Leave at size) x c = if within at size x then Dead else c
 cell_after (Made e) x c = event_leaves e.kind x c
 cell_after _ x c = c
 
 -- a block begins where an Alloc puts it, until a Free of its bytes
 abbrev pub event_block : EventKind → ℕ → ℕ → ℕ
-event_block (Alloc at size) x n = cond (within at (granted at size) x) (cond (eqb x at) size 0) n
-event_block (Free at size) x n = cond (within at size x) 0 n
+event_block (Alloc at size) x n = if within at (granted at size) x then (if x == at then size else 0) else n
+event_block (Free at size) x n = if within at size x then 0 else n
 event_block _ x n = n
 
 abbrev pub block_after : Act → ℕ → ℕ → ℕ

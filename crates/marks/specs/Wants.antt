@@ -1,5 +1,5 @@
 -- What a thread's code may want to do next, and which mark answers it.
-use Rattle.std.specs.Prelude.{ℕ, Bool, true, false, ◌&&◌, ◌||◌, not, cond, eqb, List, [], ◌∷◌, length, Option, Some, None}
+use Rattle.std.specs.Prelude.{ℕ, Bool, true, false, ◌&&◌, ◌||◌, not, if◌then◌else◌, ◌==◌, List, [], ◌∷◌, length, Option, Some, None}
 use Rattle.marks.specs.declared.range.Range.{Range}
 use Rattle.marks.specs.Ranges.{range, are_bytes, number_of_bytes}
 use Rattle.marks.specs.declared.fault.FaultKind.{FaultKind}
@@ -40,16 +40,16 @@ pub data Answer : Type 0 where
 
 abbrev pub same_numbers : List ℕ → List ℕ → Bool
 same_numbers [] [] = true
-same_numbers (x ∷ xs) (y ∷ ys) = eqb x y && same_numbers xs ys
+same_numbers (x ∷ xs) (y ∷ ys) = x == y && same_numbers xs ys
 same_numbers _ _ = false
 
 abbrev pub same_origin : Option ℕ → Option ℕ → Bool
 same_origin None None = true
-same_origin (Some x) (Some y) = eqb x y
+same_origin (Some x) (Some y) = x == y
 same_origin _ _ = false
 
 abbrev pub same_kind : FaultKind → FaultKind → Bool
-same_kind k l = eqb (fault_number k) (fault_number l)
+same_kind k l = fault_number k == fault_number l
 
 abbrev pub no_ranges : List Range → Bool
 no_ranges [] = true
@@ -57,9 +57,9 @@ no_ranges _ = false
 
 abbrev pub same_access : Access → Access → Bool
 same_access Nowhere Nowhere = true
-same_access (Reading r) (Reading q) = eqb r.addr q.addr && eqb r.len q.len
-same_access (Writing r) (Writing q) = eqb r.addr q.addr && eqb r.len q.len
-same_access (Freeing at) (Freeing x) = eqb at x
+same_access (Reading r) (Reading q) = r.addr == q.addr && r.len == q.len
+same_access (Writing r) (Writing q) = r.addr == q.addr && r.len == q.len
+same_access (Freeing at) (Freeing x) = at == x
 same_access _ _ = false
 
 -- the fault that stops one access, or none, of code that crosses nothing
@@ -75,51 +75,51 @@ is_fault_at_byte crossing (Fault k crosses ins outs a) = (same_kind k NotLive ||
 is_fault_at_byte crossing _ = false
 
 abbrev pub answer_if : Bool → Answer → Option Answer
-answer_if b a = cond b (Some a) None
+answer_if b a = if b then Some a else None
 
 abbrev pub stopped_if : Bool → Option Answer
 stopped_if b = answer_if b Stopped
 
 abbrev pub event_answer : Want → EventKind → Option Answer
 event_answer Outside (Up g bs) = Some (CalledBack g bs)
-event_answer (Allocs n) (Alloc at size) = answer_if (eqb size n) (Value at)
-event_answer (Frees at) (Free x size) = answer_if (eqb x at) Go
-event_answer (Calls i f args) (Call g bs ins outs prepared) = answer_if (eqb g f && same_numbers bs args) Go
+event_answer (Allocs n) (Alloc at size) = answer_if (size == n) (Value at)
+event_answer (Frees at) (Free x size) = answer_if (x == at) Go
+event_answer (Calls i f args) (Call g bs ins outs prepared) = answer_if (g == f && same_numbers bs args) Go
 event_answer (Below f args) (Ret g bs v same outs commit) =
-    answer_if (eqb g f && same_numbers bs args) (Value v)
+    answer_if (g == f && same_numbers bs args) (Value v)
 event_answer (Below f args) (Up g bs) = Some (CalledBack g bs)
 event_answer (Gives f args) (Ret g bs v same outs commit) =
-    answer_if (eqb g f && same_numbers bs args) (Value v)
+    answer_if (g == f && same_numbers bs args) (Value v)
 event_answer (Returns f args v) (Ret g bs w same outs commit) =
-    answer_if (eqb g f && (same_numbers bs args && eqb w v)) Go
+    answer_if (g == f && (same_numbers bs args && w == v)) Go
 event_answer (CallsBack f args bytes) (Up g bs) =
-    answer_if (eqb g f && same_numbers bs args) (CalledBack f args)
-event_answer (UpReturns f v) (UpRet g w) = answer_if (eqb g f && eqb w v) Go
+    answer_if (g == f && same_numbers bs args) (CalledBack f args)
+event_answer (UpReturns f v) (UpRet g w) = answer_if (g == f && w == v) Go
 event_answer _ _ = None
 
 -- what the mark answers; none where it doesn't answer what is wanted
 unfoldable pub answer_to : Want → Act → Option Answer
 answer_to want (Made e) = event_answer want e.kind
 answer_to Turns Turn = Some Go
-answer_to (Loads o at n) (Load p x bytes) = answer_if ((same_origin p o && eqb x at) &&
-    (eqb (length bytes) n && are_bytes bytes)) (Value (number_of_bytes bytes))
+answer_to (Loads o at n) (Load p x bytes) = answer_if ((same_origin p o && x == at) &&
+    (length bytes == n && are_bytes bytes)) (Value (number_of_bytes bytes))
 answer_to (Loads o at n) act = stopped_if (is_fault_of NotLive (Reading (range at n)) act)
 answer_to (Stores o at bytes) (Store p x bs) =
-    answer_if (same_origin p o && (eqb x at && same_numbers bs bytes)) Go
+    answer_if (same_origin p o && (x == at && same_numbers bs bytes)) Go
 answer_to (Stores o at bytes) act = stopped_if
     (is_fault_of NotLive (Writing (range at (length bytes))) act ||
     is_fault_of ReadOnly (Writing (range at (length bytes))) act)
 answer_to (Enters i f args bytes) (Enter g bs at b) =
-    answer_if (eqb g f && (same_numbers bs args && same_numbers b bytes)) (Frame at)
+    answer_if (g == f && (same_numbers bs args && same_numbers b bytes)) (Frame at)
 answer_to (Enters i f args bytes) act = stopped_if (is_fault_of StackFull Nowhere act)
-answer_to (Leaves at n) (Leave x size) = answer_if (eqb x at && eqb size n) Go
-answer_to (Frees at) act = stopped_if (not (eqb at 0) && is_fault_of NotLive (Freeing at) act)
+answer_to (Leaves at n) (Leave x size) = answer_if (x == at && size == n) Go
+answer_to (Frees at) act = stopped_if (not (at == 0) && is_fault_of NotLive (Freeing at) act)
 answer_to (Calls i f args) act = stopped_if (is_fault_at_byte true act)
 answer_to (CallsBack f args bytes) (Enter g bs at b) =
-    answer_if (eqb g f && (same_numbers bs args && same_numbers b bytes)) (Frame at)
+    answer_if (g == f && (same_numbers bs args && same_numbers b bytes)) (Frame at)
 answer_to (CallsBack f args bytes) act = stopped_if (is_fault_of StackFull Nowhere act)
 answer_to (Steps i f args) (Step g bs v ins pieces freed) =
-    answer_if (eqb g f && same_numbers bs args) (Value v)
+    answer_if (g == f && same_numbers bs args) (Value v)
 answer_to (Steps i f args) act = stopped_if (is_fault_at_byte false act)
 answer_to (Fails kind) act = stopped_if (is_fault_of kind Nowhere act)
 answer_to _ _ = None

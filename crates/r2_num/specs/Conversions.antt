@@ -1,5 +1,5 @@
 -- What becomes of a value that is converted to a kind, and to which kind operands are converted.
-use Rattle.std.specs.Prelude.{ℕ, ◌^◌, Bool, cond, ◌&&◌, ℤ, pos, ◌+ℤ◌, ◌-ℤ◌, int_le, nat_le, unsigned_abs}
+use Rattle.std.specs.Prelude.{ℕ, ◌^◌, Bool, if◌then◌else◌, ◌&&◌, ℤ, pos, ◌+ℤ◌, ◌-ℤ◌, int_le, nat_le, unsigned_abs}
 use Rattle.std.specs.Int.{int_rem_euclid}
 use Rattle.r2_num.specs.declared.kinds.IntKind.{IntKind}
 use Rattle.r2_num.specs.declared.kinds.IntKind.TheVariants.{I8, U8, I16, U16, I32, U32, I64, U64}
@@ -31,7 +31,7 @@ represents_all a b = int_le (least a) (least b) && int_le (greatest b) (greatest
 -- the integer promotions (C11 6.3.1.1, 2): a kind whose rank is not above that of int becomes int
 -- where int can represent all its values, else unsigned int; every other kind stays
 abbrev pub promoted : IntKind → IntKind
-promoted k = cond (nat_le (rank k) (rank I32)) (cond (represents_all I32 k) I32 U32) k
+promoted k = if nat_le (rank k) (rank I32) then (if represents_all I32 k then I32 else U32) else k
 
 -- the unsigned kind that corresponds to a kind (C11 6.2.5, 6)
 abbrev pub unsigned_like : IntKind → IntKind
@@ -49,15 +49,15 @@ unsigned_like U64 = U64
 -- rank is not below; else the signed kind where it can represent all values of the unsigned one; else its
 -- unsigned kind
 abbrev pub common_mixed : IntKind → IntKind → IntKind
-common_mixed s u = cond (nat_le (rank s) (rank u)) u (cond (represents_all s u) s (unsigned_like s))
+common_mixed s u = if nat_le (rank s) (rank u) then u else if represents_all s u then s else unsigned_like s
 
 -- the common kind of two promoted operands (C11 6.3.1.8, 1): of two kinds of one sign, the one of greater
 -- rank
 abbrev pub common_promoted : IntKind → IntKind → IntKind
 common_promoted a b =
-    cond (signed a)
-    (cond (signed b) (cond (nat_le (rank a) (rank b)) b a) (common_mixed a b))
-    (cond (signed b) (common_mixed b a) (cond (nat_le (rank a) (rank b)) b a))
+    if signed a
+    then (if signed b then (if nat_le (rank a) (rank b) then b else a) else common_mixed a b)
+    else if signed b then common_mixed b a else if nat_le (rank a) (rank b) then b else a
 
 -- the usual arithmetic conversions (C11 6.3.1.8)
 abbrev pub common_of : IntKind → IntKind → IntKind

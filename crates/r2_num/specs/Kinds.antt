@@ -1,5 +1,5 @@
 -- The integer kinds: width, sign and range.
-use Rattle.std.specs.Prelude.{ℕ, ◌-◌, ◌^◌, Bool, true, false, cond, ℤ, pos, neg_ℤ, ◌≤ℤ◌}
+use Rattle.std.specs.Prelude.{ℕ, ◌-◌, ◌^◌, Bool, true, false, if◌then◌else◌, ℤ, pos, neg_ℤ, ◌≤ℤ◌}
 use Rattle.r2_num.specs.declared.kinds.IntKind.{IntKind}
 use Rattle.r2_num.specs.declared.kinds.IntKind.TheVariants.{I8, U8, I16, U16, I32, U32, I64, U64}
 
@@ -28,11 +28,11 @@ signed U64 = false
 -- the least value of a kind: of w bits in two's complement, -2^(w-1), or 0 of an unsigned kind (C11
 -- 6.2.6.2)
 abbrev pub least : IntKind → ℤ
-least k = cond (signed k) (neg_ℤ (pos (2 ^ (width_of k - 1)))) (pos 0)
+least k = if signed k then neg_ℤ (pos (2 ^ (width_of k - 1))) else pos 0
 
 -- the greatest value of a kind: 2^(w-1) - 1, or 2^w - 1 of an unsigned kind (C11 6.2.6.2)
 abbrev pub greatest : IntKind → ℤ
-greatest k = cond (signed k) (pos (2 ^ (width_of k - 1) - 1)) (pos (2 ^ width_of k - 1))
+greatest k = if signed k then pos (2 ^ (width_of k - 1) - 1) else pos (2 ^ width_of k - 1)
 
 -- v is a value of the kind
 abbrev pub IsValue : IntKind → ℤ → Type 0

@@ -1,5 +1,5 @@
 -- The operators on two values of one kind, exactly.
-use Rattle.std.specs.Prelude.{◌≡◌, ◌^◌, Bool, true, false, cond, ◌&&◌, ◌||◌, not, ◌⊎◌, ℤ, pos, negsuc, ◌+ℤ◌, ◌-ℤ◌, ◌*ℤ◌, ◌≤ℤ◌, ◌<ℤ◌, int_lt, int_le, int_div, int_rem, unsigned_abs, bit_and, bit_or, bit_xor, Option, Some, None, Result, Ok, Err}
+use Rattle.std.specs.Prelude.{◌≡◌, ◌^◌, Bool, true, false, if◌then◌else◌, ◌&&◌, ◌||◌, not, ◌⊎◌, ℤ, pos, negsuc, ◌+ℤ◌, ◌-ℤ◌, ◌*ℤ◌, ◌≤ℤ◌, ◌<ℤ◌, int_lt, int_le, int_div, int_rem, unsigned_abs, bit_and, bit_or, bit_xor, Option, Some, None, Result, Ok, Err}
 use Rattle.std.specs.Int.{int_div_euclid}
 use Rattle.r2_num.specs.declared.kinds.IntKind.{IntKind}
 use Rattle.r2_num.specs.declared.operations.Op.{Op}
@@ -67,10 +67,10 @@ shift_fault k b = int_lt b (pos 0) || int_le (pos (width_of k)) b
 
 -- why an operator has no result
 abbrev pub fault_of : Op → IntKind → ℤ → ℤ → Option Arith
-fault_of Div k a b = cond (divide_fault k a b) (Some Divide) None
-fault_of Rem k a b = cond (divide_fault k a b) (Some Divide) None
-fault_of Shl k a b = cond (shift_fault k b) (Some Shift) None
-fault_of Shr k a b = cond (shift_fault k b) (Some Shift) None
+fault_of Div k a b = if divide_fault k a b then Some Divide else None
+fault_of Rem k a b = if divide_fault k a b then Some Divide else None
+fault_of Shl k a b = if shift_fault k b then Some Shift else None
+fault_of Shr k a b = if shift_fault k b then Some Shift else None
 fault_of op k a b = None
 
 -- v, unless there is a reason against it

@@ -1,5 +1,5 @@
 -- Which bytes have cells.
-use Rattle.std.specs.Prelude.{◌≡◌, ℕ, ◌+◌, ◌-◌, ◌*◌, ◌<◌, ◌≤◌, Bool, ◌&&◌, nat_le, nat_lt, cond, Option, Some, None, MatchOption}
+use Rattle.std.specs.Prelude.{◌≡◌, ℕ, ◌+◌, ◌-◌, ◌*◌, ◌<◌, ◌≤◌, Bool, ◌&&◌, nat_le, nat_lt, if◌then◌else◌, Option, Some, None, MatchOption}
 use Rattle.marks.specs.declared.range.Range.{Range}
 use Rattle.marks.specs.Ranges.{IsInRange}
 use Rattle.race_watch.specs.declared.bytes.Bytes.{Bytes}
@@ -7,13 +7,13 @@ use Rattle.race_watch.specs.declared.bytes.Bytes.{Bytes}
 -- the byte's number among those of the areas of replay code, of which each follows the one before
 abbrev pub cell_of : ℕ → Option ℕ
 cell_of x =
-    cond (nat_le 0x10000000 x && nat_lt x 0x10100000) (Some (x - 0x10000000))
-    (cond (nat_le 0x20000000 x && nat_lt x 0x20200000) (Some (x - 0x20000000 + 0x100000))
-    (cond (nat_le 0x30000000 x && nat_lt x 0x30100000) (Some (x - 0x30000000 + 0x300000)) None))
+    if nat_le 0x10000000 x && nat_lt x 0x10100000 then Some (x - 0x10000000)
+    else if nat_le 0x20000000 x && nat_lt x 0x20200000 then Some (x - 0x20000000 + 0x100000)
+    else if nat_le 0x30000000 x && nat_lt x 0x30100000 then Some (x - 0x30000000 + 0x300000) else None
 
 -- before the first of a thread's cells, for its writes alone or for all its accesses
 abbrev pub base_of : ℕ → Bool → ℕ
-base_of t touched = (t * 2 + cond touched 1 0) * 0x400000
+base_of t touched = (t * 2 + (if touched then 1 else 0)) * 0x400000
 
 -- bytes whose cells follow each other
 pub record IsPart (b : Bytes) : Type 0 where

@@ -1,5 +1,5 @@
 -- Where an access races with one that was seen.
-use Rattle.std.specs.Prelude.{◌≡◌, ◌≢◌, ℕ, ◌≤◌, true, false, ◌||◌, ◌&&◌, ltb, eqb, cond, ◌⊎◌, List, [], ◌∷◌, Option, Some, None, slice_index, MatchOption}
+use Rattle.std.specs.Prelude.{◌≡◌, ◌≢◌, ℕ, ◌≤◌, true, false, ◌||◌, ◌&&◌, ltb, ◌==◌, if◌then◌else◌, ◌⊎◌, List, [], ◌∷◌, Option, Some, None, slice_index, MatchOption}
 use Rattle.marks.specs.Places.{is_constant}
 use Rattle.marks.specs.Ranges.{IsInRange}
 use Rattle.race_watch.specs.declared.seen.Seen.{Seen}
@@ -32,4 +32,4 @@ IsFirstHit a seen result = MatchOption result ((s : Seen) (x : ℕ) → In s see
 abbrev pub earlier : Option (ℕ × ℕ) → Option ℕ → ℕ → Option (ℕ × ℕ)
 earlier best None u = best
 earlier None (Some x) u = Some (x, u)
-earlier (Some p) (Some x) u = cond (ltb x p.0 || (eqb x p.0 && ltb u p.1)) (Some (x, u)) (Some p)
+earlier (Some p) (Some x) u = if ltb x p.0 || (x == p.0 && ltb u p.1) then Some (x, u) else Some p

@@ -1,5 +1,5 @@
 -- Rows of what is known, by key.
-use Rattle.std.specs.Prelude.{◌≡◌, ℕ, ◌<◌, max, cond, List, [], ◌∷◌, Some, IsSome, get_or, slice_index, length, unwrap_or}
+use Rattle.std.specs.Prelude.{◌≡◌, ℕ, ◌<◌, max, if◌then◌else◌, List, [], ◌∷◌, Some, IsSome, get_or, slice_index, length, unwrap_or}
 use Rattle.run_events.specs.declared.key.Key.{Key}
 use Rattle.std.specs.BTreeMap.{BTreeMap, get, is_at}
 use Rattle.std.specs.Map.{lookup}
@@ -42,7 +42,7 @@ Keeps old new = (q : KeyName) → IsSome (get key_cmp old q) → IsSome (get key
 -- the row of one key is written
 abbrev pub IsWritten : BTreeMap KeyName (List ℕ) → BTreeMap KeyName (List ℕ) → KeyName → List ℕ → Type 0
 IsWritten old new key row = (q : KeyName) → get key_cmp new q ≡
-    cond (is_at (key_cmp key) q) (Some row) (get key_cmp old q)
+    (if is_at (key_cmp key) q then Some row else get key_cmp old q)
 
 -- each of the keys passes
 abbrev pub Each : (Key → Type 0) → List Key → Type 0

@@ -1,5 +1,5 @@
 -- What a watch keeps of what it was told.
-use Rattle.std.specs.Prelude.{◌≡◌, ◌≢◌, ℕ, ◌+◌, ◌<◌, ◌≤◌, ◌^◌, Bool, true, false, ◌||◌, cond, ◌⊎◌, List, [], ◌∷◌, length, get_or, slice_index, Result, Err}
+use Rattle.std.specs.Prelude.{◌≡◌, ◌≢◌, ℕ, ◌+◌, ◌<◌, ◌≤◌, ◌^◌, Bool, true, false, ◌||◌, if◌then◌else◌, ◌⊎◌, List, [], ◌∷◌, length, get_or, slice_index, Result, Err}
 use Rattle.std.specs.List.{All}
 use Rattle.run_events.specs.declared.key.Key.{Key}
 use Rattle.marks.specs.declared.range.Range.{Range}
@@ -37,9 +37,10 @@ event_count (Happened m ∷ past) = event_count past + 1
 -- with reads too, or with writes alone
 pub record IsLastSeen (seen : List Seen) (epochs : Bool → ℕ → ℕ → ℕ) (past : List Told) : Type 0 where
   pub sound : (s : Seen) (write : Bool) (x : ℕ) → In s seen → (write || s.write) ≡ true →
-      covers s.range x ≡ true → s.place < cond write (touched s.thread x past) (wrote s.thread x past)
-  pub below : (write : Bool) (u x : ℕ) → epochs write u x ≤ cond write (touched u x past) (wrote u x past)
-  pub complete : (write : Bool) (u x n : ℕ) → n < cond write (touched u x past) (wrote u x past) →
+      covers s.range x ≡ true → s.place < (if write then touched s.thread x past else wrote s.thread x past)
+  pub below : (write : Bool) (u x : ℕ) → epochs write u x ≤ (if write then touched u x past
+      else wrote u x past)
+  pub complete : (write : Bool) (u x n : ℕ) → n < (if write then touched u x past else wrote u x past) →
       Found seen write u x n ⊎ (n < epochs write u x)
 
 -- the watch was told this
@@ -54,8 +55,8 @@ pub record Stands (past : List Told) (w : WatchState) : Type 0 where
 -- what a thread accessed since its last event no other thread accesses unknown to it
 abbrev pub IsQuiet : List Told → Type 0
 IsQuiet past = (write : Bool) (t u x : ℕ) → u ≢ t → is_constant x ≡ false → x < 2 ^ 64 →
-    place t past < cond write (wrote t x past) (touched t x past) →
-    cond write (touched u x past) (wrote u x past) ≤ knows past (OfThread t) u
+    place t past < (if write then wrote t x past else touched t x past) →
+    (if write then touched u x past else wrote u x past) ≤ knows past (OfThread t) u
 
 -- something leads to this, with at most 32 threads
 pub record Reached (w : WatchState) : Type 0 where

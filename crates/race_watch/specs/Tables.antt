@@ -1,5 +1,5 @@
 -- What tables keep.
-use Rattle.std.specs.Prelude.{◌≡◌, ◌≢◌, ◌⊎◌, nat_le, ℕ, ◌+◌, ◌*◌, ◌<◌, ◌≤◌, Bool, ◌||◌, ◌&&◌, nat_lt, eqb, cond, suc, slice_index, map, List, Option, Some, None, MatchOption}
+use Rattle.std.specs.Prelude.{◌≡◌, ◌≢◌, ◌⊎◌, nat_le, ℕ, ◌+◌, ◌*◌, ◌<◌, ◌≤◌, Bool, ◌||◌, ◌&&◌, nat_lt, ◌==◌, if◌then◌else◌, suc, slice_index, map, List, Option, Some, None, MatchOption}
 use Rattle.std.specs.List.{range_with_len}
 use Rattle.marks.specs.declared.range.Range.{Range}
 use Rattle.marks.specs.Ranges.{IsInRange, covers}
@@ -13,7 +13,7 @@ use Rattle.race_watch.specs.Hits.{Hits, In}
 
 abbrev pub at_cell : Tables → Bool → ℕ → Option ℕ → ℕ
 at_cell t touched u None = 0
-at_cell t touched u (Some c) = cond (nat_lt u t.threads) (kept t.epochs (base_of u touched + c)) 0
+at_cell t touched u (Some c) = if nat_lt u t.threads then kept t.epochs (base_of u touched + c) else 0
 
 -- the epoch of a byte, of the thread's last access of it or of its last write
 abbrev pub at : Tables → Bool → ℕ → ℕ → ℕ
@@ -89,14 +89,14 @@ IsFirstThread R result = MatchOption result ((u : ℕ) → R u → ⊥) (λ u. I
 -- epochs with one access more
 abbrev pub ArePut : (Bool → ℕ → ℕ → ℕ) → (Bool → ℕ → ℕ → ℕ) → Seen → Type 0
 ArePut old new one = (touched : Bool) (u x : ℕ) →
-    new touched u x ≡ cond (eqb one.thread u && ((touched || one.write) && covers one.range x))
-    (suc one.place) (old touched u x)
+    new touched u x ≡ (if one.thread == u && ((touched || one.write) && covers one.range x)
+    then suc one.place else old touched u x)
 
 -- the epochs of some bytes are written, of a thread's accesses, and of its writes where it writes
 abbrev pub IsPut : Bytes → ℕ → Bool → ℕ → (Bool → ℕ → ℕ → ℕ) → (Bool → ℕ → ℕ → ℕ) → Type 0
 IsPut b thread write epoch old new = (w : Bool) (u x : ℕ) →
-    new w u x ≡ cond (eqb thread u && ((w || write) && (nat_le b.from x && nat_lt x b.to))) epoch
-    (old w u x)
+    new w u x ≡ (if thread == u && ((w || write) && (nat_le b.from x && nat_lt x b.to)) then epoch
+    else old w u x)
 
 -- zeros, over so many threads
 pub record AreBlankTables (threads : ℕ) (t : Tables) : Type 0 where

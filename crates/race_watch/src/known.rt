@@ -1,6 +1,6 @@
 //! How many events of each thread are known (vector clocks; Fidge 1988, Mattern 1989).
 
-ghost use Rattle.std.specs.Prelude.{◌≡◌, slice_index, cond, IsSome, OnOk};
+ghost use Rattle.std.specs.Prelude.{◌≡◌, slice_index, if◌then◌else◌, IsSome, OnOk};
 ghost use Rattle.std.specs.BTreeMap.{get};
 ghost use Rattle.run_events.specs.declared.key.Key.{Key};
 ghost use Rattle.logical_clock.specs.Names.{name, key_cmp, is_named};
@@ -72,7 +72,7 @@ fn tell_key(keys: &mut BTreeMap<KeyName, Row>, key: KeyName, row: &Row)
 /// Keeps a row for each of the keys, which have places.
 pub fn tell_keys(keys: &mut BTreeMap<KeyName, Row>, of: &[Key], row: &Row)
     requires { Each (λ (k : Key). IsSome (get key_cmp keys.old (name k))) of.now }
-    ensures { (q : KeyName) → row_in keys.new q ≡ cond (is_named of.now q) row.now (row_in keys.old q) }
+    ensures { (q : KeyName) → row_in keys.new q ≡ (if is_named of.now q then row.now else row_in keys.old q) }
 {
     for key in of {
         tell_key(keys, name_of(*key), row);

@@ -1,5 +1,5 @@
 -- What a watch is told of a run: of each mark its accesses and its event, in their order.
-use Rattle.std.specs.Prelude.{ℕ, Bool, true, false, cond, List, [], ◌∷◌, ◌++◌, map, length}
+use Rattle.std.specs.Prelude.{ℕ, Bool, true, false, if◌then◌else◌, List, [], ◌∷◌, ◌++◌, map, length}
 use Rattle.run_events.specs.declared.key.KeyMark.{KeyMark}
 use Rattle.marks.specs.declared.range.Range.{Range}
 use Rattle.marks.specs.Ranges.{range, piece_ranges, prepared_ranges}
@@ -85,8 +85,8 @@ told_act t (Leave at size) past = accesses t (Leave at size) past
 told_act t (Step func args result ins pieces freed) past =
     accesses t (Step func args result ins pieces freed) past
 told_act t (Fault kind crosses ins outs access) past = accesses t (Fault kind crosses ins outs access) past
-told_act t (Made e) past = cond (late_event e.kind) (accesses t (Made e) (happens t e past))
-    (happens t e (accesses t (Made e) past))
+told_act t (Made e) past = if late_event e.kind then accesses t (Made e) (happens t e past)
+    else happens t e (accesses t (Made e) past)
 
 abbrev pub told : List Mark → List Told
 told [] = []

@@ -1,5 +1,5 @@
 -- Which numbers are kept.
-use Rattle.std.specs.Prelude.{◌≡◌, ℕ, ◌/◌, ◌%◌, ◌<◌, List, [], length, get_or, slice_index, eqb, cond}
+use Rattle.std.specs.Prelude.{◌≡◌, ℕ, ◌/◌, ◌%◌, ◌<◌, List, [], length, get_or, slice_index, ◌==◌, if◌then◌else◌}
 use Rattle.race_watch_pages.specs.declared.pages.Page.{Page}
 use Rattle.race_watch_pages.specs.declared.pages.Pages.{Pages}
 
@@ -12,7 +12,7 @@ page_at index pages p = get_or pages (slice_index index p) blank
 
 -- the number of a cell, of a page that stands there
 abbrev pub value_of : Page → ℕ → ℕ
-value_of p c = cond (eqb p.number (c / 256)) (slice_index p.values (c % 256)) 0
+value_of p c = if p.number == (c / 256) then slice_index p.values (c % 256) else 0
 
 -- the number of a cell
 abbrev pub kept : Pages → ℕ → ℕ

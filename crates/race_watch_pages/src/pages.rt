@@ -1,6 +1,6 @@
 //! Numbers by cell.
 
-ghost use Rattle.std.specs.Prelude.{◌≡◌, ◌+◌, ◌*◌, ◌/◌, ◌<◌, ◌≤◌, ◌&&◌, ℕ, nat_le, nat_lt, cond, IfOk, OnOk, IsTrue, MatchOption};
+ghost use Rattle.std.specs.Prelude.{◌≡◌, ◌+◌, ◌*◌, ◌/◌, ◌<◌, ◌≤◌, ◌&&◌, ℕ, nat_le, nat_lt, if◌then◌else◌, IfOk, OnOk, IsTrue, MatchOption};
 ghost use Rattle.race_watch_pages.specs.Kept.{kept, size, IsThere, StandsAt};
 
 use crate::part::{are_all, are_at_most, fill};
@@ -173,7 +173,7 @@ impl Pages {
         ensures size { size self.new ≡ size self.old }
         ensures stays { (p : ℕ) → IsThere self.old p → IsThere self.new p }
         ensures filled { (c : ℕ) → kept self.new c ≡
-            cond (nat_le from c && nat_lt c to) value (kept self.old c) }
+            (if nat_le from c && nat_lt c to then value else kept self.old c) }
     {
         let first = (from % 256) as usize;
         let last = first + (to - from) as usize;
@@ -190,7 +190,7 @@ impl Pages {
         ensures size { size self.new ≡ size self.old }
         ensures stays { (p : ℕ) → IsThere self.old p → IsThere self.new p }
         ensures filled { (c : ℕ) → kept self.new c ≡
-            cond (nat_le from c && nat_lt c to) value (kept self.old c) }
+            (if nat_le from c && nat_lt c to then value else kept self.old c) }
     {
         let mut at = from;
         while at < to {

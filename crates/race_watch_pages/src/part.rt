@@ -1,6 +1,6 @@
 //! Some cells of one page.
 
-ghost use Rattle.std.specs.Prelude.{◌≡◌, ℕ, ◌<◌, ◌≤◌, ◌&&◌, nat_le, nat_lt, cond, slice_index, length, IsTrue};
+ghost use Rattle.std.specs.Prelude.{◌≡◌, ℕ, ◌<◌, ◌≤◌, ◌&&◌, nat_le, nat_lt, if◌then◌else◌, slice_index, length, IsTrue};
 
 /// Whether no number from the first place to before the last is above the bound.
 pub fn are_at_most(values: &[u32; 256], from: usize, to: usize, bound: u32) -> bool
@@ -35,7 +35,8 @@ pub fn fill(values: &mut [u32], from: usize, to: usize, value: u32)
     requires order { from ≤ to }
     requires within { to ≤ length values.old }
     ensures { (k : ℕ) → k < length values.old →
-        slice_index values.new k ≡ cond (nat_le from k && nat_lt k to) value (slice_index values.old k) }
+        slice_index values.new k ≡ (if nat_le from k && nat_lt k to then value
+        else slice_index values.old k) }
 {
     for k in from..to {
         values[k] = value;

@@ -1,5 +1,5 @@
 -- The laws of replay runs.
-use Rattle.std.specs.Prelude.{◌≡◌, ◌≢◌, ◌↔◌, ℕ, ◌-◌, ◌<◌, ◌≤◌, Bool, true, false, cond, eqb, ltb, List, [], ◌∷◌, ◌++◌, length, drop, Option, None}
+use Rattle.std.specs.Prelude.{◌≡◌, ◌≢◌, ◌↔◌, ℕ, ◌-◌, ◌<◌, ◌≤◌, Bool, true, false, if◌then◌else◌, ◌==◌, ltb, List, [], ◌∷◌, ◌++◌, length, drop, Option, None}
 use Rattle.run_events.specs.declared.event.Record.{Record}
 use Rattle.marks.specs.Places.{is_constant, is_system}
 use Rattle.marks.specs.declared.range.Range.{Range}
@@ -75,7 +75,7 @@ OneHistoryOneRun program s =
 
 abbrev pub keep : {M : Type 0} → (M → Bool) → List M → List M
 keep p [] = []
-keep p (x ∷ xs) = cond (p x) (x ∷ keep p xs) (keep p xs)
+keep p (x ∷ xs) = if p x then x ∷ keep p xs else keep p xs
 
 -- the marks up to the first k events of each thread
 abbrev pub kept : (ℕ → ℕ) → Mark → Bool
@@ -144,7 +144,7 @@ pub record Begins (s : Start) (h : ℕ → List Record) : Type 0 where
 
 -- one more record of a thread
 abbrev pub added : (ℕ → List Record) → ℕ → Record → ℕ → List Record
-added h t e u = cond (eqb u t) (e ∷ h u) (h u)
+added h t e u = if u == t then e ∷ h u else h u
 
 abbrev pub ClocksAtMost : ℕ → List Record → Type 0
 ClocksAtMost n [] = Unit {0}

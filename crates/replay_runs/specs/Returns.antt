@@ -1,6 +1,6 @@
 -- What it says that the checks of a Ret pass in a replay, where nothing is scripted and no byte was
 -- changed.
-use Rattle.std.specs.Prelude.{◌≡◌, ◌↔◌, ℕ, Bool, true, cond, eqb, List, [], ◌∷◌, length, Option, Some, None}
+use Rattle.std.specs.Prelude.{◌≡◌, ◌↔◌, ℕ, Bool, true, if◌then◌else◌, ◌==◌, List, [], ◌∷◌, length, Option, Some, None}
 use Rattle.marks.specs.declared.range.Range.{Range}
 use Rattle.marks.specs.Ranges.{Piece, are_bytes, piece_ranges}
 use Rattle.marks.specs.Marks.{Commit, NoRegion, Withheld, Released, Ret, Event, Made, Mark}
@@ -37,7 +37,7 @@ ReleasesUsed s past k None commit = commit ≡ Withheld
 ReleasesUsed s past k (Some n) NoRegion = ⊥
 ReleasesUsed s past k (Some n) Withheld = ⊥
 ReleasesUsed s past k (Some n) (Released j p) =
-    (j ≡ k) × (length p.bytes ≡ cond (eqb p.range.addr 0) 0 n) × (are_bytes p.bytes ≡ true) ×
+    (j ≡ k) × (length p.bytes ≡ (if p.range.addr == 0 then 0 else n)) × (are_bytes p.bytes ≡ true) ×
     ((r : Range) → in_use s k past ≡ Some r → p.range ≡ r)
 
 abbrev pub IsCommitted : Start → List Mark → Option Committing → Commit → Type 0

@@ -1,6 +1,6 @@
 -- The rules of a replay run: how each mark follows from its thread's own past, and from the events that
 -- share a key.
-use Rattle.std.specs.Prelude.{◌≡◌, ◌≢◌, ◌⊎◌, ℕ, ◌≤◌, ◌<◌, Bool, true, false, ◌&&◌, ◌||◌, cond, eqb, List, [], ◌∷◌, ◌++◌, map, length, Option, Some, None, is_some}
+use Rattle.std.specs.Prelude.{◌≡◌, ◌≢◌, ◌⊎◌, ℕ, ◌≤◌, ◌<◌, Bool, true, false, ◌&&◌, ◌||◌, if◌then◌else◌, ◌==◌, List, [], ◌∷◌, ◌++◌, map, length, Option, Some, None, is_some}
 use Rattle.run_events.specs.declared.key.Class.{Class}
 use Rattle.run_events.specs.declared.key.Class.TheVariants.{Mutex, User, Callback, Thread, Pool, Out, Async}
 use Rattle.run_events.specs.declared.key.Key.{Key}
@@ -21,8 +21,8 @@ use Rattle.replay_runs.specs.Keys.{sorted_keys, keys_for}
 
 -- the mark answers what the code wants; a thread above the cut may stop at any mark
 abbrev pub is_reply : Want → Act → Bool
-is_reply want act = cond (is_stop act) (is_above want) ((is_above want || is_below want) &&
-    is_some (answer_to want act))
+is_reply want act = if is_stop act then is_above want else (is_above want || is_below want) &&
+    is_some (answer_to want act)
 
 -- each of the functions may run above the cut
 abbrev pub AllMayRun : Interface → List ℕ → Type 0
@@ -79,7 +79,7 @@ abbrev pub CommitsUsed : ℕ → Option ℕ → Commit → Type 0
 CommitsUsed k None commit = commit ≡ Withheld
 CommitsUsed k (Some n) NoRegion = ⊥
 CommitsUsed k (Some n) Withheld = ⊥
-CommitsUsed k (Some n) (Released j p) = (j ≡ k) × IsUsed (cond (eqb p.range.addr 0) 0 n) p
+CommitsUsed k (Some n) (Released j p) = (j ≡ k) × IsUsed (if p.range.addr == 0 then 0 else n) p
 
 abbrev pub Commits : Option Committing → Commit → Type 0
 Commits None commit = commit ≡ NoRegion
@@ -116,7 +116,7 @@ EventCarries i s t mine (Ret func args result same outs commit) =
 EventCarries i s t mine (Up func args) = (i.may_run Replay func ≡ true) × (i.takes func args ≡ true)
 EventCarries i s t mine (UpRet func result) = ClosesUp (open_ups mine) func
 EventCarries i s t mine (Alloc at size) = Unit {0}
-EventCarries i s t mine (Free at size) = eqb at 0 ≡ eqb size 0
+EventCarries i s t mine (Free at size) = (at == 0) ≡ (size == 0)
 EventCarries i s t mine (Stop fault) = fault ≡ fault_of mine
 
 abbrev pub SomeConstant : Range → Type 0

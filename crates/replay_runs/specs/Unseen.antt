@@ -1,5 +1,5 @@
 -- What is known of the accesses of a byte that is in no object, or that a call holds.
-use Rattle.std.specs.Prelude.{◌≡◌, ℕ, ◌+◌, ◌<◌, ◌≤◌, Bool, true, false, ◌||◌, eqb, List, [], ◌∷◌, Option, Some, None}
+use Rattle.std.specs.Prelude.{◌≡◌, ℕ, ◌+◌, ◌<◌, ◌≤◌, Bool, true, false, ◌||◌, ◌==◌, List, [], ◌∷◌, Option, Some, None}
 use Rattle.run_events.specs.declared.key.Class.TheVariants.{Pool, Async}
 use Rattle.marks.specs.declared.side.Side.TheVariants.{Replay}
 use Rattle.marks.specs.Places.{thread_count, stack, stack_size, replay_stacks, replay_pool, replay_end, pool_size}
@@ -41,7 +41,7 @@ holds s past x (Calling t) = any_held (open_calls (marks_of s t past)) x
 holds s past x (Preparing k) = is_in (in_use s k past) x
 
 abbrev pub is_own : Link → ℕ → Bool
-is_own (OfThread t) u = eqb t u
+is_own (OfThread t) u = t == u
 is_own (OfKey k) u = false
 
 -- the last event with the link, and so what comes after it, knows of each access of the byte, but for a

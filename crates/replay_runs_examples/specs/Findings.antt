@@ -1,5 +1,5 @@
 -- Steps at which the checks find something, each beside one that just keeps the rule.
-use Rattle.std.specs.Prelude.{ℕ, zero, suc, ◌+◌, ◌*◌, cond, eqb, List, [], ◌∷◌, ◌++◌, false}
+use Rattle.std.specs.Prelude.{ℕ, zero, suc, ◌+◌, ◌*◌, if◌then◌else◌, ◌==◌, List, [], ◌∷◌, ◌++◌, false}
 use Rattle.run_events.specs.declared.key.Class.TheVariants.{Callback}
 use Rattle.marks.specs.declared.side.Side.TheVariants.{Replay}
 use Rattle.marks.specs.declared.range.Range.{Range}
@@ -116,7 +116,7 @@ scripted n = record { pieces = n ∷ []; committed = 0; changed = λ x. false }
 
 -- code below changed the byte at x
 abbrev pub changed : ℕ → Answered
-changed x = record { pieces = []; committed = 0; changed = λ y. eqb y x }
+changed x = record { pieces = []; committed = 0; changed = λ y. y == x }
 
 -- `await(9)`, where no region was prepared, and where one was
 abbrev pub unprepared : Return
@@ -163,13 +163,13 @@ nested (suc n) = record {
 } ∷ nested n
 
 abbrev pub stacked : ℕ → ℕ → Byte
-stacked n x = record { cell = cond (within 0x20000000 (16 * n) x) (Live 0) Dead; block = 0 }
+stacked n x = record { cell = if within 0x20000000 (16 * n) x then Live 0 else Dead; block = 0 }
 
 abbrev pub deep : ℕ → Start
 deep n = record (fresh (stacked n)) {
-  parts = λ t. cond (eqb t 0) (nested n) [];
+  parts = λ t. if t == 0 then nested n else [];
   events =
-      λ l. cond (has begun l) (begun ∷ []) [];
+      λ l. if has begun l then begun ∷ [] else [];
 }
 
 abbrev pub recursing : Program

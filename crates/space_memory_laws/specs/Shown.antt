@@ -1,5 +1,5 @@
 -- How what a run has, a look back over its marks, is laid out in memory.
-use Rattle.std.specs.Prelude.{ℕ, suc, ◌-◌, Bool, false, ◌&&◌, cond, eqb, List, [], ◌∷◌, ◌++◌, length, filter, Option, Some, None, if◌then◌else◌, slice_index_or}
+use Rattle.std.specs.Prelude.{ℕ, suc, ◌-◌, Bool, false, ◌&&◌, ◌==◌, List, [], ◌∷◌, ◌++◌, length, filter, Option, Some, None, if◌then◌else◌, slice_index_or}
 use Rattle.marks.specs.Places.{stack, replay_pool, pool_size}
 use Rattle.marks.specs.declared.side.Side.TheVariants.{Replay}
 use Rattle.marks.specs.Bytes.{Cell, Dead, Live, Held}
@@ -52,7 +52,7 @@ pool_with bs = record { base = replay_pool; size = pool_size; blocks = by_addres
 -- the ranges of the open call number d of a thread, 1 for the outermost; none where fewer calls are open
 abbrev pub ranges_at : (run.OpenCall → List Range) → ℕ → List run.OpenCall → List Range
 ranges_at ranges d [] = []
-ranges_at ranges d (c ∷ cs) = cond (eqb d (suc (length cs))) (ranges c) (ranges_at ranges d cs)
+ranges_at ranges d (c ∷ cs) = if d == suc (length cs) then ranges c else ranges_at ranges d cs
 
 -- whether the call holds the region to read it
 abbrev pub is_in_of : OpenCall → Holder → Bool

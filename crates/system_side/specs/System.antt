@@ -1,5 +1,5 @@
 -- The system side of a run, after the calls so far.
-use Rattle.std.specs.Prelude.{ℕ, ℤ, Bool, false, List, Option, Some, None, eqb}
+use Rattle.std.specs.Prelude.{ℕ, ℤ, Bool, false, List, Option, Some, None, ◌==◌}
 use Rattle.std.specs.Ordering.{int_cmp}
 use Rattle.std.specs.BTreeMap.{is_at}
 use Rattle.std.specs.Map.{lookup}
@@ -20,7 +20,7 @@ holder held m = lookup (is_at (int_cmp m)) held
 
 abbrev pub is_thread : ℕ → Option ℕ → Bool
 is_thread thread None = false
-is_thread thread (Some other) = eqb other thread
+is_thread thread (Some other) = other == thread
 
 -- whether the thread holds the mutex
 abbrev pub holds : List (ℤ × ℕ) → ℕ → ℤ → Bool

@@ -1,5 +1,5 @@
 -- Threads: where each stands, and which may step.
-use Rattle.std.specs.Prelude.{◌≡◌, ℕ, ◌-◌, ◌<◌, ◌≤◌, ℤ, pos, negsuc, Bool, true, false, cond, List, ◌++◌, length, Option, Some, None, if◌then◌else◌}
+use Rattle.std.specs.Prelude.{◌≡◌, ℕ, ◌-◌, ◌<◌, ◌≤◌, ℤ, pos, negsuc, Bool, true, false, List, ◌++◌, length, Option, Some, None, if◌then◌else◌}
 use Rattle.std.specs.List.{slice_get, range_with_len}
 use Rattle.std.specs.Int.{bit_at}
 use Rattle.std.specs.Ordering.{int_eq}
@@ -63,7 +63,7 @@ result_of (Some (Ended value)) = Some value
 
 -- what a thread is answered that joins another: -1 where it is itself
 abbrev pub joined : List Standing → ℕ → ℤ → Option ℤ
-joined threads thread t = cond (int_eq t (pos thread)) (Some (negsuc 0)) (result_of (standing_of threads t))
+joined threads thread t = if int_eq t (pos thread) then Some (negsuc 0) else result_of (standing_of threads t)
 
 abbrev pub bit : Bool → ℕ
 bit true = 1

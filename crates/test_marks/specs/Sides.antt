@@ -1,5 +1,5 @@
 -- What is told to a thread at a call.
-use Rattle.std.specs.Prelude.{ℕ, Bool, cond, ◌||◌, not}
+use Rattle.std.specs.Prelude.{ℕ, Bool, if◌then◌else◌, ◌||◌, not}
 use Rattle.marks.specs.declared.side.Side.{Side}
 use Rattle.marks.specs.declared.side.Side.TheVariants.{System}
 use Rattle.c_code.specs.Machine.{Laid, Config, entry}
@@ -9,7 +9,7 @@ use Rattle.c_machine.specs.Readers.{side_of}
 
 -- below the cut where the call crosses it, else where its caller runs
 abbrev pub side_told : Laid → Config → Side
-side_told l c = cond (crosses_at l c) System (side_of c)
+side_told l c = if crosses_at l c then System else side_of c
 
 -- the call of the function is told a value, and makes no marks: it crosses the cut, or the function has no
 -- body
