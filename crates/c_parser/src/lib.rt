@@ -3,4 +3,4 @@
 
 mod parsing;
 
-pub use parsing::{ParseError, parse};
+pub use parsing::{ParseError, Parsed, parse, parse_counted};

@@ -1,15 +1,24 @@
 // Whole sources.
 
 ghost use Rattle.std.specs.Prelude.{◌≡◌, IfOk, IfErr};
-ghost use Rattle.c_parser.specs.Parsed.{IsParsed, IsParseError};
+ghost use Rattle.c_parser.specs.Parsed.{IsCounted, IsParsed, IsParseError};
 ghost use Rattle.c_parser_actions.specs.Builds.{Found};
 
 use c_lexer::Token;
 use c_parser_actions::{Action, PostfixError, actions};
 use c_parser_depth::too_deep;
+use c_parser_nodes::node_count;
 use c_parser_tree::{BuildError, build};
 use c_syntax::Tree;
 use std::alloc::{AllocError, Global};
+
+/// A source that has a tree.
+#[derive(Drop)]
+pub struct Parsed {
+    pub tree: Tree,
+    /// How many nodes it has (`c_parser_nodes`).
+    pub nodes: usize,
+}
 
 /// Why tokens have no tree.
 #[derive(Debug, Drop, thiserror::Error)]
@@ -48,12 +57,14 @@ fn postfix(alloc: Global, tokens: &[Token]) -> Result<Vec<Action>, ParseError>
     }
 }
 
-/// The tree of the source that has these tokens. Tokens are those of one source at most (`c_parser_actions::one_tree`).
+/// The tree of the source that has these tokens, and how many nodes it has. Tokens are those of one source at most
+/// (`c_parser_actions::one_tree`).
 ///
 /// Depth is tested before a tree is built, so that a tree's values in braces are dropped without deep recursion.
-pub fn parse(alloc: Global, tokens: &[Token]) -> Result<Tree, ParseError>
-    // The tree is that of the source which has these tokens, and no more than 200 nodes hold any of its nodes.
-    ensures tree { IfOk result (λ t. IsParsed tokens.now t) }
+pub fn parse_counted(alloc: Global, tokens: &[Token]) -> Result<Parsed, ParseError>
+    // The tree is that of the source which has these tokens, and no more than 200 nodes hold any of its nodes, which
+    // are so many.
+    ensures counted { IfOk result (λ p. IsCounted tokens.now p) }
     // Tokens are refused that no source has, or a source with a node that more than 200 others hold.
     ensures refused { IfErr result (λ e. IsParseError tokens.now e) }
 {
@@ -61,9 +72,23 @@ pub fn parse(alloc: Global, tokens: &[Token]) -> Result<Tree, ParseError>
     if let Some(place) = too_deep(alloc, actions.as_slice())? {
         return Err(ParseError::Deep(place));
     }
+    let nodes = node_count(alloc, actions.as_slice())?;
     match build(alloc, actions) {
-        Ok(tree) => Ok(tree),
+        Ok(tree) => Ok(Parsed { tree, nodes }),
         Err(BuildError::Unfit) => unreachable!(),
         Err(BuildError::Memory) => Err(ParseError::Memory),
+    }
+}
+
+/// The tree of the source that has these tokens.
+pub fn parse(alloc: Global, tokens: &[Token]) -> Result<Tree, ParseError>
+    // The tree is that of the source which has these tokens, and no more than 200 nodes hold any of its nodes.
+    ensures tree { IfOk result (λ t. IsParsed tokens.now t) }
+    // Tokens are refused that no source has, or a source with a node that more than 200 others hold.
+    ensures refused { IfErr result (λ e. IsParseError tokens.now e) }
+{
+    match parse_counted(alloc, tokens) {
+        Ok(parsed) => Ok(parsed.tree),
+        Err(error) => Err(error),
     }
 }

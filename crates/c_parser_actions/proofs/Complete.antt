@@ -18,12 +18,14 @@ use Rattle.c_parser_actions.specs.declared.frame.Frame.TheVariants as fr
 use Rattle.c_parser_actions.specs.declared.frame.Next.TheVariants as nx
 use Rattle.c_parser_actions.specs.Marks.{mark_at, after_of, after_at}
 use Rattle.c_parser_actions.specs.Pieces.{Piece, PExpr, PExprs, PDeclr, PSpecs, PDecl, PDecls, PAnnots, PAnnot, PItem, PAtom}
-use Rattle.c_parser_actions.specs.Machine.{named_group, groups}
+use Rattle.c_parser_actions.specs.MachineDeclr.{named_group, groups}
 use Rattle.c_syntax.specs.Grammar as g
 use Rattle.c_syntax.specs.Grammar.{IsPostfix, IsUnary, IsExpr, IsArgs, IsTypeName, IsSpecs, IsConsts, IsDeclr, IsDirect, IsParams, IsParamList, IsParam, IsAnnotation, IsAnnots, IsAnnot, IsItems, IsItem, IsAtom, IsSomething, Label, Named, Nameless, label_from, label_name}
 use Rattle.c_parser_actions.proofs.Runs.{tstate, start_expr, Reaches, here, then}
-use Rattle.c_parser_actions.proofs.Moves as mv
-use Rattle.c_parser_actions.proofs.Moves.{Pops, Ends, DirectEnds, unnamed_ok}
+use Rattle.c_parser_actions.proofs.MovesDeclr as of_declr
+use Rattle.c_parser_actions.proofs.MovesExpr as of_expr
+use Rattle.c_parser_actions.proofs.MovesDeclr.{DirectEnds, unnamed_ok}
+use Rattle.c_parser_actions.proofs.MovesExpr.{Pops, Ends}
 use Rattle.c_parser_actions.proofs.Firsts.{after_level, after_assigns, after_steps, of_sign, left_level, stop, stop_low, stop_next, pops_more, starts_not, starts_no_type, expr_starts, args_start}
 use Rattle.c_parser_actions.proofs.Types.{wordless, type_begins, specs_taken, consts_taken, type_mark}
 use Rattle.c_parser_actions.proofs.Groups.{something_groups, params_no_group, Allowed}
@@ -113,7 +115,7 @@ opens u ts e h = rw (e, h) refl
 
 -- an expression before a sign that ends it
 pub closed_run : {l : ℕ} {u : Token} {ts rest : List Token} {e : Expr} → ExprRun l ts e (u ∷ rest) → Pops l (after_of u.kind) → (P : List Piece) (K : List Frame) → Reaches (start_expr l P ts K) (tstate nx.Value (PExpr e ∷ P) (u ∷ rest) K)
-closed_run {l = l} d p P K = let r = d l (omega arith) P K in then r.2 (mv.value_move p r.1 here)
+closed_run {l = l} d p P K = let r = d l (omega arith) P K in then r.2 (of_expr.value_move p r.1 here)
 
 -- a bracket follows, and no more
 lacks_close : (g : Naming) (u : Token) (ts : List Token) (l : Label) → u.kind ≡ kinds.Sign signs.CloseParenthesis → CanLack l g (u ∷ ts)
@@ -188,31 +190,31 @@ closing_no_star (t ∷ ts) (inr h) e = absurd (let x : marks.Comma ≡ marks.Sta
 
 mutual
   complete_postfix : {ts rest : List Token} {e : Expr} → IsPostfix ts e rest → PostfixRun ts e rest
-  complete_postfix (g.name e) P K = mv.name_move e here
-  complete_postfix (g.number e) P K = mv.number_move e here
-  complete_postfix (g.char e) P K = mv.char_move e here
-  complete_postfix (g.text e) P K = mv.text_move e here
-  complete_postfix (g.group {t = t} {ts = ts} e d h) P K = mv.group_move e (starts_no_type ts (expr_starts d)) (then (closed_run (complete_expr d (rw h tt)) (rw h tt) P (fr.Group t.from ∷ K)) (mv.group_done h here))
-  complete_postfix (g.index {ts = ts} {a = a} e d c h) P K = then (complete_postfix e P K) (mv.index_move d (then (closed_run (complete_expr c (rw h tt)) (rw h tt) (PExpr a ∷ P) (fr.Index (from_of ts) ∷ K)) (mv.index_done h here)))
-  complete_postfix (g.call_none d e h) P K = then (complete_postfix d P K) (mv.call_none_move e h here)
+  complete_postfix (g.name e) P K = of_expr.name_move e here
+  complete_postfix (g.number e) P K = of_expr.number_move e here
+  complete_postfix (g.char e) P K = of_expr.char_move e here
+  complete_postfix (g.text e) P K = of_expr.text_move e here
+  complete_postfix (g.group {t = t} {ts = ts} e d h) P K = of_expr.group_move e (starts_no_type ts (expr_starts d)) (then (closed_run (complete_expr d (rw h tt)) (rw h tt) P (fr.Group t.from ∷ K)) (of_expr.group_done h here))
+  complete_postfix (g.index {ts = ts} {a = a} e d c h) P K = then (complete_postfix e P K) (of_expr.index_move d (then (closed_run (complete_expr c (rw h tt)) (rw h tt) (PExpr a ∷ P) (fr.Index (from_of ts) ∷ K)) (of_expr.index_done h here)))
+  complete_postfix (g.call_none d e h) P K = then (complete_postfix d P K) (of_expr.call_none_move e h here)
   complete_postfix (g.call {u = u} {ts = ts} {us = us} {rest = rest} {a = a} {xs = xs} d e c h) P K =
       let r = complete_args c (rw h (omega arith)) (rw h (omega arith)) (from_of ts) (PExpr a ∷ P) K in
-      rw r.2 (then (complete_postfix d P K) (mv.call_move e (starts_not us marks.Close (args_start c) refl) (then r.3 (mv.args_done h here))))
-  complete_postfix (g.member d e h) P K = then (complete_postfix d P K) (mv.member_move e h here)
-  complete_postfix (g.arrow d e h) P K = then (complete_postfix d P K) (mv.arrow_move e h here)
-  complete_postfix (g.step {t = t} {s = s} d e h) P K = then (complete_postfix d P K) (mv.postfix_move (of_sign t.kind s _ e (after_steps s h)) here)
+      rw r.2 (then (complete_postfix d P K) (of_expr.call_move e (starts_not us marks.Close (args_start c) refl) (then r.3 (of_expr.args_done h here))))
+  complete_postfix (g.member d e h) P K = then (complete_postfix d P K) (of_expr.member_move e h here)
+  complete_postfix (g.arrow d e h) P K = then (complete_postfix d P K) (of_expr.arrow_move e h here)
+  complete_postfix (g.step {t = t} {s = s} d e h) P K = then (complete_postfix d P K) (of_expr.postfix_move (of_sign t.kind s _ e (after_steps s h)) here)
 
   complete_unary : {ts rest : List Token} {e : Expr} → IsUnary ts e rest → Pops 15 (after_at rest) → UnaryRun ts e rest
-  complete_unary {rest = rest} (g.postfix d) p P K = then (complete_postfix d P K) (mv.end_move (ends_pops (after_at rest) p) here)
-  complete_unary (g.prefix {t = t} {s = s} e h d) p P K = mv.prefix_move e h (then (complete_unary d p P (fr.Prefix t.from s ∷ K)) (mv.prefix_done (omega arith) here))
-  complete_unary (g.sizeof {t = t} e h d) p P K = mv.sizeof_move e h (then (complete_unary d p P (fr.Sizeof t.from ∷ K)) (mv.sizeof_done (omega arith) here))
+  complete_unary {rest = rest} (g.postfix d) p P K = then (complete_postfix d P K) (of_expr.end_move (ends_pops (after_at rest) p) here)
+  complete_unary (g.prefix {t = t} {s = s} e h d) p P K = of_expr.prefix_move e h (then (complete_unary d p P (fr.Prefix t.from s ∷ K)) (of_expr.prefix_done (omega arith) here))
+  complete_unary (g.sizeof {t = t} e h d) p P K = of_expr.sizeof_move e h (then (complete_unary d p P (fr.Sizeof t.from ∷ K)) (of_expr.sizeof_done (omega arith) here))
   complete_unary (g.sizeof_type {t = t} {u = u} {ts = ts} e h d k) p P K =
       let r = complete_type d (inl k) P (fr.SizeofType t.from ∷ K) in
-      rw r.5 (mv.sizeof_type_move e (opens u ts h (type_name_begins d)) (then r.6 (mv.sizeof_type_done k here)))
+      rw r.5 (of_expr.sizeof_type_move e (opens u ts h (type_name_begins d)) (then r.6 (of_declr.sizeof_type_done k here)))
   complete_unary (g.cast {t = t} {ts = ts} e d h c) p P K =
       let r = complete_type d (inl h) P (fr.CastType t.from ∷ K) in
       let s = complete_unary c p (PDecl (Declare r.4 r.0 r.1 r.2 r.3 NoRest) ∷ P) (fr.Cast t.from ∷ K) in
-      rw r.5 (mv.cast_move e (type_name_begins d) (then r.6 (mv.cast_type_done h (then s (mv.cast_done (omega arith) here)))))
+      rw r.5 (of_expr.cast_move e (type_name_begins d) (then r.6 (of_declr.cast_type_done h (then s (of_expr.cast_done (omega arith) here)))))
 
   pub complete_expr : {l : ℕ} {ts rest : List Token} {e : Expr} → IsExpr l ts e rest → Pops (stop l) (after_at rest) → ExprRun l ts e rest
   complete_expr {ts = ts} (g.unary d) p m h P K = (14, omega arith, complete_unary d p P (fr.Climb m (from_of ts) ∷ K))
@@ -224,26 +226,26 @@ mutual
       let r = complete_expr d (rw k (left_level x l v)) m h P K in
       let s = complete_expr c (pops_more (after_at rest) (stop_next l) p) (l + 1) (omega arith) (PExpr a ∷ P) (fr.Binary l (from_of ts) x ∷ fr.Climb m (from_of ts) ∷ K) in
       let low : stop l ≤ l + 1 = omega (arith, stop_low l) in
-      (l, omega arith, then r.2 (mv.binary_move k h r.1 (then s.2 (mv.value_move (pops_more (after_at rest) low p) (omega arith) (mv.binary_done here)))))
+      (l, omega arith, then r.2 (of_expr.binary_move k h r.1 (then s.2 (of_expr.value_move (pops_more (after_at rest) low p) (omega arith) (of_expr.binary_done here)))))
   complete_expr {ts = ts} {rest = rest} (g.assign {t = t} {a = a} {s = x} d e v c) p m h P K =
       let k = of_sign t.kind x _ e (after_assigns x v) in
       let r = complete_unary d (rw k (omega arith)) P (fr.Climb m (from_of ts) ∷ K) in
       let s = complete_expr c p 2 (omega arith) (PExpr a ∷ P) (fr.Assign (from_of ts) x ∷ fr.Climb m (from_of ts) ∷ K) in
-      (2, omega arith, then r (mv.assign_move k h (omega arith) (then s.2 (mv.value_move p s.1 (mv.assign_done here)))))
+      (2, omega arith, then r (of_expr.assign_move k h (omega arith) (then s.2 (of_expr.value_move p s.1 (of_expr.assign_done here)))))
   complete_expr {ts = ts} {rest = rest} (g.cond {t = t} {a = a} {b = b} d e y q z) p m h P K =
       let r = complete_expr d (rw e (omega arith)) m (omega arith) P K in
       let s = closed_run (complete_expr y (rw q tt)) (rw q tt) (PExpr a ∷ P) (fr.Middle (from_of ts) ∷ fr.Climb m (from_of ts) ∷ K) in
       let w = complete_expr z p 3 (omega arith) (PExpr b ∷ PExpr a ∷ P) (fr.Last (from_of ts) ∷ fr.Climb m (from_of ts) ∷ K) in
-      (3, omega arith, then r.2 (mv.cond_move e h r.1 (then s (mv.middle_done q (then w.2 (mv.value_move p w.1 (mv.last_done here)))))))
+      (3, omega arith, then r.2 (of_expr.cond_move e h r.1 (then s (of_expr.middle_done q (then w.2 (of_expr.value_move p w.1 (of_expr.last_done here)))))))
 
   complete_args : {ts rest : List Token} {xs : Exprs} → IsArgs ts xs rest → Pops 2 (after_at rest) → Pops 2 (after_at rest) → ArgsRun ts xs rest
   complete_args {rest = rest} (g.first_arg {e = e} d) p q f P K =
       let r = complete_expr d p 2 (omega arith) (PExprs NoExprs ∷ P) (fr.Args f ∷ K) in
-      (NoExprs, e, refl, then r.2 (mv.value_move p r.1 here))
+      (NoExprs, e, refl, then r.2 (of_expr.value_move p r.1 here))
   complete_args {rest = rest} (g.more_args {xs = xs} {e = e} d h c) p q f P K =
       let r = complete_args d (rw h (omega arith)) (rw h (omega arith)) f P K in
       let s = complete_expr c p 2 (omega arith) (PExprs (exprs_then r.0 r.1) ∷ P) (fr.Args f ∷ K) in
-      (exprs_then r.0 r.1, e, ap (λ z. exprs_then z e) r.2, then r.3 (mv.args_more h (then s.2 (mv.value_move p s.1 here))))
+      (exprs_then r.0 r.1, e, ap (λ z. exprs_then z e) r.2, then r.3 (of_expr.args_more h (then s.2 (of_expr.value_move p s.1 here))))
 
   complete_type : {ts rest : List Token} {d : Decl} → IsTypeName ts d rest → Closing rest → TypeRun ts d rest
   complete_type {ts = ts} {rest = rest} (g.type_name {us = us} {b = b} {ps = ps} d c) h P K = (
@@ -253,34 +255,34 @@ mutual
     None,
     from_of ts,
     refl,
-    mv.type_name_move (specs_taken d (declr_wordless c (closing_wordless rest h))) (complete_declr c namings.Never (from_of ts) (PSpecs NoAnnots b ∷ P) K refl (closing_lacks rest namings.Never Nameless h) (closing_ends rest h) (closing_wordless rest h)),
+    of_declr.type_name_move (specs_taken d (declr_wordless c (closing_wordless rest h))) (complete_declr c namings.Never (from_of ts) (PSpecs NoAnnots b ∷ P) K refl (closing_lacks rest namings.Never Nameless h) (closing_ends rest h) (closing_wordless rest h)),
   )
 
   pub complete_declr : {ts rest : List Token} {ps : Parts} {l : Label} → IsDeclr ts ps l rest → DeclrRun ts ps l rest
-  complete_declr {rest = rest} (g.direct d) g f P K a k e n = then (complete_direct d g f P K a k) (mv.direct_end e here)
+  complete_declr {rest = rest} (g.direct d) g f P K a k e n = then (complete_direct d g f P K a k) (of_declr.direct_end e here)
   complete_declr {rest = rest} (g.pointer {t = t} {us = us} h c d) g f P K a k e n =
-      mv.star_move h (rw (consts_taken c (declr_wordless d n)) (then (complete_declr d g f P (fr.Pointer t.from ∷ K) a k e n) (mv.pointer_done here)))
+      of_declr.star_move h (rw (consts_taken c (declr_wordless d n)) (then (complete_declr d g f P (fr.Pointer t.from ∷ K) a k e n) (of_declr.pointer_done here)))
 
   complete_direct : {ts rest : List Token} {ps : Parts} {l : Label} → IsDirect ts ps l rest → DirectRun ts ps l rest
-  complete_direct (g.named e) g f P K a k = mv.named_move e a here
+  complete_direct (g.named e) g f P K a k = of_declr.named_move e a here
   complete_direct (g.nameless {ts = []}) g f P K a k = absurd k
-  complete_direct (g.nameless {ts = t ∷ ts}) g f P K a (inl (inl h)) = mv.nameless_close h a here
-  complete_direct (g.nameless {ts = t ∷ ts}) g f P K a (inl (inr h)) = mv.nameless_comma h a here
-  complete_direct (g.nameless {ts = t ∷ ts}) g f P K a (inr (inl h)) = mv.nameless_bracket h a here
-  complete_direct (g.nameless {ts = t ∷ ts}) g f P K a (inr (inr (h, q))) = mv.nameless_open h q a here
+  complete_direct (g.nameless {ts = t ∷ ts}) g f P K a (inl (inl h)) = of_declr.nameless_close h a here
+  complete_direct (g.nameless {ts = t ∷ ts}) g f P K a (inl (inr h)) = of_declr.nameless_comma h a here
+  complete_direct (g.nameless {ts = t ∷ ts}) g f P K a (inr (inl h)) = of_declr.nameless_bracket h a here
+  complete_direct (g.nameless {ts = t ∷ ts}) g f P K a (inr (inr (h, q))) = of_declr.nameless_open h q a here
   complete_direct (g.grouped {u = u} {ts = ts} {rest = rest} {l = l} e d s h) g f P K a k =
-      mv.group_declr_move e (something_groups g d h s (allowed g l a)) (then (complete_declr d g f P (fr.Grouped ∷ K) a (lacks_close g u rest l h) (rw h tt) (rw h refl)) (mv.grouped_done h here))
+      of_declr.group_declr_move e (something_groups g d h s (allowed g l a)) (then (complete_declr d g f P (fr.Grouped ∷ K) a (lacks_close g u rest l h) (rw h tt) (rw h refl)) (of_declr.grouped_done h here))
   complete_direct (g.array {t = t} {us = us} {ps = ps} {l = l} d e c h) g f P K a k =
-      then (complete_direct d g f P K a (lacks_bracket g t us l e)) (mv.array_move e (then (closed_run (complete_expr c (rw h tt)) (rw h tt) (PDeclr ps (label_name l) (label_from f l) ∷ P) (fr.Length t.from ∷ K)) (mv.length_done h here)))
+      then (complete_direct d g f P K a (lacks_bracket g t us l e)) (of_declr.array_move e (then (closed_run (complete_expr c (rw h tt)) (rw h tt) (PDeclr ps (label_name l) (label_from f l) ∷ P) (fr.Length t.from ∷ K)) (of_expr.length_done h here)))
   complete_direct (g.function {t = t} {u = u} {us = us} {rest = rest} {ps = ps} {l = l} d e c h) g f P K a k =
       then (complete_direct d g f P K a (lacks_open g t u us (u ∷ rest) l e c a)) (complete_params c h t e ps (label_name l) (label_from f l) P K)
 
   complete_params : {u : Token} {ts rest : List Token} {ds : Decls} → IsParams ts ds (u ∷ rest) → u.kind ≡ kinds.Sign signs.CloseParenthesis → (t : Token) → t.kind ≡ kinds.Sign signs.OpenParenthesis →
       (ps : Parts) (n : Option (List ℕ)) (h : ℕ) (P : List Piece) (K : List Frame) → Reaches (tstate nx.Direct (PDeclr ps n h ∷ P) (t ∷ ts) K) (tstate nx.Direct (PDeclr (Params t.from ds ps) n h ∷ P) rest K)
-  complete_params (g.no_params e l) k t o ps n h P K = mv.params_none_move o l here
+  complete_params (g.no_params e l) k t o ps n h P K = of_declr.params_none_move o l here
   complete_params {u = u} {rest = rest} (g.params l d) k t o ps n h P K =
       let r = complete_list d (inl k) t.from (PDeclr ps n h ∷ P) K in
-      rw r.6 (mv.params_move o l (then r.7 (mv.params_done k here)))
+      rw r.6 (of_declr.params_move o l (then r.7 (of_declr.params_done k here)))
 
   complete_list : {ts rest : List Token} {ds : Decls} → IsParamList ts ds rest → Closing rest → ParamsRun ts ds rest
   complete_list (g.first_param d) k f P K =
@@ -296,7 +298,7 @@ mutual
         s.3,
         s.4,
         ap (λ z. decls_then z x) r.6 ∙ ap (λ z. decls_then (decls_then r.0 (Declare r.5 r.1 r.2 r.3 r.4 NoRest)) z) s.5,
-        then r.7 (mv.params_more e s.6),
+        then r.7 (of_declr.params_more e s.6),
       )
 
   complete_param : {ts rest : List Token} {d : Decl} → IsParam ts d rest → Closing rest → ParamRun ts d rest
@@ -308,15 +310,15 @@ mutual
         label_name l,
         label_from (from_of ts) l,
         refl,
-        then (complete_annotation a (type_begins s) P K) (mv.specs_param (specs_taken s (declr_wordless c n)) (complete_declr c namings.Either (from_of ts) (PSpecs an b ∷ P) K (either l) (closing_lacks rest namings.Either l k) (closing_ends rest k) n)),
+        then (complete_annotation a (type_begins s) P K) (of_declr.specs_param (specs_taken s (declr_wordless c n)) (complete_declr c namings.Either (from_of ts) (PSpecs an b ∷ P) K (either l) (closing_lacks rest namings.Either l k) (closing_ends rest k) n)),
       )
 
   complete_annotation : {ts rest : List Token} {an : Annots} → IsAnnotation ts an rest → begins_type rest ≡ true → (P : List Piece) (K : List Frame) →
       Reaches (tstate nx.Param P ts K) (tstate (nx.Specs (targets.Param (from_of ts))) (PAnnots an ∷ P) rest K)
-  complete_annotation {ts = ts} g.no_annotation k P K = mv.param_plain (type_mark ts marks.OpenBracket k refl) here
+  complete_annotation {ts = ts} g.no_annotation k P K = of_declr.param_plain (type_mark ts marks.OpenBracket k refl) here
   complete_annotation (g.annotation {t = t} e d h) k P K =
       let r = complete_annots d (inr h) (targets.Param t.from) P K in
-      rw r.4 (mv.param_annots e (then r.5 (mv.annots_done h here)))
+      rw r.4 (of_declr.param_annots e (then r.5 (of_declr.annots_done h here)))
 
   pub complete_annots : {ts rest : List Token} {an : Annots} → IsAnnots ts an rest → AnnotsEnd rest → AnnotsRun ts an rest
   complete_annots (g.first_annot d) k tg P K =
@@ -330,30 +332,30 @@ mutual
         s.1,
         s.2,
         ap (λ z. annots_then z x) r.4 ∙ ap (λ z. annots_then (annots_then r.0 (Annotate r.1 r.2 r.3)) z) s.3,
-        then r.5 (mv.annots_more e s.4),
+        then r.5 (of_declr.annots_more e s.4),
       )
 
   complete_annot : {ts rest : List Token} {x : Annot} → IsAnnot ts x rest → (mark_at rest ≡ marks.Open → ⊥) → AnnotRun ts x rest
-  complete_annot (g.word_annot {t = t} {n = n} e) k P K = (t.from, n, NoItems, refl, mv.annot_word e k here)
+  complete_annot (g.word_annot {t = t} {n = n} e) k P K = (t.from, n, NoItems, refl, of_declr.annot_word e k here)
   complete_annot (g.call_annot {t = t} {n = n} {is = is} e o d h) k P K =
       let r = complete_items d (inl h) t.from n P K in
-      (t.from, n, is, refl, rw r.2 (mv.annot_call e o (then r.3 (mv.items_done h here))))
+      (t.from, n, is, refl, rw r.2 (of_declr.annot_call e o (then r.3 (of_declr.items_done h here))))
 
   complete_items : {ts rest : List Token} {xs : Items} → IsItems ts xs rest → Closing rest → ItemsRun ts xs rest
   complete_items (g.first_item {x = x} d) k f n P K = (NoItems, x, refl, complete_item d (closing_no_star _ k) (PAnnot f n NoItems ∷ P) (fr.Items ∷ K))
   complete_items (g.more_items {xs = xs} {x = x} d e c) k f n P K =
       let r = complete_items d (inr e) f n P K in
-      (items_then r.0 r.1, x, ap (λ z. items_then z x) r.2, then r.3 (mv.items_more e (complete_item c (closing_no_star _ k) (PAnnot f n (items_then r.0 r.1) ∷ P) (fr.Items ∷ K))))
+      (items_then r.0 r.1, x, ap (λ z. items_then z x) r.2, then r.3 (of_declr.items_more e (complete_item c (closing_no_star _ k) (PAnnot f n (items_then r.0 r.1) ∷ P) (fr.Items ∷ K))))
 
   complete_item : {ts rest : List Token} {x : Item} → IsItem ts x rest → (mark_at rest ≡ marks.Star → ⊥) → ItemRun ts x rest
-  complete_item {ts = ts} (g.factor d) k P K = mv.item_move (then (complete_atom d P (fr.FirstFactor (from_of ts) ∷ K)) (mv.factor_one k here))
+  complete_item {ts = ts} (g.factor d) k P K = of_declr.item_move (then (complete_atom d P (fr.FirstFactor (from_of ts) ∷ K)) (of_declr.factor_one k here))
   complete_item {ts = ts} (g.product {a = a} d e c) k P K =
-      mv.item_move (then (complete_atom d P (fr.FirstFactor (from_of ts) ∷ K)) (mv.factor_star e (then (complete_atom c (PAtom a ∷ P) (fr.SecondFactor (from_of ts) ∷ K)) (mv.factor_two here))))
+      of_declr.item_move (then (complete_atom d P (fr.FirstFactor (from_of ts) ∷ K)) (of_declr.factor_star e (then (complete_atom c (PAtom a ∷ P) (fr.SecondFactor (from_of ts) ∷ K)) (of_declr.factor_two here))))
 
   complete_atom : {ts rest : List Token} {a : Atom} → IsAtom ts a rest → AtomRun ts a rest
-  complete_atom (g.name_atom e) P K = mv.atom_name e here
-  complete_atom (g.number_atom e) P K = mv.atom_number e here
-  complete_atom (g.return_atom e) P K = mv.atom_return e here
+  complete_atom (g.name_atom e) P K = of_declr.atom_name e here
+  complete_atom (g.number_atom e) P K = of_declr.atom_number e here
+  complete_atom (g.return_atom e) P K = of_declr.atom_return e here
   complete_atom (g.sizeof_atom e o d h) P K =
       let r = complete_type d (inl h) P (fr.SizeofAtom ∷ K) in
-      rw r.5 (mv.atom_sizeof e o (then r.6 (mv.sizeof_atom_done h here)))
+      rw r.5 (of_declr.atom_sizeof e o (then r.6 (of_declr.sizeof_atom_done h here)))

@@ -22,7 +22,8 @@ use Rattle.c_parser_actions.specs.declared.frame.Next.TheVariants as nx
 use Rattle.c_parser_actions.specs.declared.action.Action.TheVariants as acts
 use Rattle.c_parser_actions.specs.Marks.{mark_at, sign_mark, after_at}
 use Rattle.c_parser_actions.specs.Pieces.{Piece, PExpr, PMaybe, PDeclr, PSpecs, PDecls, PValue, PValues, PEntries, PStmt, PFirst, PTag, act}
-use Rattle.c_parser_actions.specs.Machine.{end_next, defines_kinds, defines}
+use Rattle.c_parser_actions.specs.MachineDeclr.{end_next}
+use Rattle.c_parser_actions.specs.MachineSource.{defines_kinds, defines}
 use Rattle.c_syntax.specs.Grammar.{IsExpr, IsWords, IsSpecs, IsDeclr, IsDirect, IsAnnotation, Label, Named, Nameless}
 use Rattle.c_syntax.specs.declared.specifier.Specifiers.{Specifiers}
 use Rattle.c_syntax.specs.TypeWords.{with_word}
@@ -30,8 +31,12 @@ use Rattle.c_syntax.specs.Grammar as g
 use Rattle.c_syntax.specs.Sources as s
 use Rattle.c_syntax.specs.Sources.{IsValue, IsValues, IsInit, IsNames, IsLocal, IsMaybe, IsFirst, IsStmt, IsEntries, IsMembers, IsTops, Spells}
 use Rattle.c_parser_actions.proofs.Runs.{TState, tstate, start_expr, Reaches, here, then}
-use Rattle.c_parser_actions.proofs.Moves as mv
-use Rattle.c_parser_actions.proofs.Moves.{Pops, DirectEnds, end_pieces, valued}
+use Rattle.c_parser_actions.proofs.MovesDeclr as of_declr
+use Rattle.c_parser_actions.proofs.MovesExpr as of_expr
+use Rattle.c_parser_actions.proofs.MovesSource as of_source
+use Rattle.c_parser_actions.proofs.MovesDeclr.{DirectEnds}
+use Rattle.c_parser_actions.proofs.MovesExpr.{Pops}
+use Rattle.c_parser_actions.proofs.MovesSource.{end_pieces, valued}
 use Rattle.c_parser_actions.proofs.Firsts.{starts, starts_not, starts_no_type, expr_starts, kind_other}
 use Rattle.c_parser_actions.proofs.Types.{wordless, type_begins, specs_taken, type_mark, is_other, struct_refused}
 use Rattle.c_parser_actions.proofs.Complete.{complete_expr, closed_run, complete_declr, declr_wordless, complete_annots}
@@ -65,19 +70,19 @@ mutual
   pub complete_value : {ts rest : List Token} {v : Value} → IsValue ts v rest → ValueEnd rest → ValueRun ts v rest
   complete_value {ts = ts} {rest = rest} (s.plain d) k P K =
       let r = complete_expr d (value_pops rest k) 2 (omega arith) P (fr.Plain ∷ K) in
-      mv.initial_plain (starts_not ts marks.OpenBrace (expr_starts d) refl) (then r.2 (mv.value_move (value_pops rest k) r.1 (mv.plain_done here)))
+      of_source.initial_plain (starts_not ts marks.OpenBrace (expr_starts d) refl) (then r.2 (of_expr.value_move (value_pops rest k) r.1 (of_expr.plain_done here)))
   complete_value (s.braces {t = t} e d h) k P K =
       let r = complete_values d (inr h) t.from P K in
-      rw r.2 (mv.initial_braces e (then r.3 (mv.braces_done h here)))
+      rw r.2 (of_source.initial_braces e (then r.3 (of_source.braces_done h here)))
   complete_value (s.braces_comma {t = t} e d h l) k P K =
       let r = complete_values d (inl (inl h)) t.from P K in
-      rw r.2 (mv.initial_braces e (then r.3 (mv.braces_comma_done h l here)))
+      rw r.2 (of_source.initial_braces e (then r.3 (of_source.braces_comma_done h l here)))
 
   complete_values : {ts rest : List Token} {vs : Values} → IsValues ts vs rest → ValueEnd rest → ValuesRun ts vs rest
   complete_values (s.first_value {v = v} d) k f P K = (NoValues, v, refl, complete_value d k (PValues NoValues ∷ P) (fr.Braces f ∷ K))
   complete_values (s.more_values {us = us} {vs = vs} {v = v} d e c) k f P K =
       let r = complete_values d (inl (inl e)) f P K in
-      (values_then r.0 r.1, v, ap (λ z. values_then z v) r.2, then r.3 (mv.braces_more e (value_begins c) (complete_value c k (PValues (values_then r.0 r.1) ∷ P) (fr.Braces f ∷ K))))
+      (values_then r.0 r.1, v, ap (λ z. values_then z v) r.2, then r.3 (of_source.braces_more e (value_begins c) (complete_value c k (PValues (values_then r.0 r.1) ∷ P) (fr.Braces f ∷ K))))
 
 -- what may follow a name and its value
 abbrev NameEnd : List Token → Type 0
@@ -116,7 +121,7 @@ name_run {values = values} {an = an} {b = b} {rest = rest} {ps = ps} {f = f} {n 
     let i : IsInit values (t ∷ ts) (Initial z) rest = s.init w e c in
     let q = name_direct i h in
     then (complete_declr d namings.Always 0 (PSpecs an b ∷ PDecls ds ∷ P) (fr.Names pl first ∷ K) refl tt q.0 q.1)
-    (mv.names_value pl e (v w) (complete_value c (name_value rest h) (PDeclr ps (Some n) f ∷ PSpecs an b ∷ PDecls ds ∷ P) (fr.Init pl ∷ K)))
+    (of_source.names_value pl e (v w) (complete_value c (name_value rest h) (PDeclr ps (Some n) f ∷ PSpecs an b ∷ PDecls ds ∷ P) (fr.Init pl ∷ K)))
 
 -- what a name may have after its declarator
 abbrev Ends : Rest → Type 0
@@ -128,16 +133,16 @@ Ends _ = ⊥
 comma_run : (r : Rest) → Ends r → (t : Token) (pl : DeclaredIn) (first : Bool) (an : Annots) (b : Base) (ps : Parts) (f : ℕ) (n : List ℕ) (ds : Decls) (P : List Piece) {ts : List Token} {K : List Frame} {z : TState} → t.kind ≡ kinds.Sign signs.Comma →
     Reaches (tstate (nx.Declr namings.Always 0) (PSpecs an b ∷ PDecls (decls_then ds (Declare f an b ps (Some n) r)) ∷ P) ts (fr.Names pl false ∷ K)) z →
     Reaches (named_state r pl first an b ps f n ds P (t ∷ ts) K) z
-comma_run NoRest q t pl first an b ps f n ds P e r = mv.names_comma e r
-comma_run (Initial v) q t pl first an b ps f n ds P e r = mv.init_comma e r
+comma_run NoRest q t pl first an b ps f n ds P e r = of_source.names_comma e r
+comma_run (Initial v) q t pl first an b ps f n ds P e r = of_source.init_comma e r
 comma_run (Body x) q t pl first an b ps f n ds P e r = absurd q
 comma_run (Members x) q t pl first an b ps f n ds P e r = absurd q
 
 semicolon_run : (r : Rest) → Ends r → (t : Token) (pl : DeclaredIn) (first : Bool) (an : Annots) (b : Base) (ps : Parts) (f : ℕ) (n : List ℕ) (ds : Decls) (P : List Piece) {ts : List Token} {K : List Frame} {z : TState} → t.kind ≡ kinds.Sign signs.Semicolon →
     Reaches (tstate (end_next pl) (end_pieces pl (PDecls (decls_then ds (Declare f an b ps (Some n) r)) ∷ P)) ts K) z →
     Reaches (named_state r pl first an b ps f n ds P (t ∷ ts) K) z
-semicolon_run NoRest q t pl first an b ps f n ds P e r = mv.names_end pl e r
-semicolon_run (Initial v) q t pl first an b ps f n ds P e r = mv.init_finish pl e r
+semicolon_run NoRest q t pl first an b ps f n ds P e r = of_source.names_end pl e r
+semicolon_run (Initial v) q t pl first an b ps f n ds P e r = of_source.init_finish pl e r
 semicolon_run (Body x) q t pl first an b ps f n ds P e r = absurd q
 semicolon_run (Members x) q t pl first an b ps f n ds P e r = absurd q
 
@@ -166,38 +171,38 @@ names_wordless (s.first_name d i) h = declr_wordless d (name_direct i h).1
 names_wordless (s.more_names d e c i) h = names_wordless d (inl e)
 
 local_run : {ts rest : List Token} {ds : Decls} → IsLocal ts ds rest → (P : List Piece) (K : List Frame) → Reaches (tstate (nx.Names places.Local) P ts K) (tstate nx.Entry (act acts.AddLocal (PDecls ds ∷ P)) rest K)
-local_run (s.local c d h) P K = mv.names_local (specs_taken c (names_wordless d (inr h))) (all_names d h places.Local (λ x. refl) P K)
+local_run (s.local c d h) P K = of_declr.names_local (specs_taken c (names_wordless d (inr h))) (all_names d h places.Local (λ x. refl) P K)
 
 for_local_run : {ts rest : List Token} {ds : Decls} → IsLocal ts ds rest → (f : ℕ) (P : List Piece) (K : List Frame) → Reaches (tstate (nx.Names (places.For f)) P ts K) (tstate (nx.ForTest f) (PFirst (LocalFirst ds) ∷ P) rest K)
-for_local_run (s.local c d h) f P K = mv.names_for (specs_taken c (names_wordless d (inr h))) (all_names d h (places.For f) (λ x. refl) P K)
+for_local_run (s.local c d h) f P K = of_declr.names_for (specs_taken c (names_wordless d (inr h))) (all_names d h (places.For f) (λ x. refl) P K)
 
 local_begins : {ts rest : List Token} {ds : Decls} → IsLocal ts ds rest → begins_type ts ≡ true
 local_begins (s.local c d h) = type_begins c
 
 first_run : {ts rest : List Token} {a : First} → IsFirst ts a rest → (f : ℕ) (P : List Piece) (K : List Frame) → Reaches (tstate (nx.ForFirst f) P ts K) (tstate (nx.ForTest f) (PFirst a ∷ P) rest K)
-first_run {ts = ts} (s.local_first d) f P K = mv.first_local (type_mark ts marks.Semicolon (local_begins d) refl) (local_begins d) (for_local_run d f P K)
-first_run {ts = ts} (s.expr_first d h) f P K = mv.first_expr (starts_not ts marks.Semicolon (expr_starts d) refl) (starts_no_type ts (expr_starts d)) (then (closed_run (complete_expr d (rw h tt)) (rw h tt) P (fr.ForFirst f ∷ K)) (mv.for_first_done h here))
-first_run (s.no_first h) f P K = mv.no_first_move h here
+first_run {ts = ts} (s.local_first d) f P K = of_source.first_local (type_mark ts marks.Semicolon (local_begins d) refl) (local_begins d) (for_local_run d f P K)
+first_run {ts = ts} (s.expr_first d h) f P K = of_source.first_expr (starts_not ts marks.Semicolon (expr_starts d) refl) (starts_no_type ts (expr_starts d)) (then (closed_run (complete_expr d (rw h tt)) (rw h tt) P (fr.ForFirst f ∷ K)) (of_expr.for_first_done h here))
+first_run (s.no_first h) f P K = of_source.no_first_move h here
 
 test_run : {t : Token} {ts rest : List Token} {x : MaybeExpr} → IsMaybe ts x (t ∷ rest) → t.kind ≡ kinds.Sign signs.Semicolon → (f : ℕ) (P : List Piece) (K : List Frame) → Reaches (tstate (nx.ForTest f) P ts K) (tstate (nx.ForStep f) (PMaybe x ∷ P) rest K)
-test_run s.nothing h f P K = mv.test_none h here
-test_run {ts = ts} (s.something d) h f P K = mv.test_some (starts_not ts marks.Semicolon (expr_starts d) refl) (then (closed_run (complete_expr d (rw h tt)) (rw h tt) P (fr.ForTest f ∷ K)) (mv.for_test_done h here))
+test_run s.nothing h f P K = of_source.test_none h here
+test_run {ts = ts} (s.something d) h f P K = of_source.test_some (starts_not ts marks.Semicolon (expr_starts d) refl) (then (closed_run (complete_expr d (rw h tt)) (rw h tt) P (fr.ForTest f ∷ K)) (of_expr.for_test_done h here))
 
 step_run : {t : Token} {ts rest : List Token} {x : MaybeExpr} → IsMaybe ts x (t ∷ rest) → t.kind ≡ kinds.Sign signs.CloseParenthesis → (f : ℕ) (P : List Piece) (K : List Frame) → Reaches (tstate (nx.ForStep f) P ts K) (tstate nx.Stmt (PMaybe x ∷ P) rest (fr.ForBody f ∷ K))
-step_run s.nothing h f P K = mv.step_none h here
-step_run {ts = ts} (s.something d) h f P K = mv.step_some (starts_not ts marks.Close (expr_starts d) refl) (then (closed_run (complete_expr d (rw h tt)) (rw h tt) P (fr.ForStep f ∷ K)) (mv.for_step_done h here))
+step_run s.nothing h f P K = of_source.step_none h here
+step_run {ts = ts} (s.something d) h f P K = of_source.step_some (starts_not ts marks.Close (expr_starts d) refl) (then (closed_run (complete_expr d (rw h tt)) (rw h tt) P (fr.ForStep f ∷ K)) (of_expr.for_step_done h here))
 
 return_run : {t u : Token} {ts rest : List Token} {x : MaybeExpr} → t.kind ≡ kinds.Word words.Return → IsMaybe ts x (u ∷ rest) → u.kind ≡ kinds.Sign signs.Semicolon → (P : List Piece) (K : List Frame) → Reaches (tstate nx.Stmt P (t ∷ ts) K) (tstate nx.StmtDone (PStmt (Return t.from x) ∷ P) rest K)
-return_run e s.nothing h P K = mv.return_none e h here
-return_run {t = t} {ts = ts} e (s.something d) h P K = mv.return_some e (starts_not ts marks.Semicolon (expr_starts d) refl) (then (closed_run (complete_expr d (rw h tt)) (rw h tt) P (fr.Return t.from ∷ K)) (mv.return_done h here))
+return_run e s.nothing h P K = of_source.return_none e h here
+return_run {t = t} {ts = ts} e (s.something d) h P K = of_source.return_some e (starts_not ts marks.Semicolon (expr_starts d) refl) (then (closed_run (complete_expr d (rw h tt)) (rw h tt) P (fr.Return t.from ∷ K)) (of_expr.return_done h here))
 
 other_run : (ts : List Token) {P : List Piece} {K : List Frame} {z : TState} → starts ts ≡ true → Reaches (start_expr 1 P ts (fr.Expression (from_of ts) ∷ K)) z → Reaches (tstate nx.Stmt P ts K) z
 other_run [] h r = absurd (let x : false ≡ true = h in cc)
-other_run (t ∷ ts) h r = mv.other_move (kind_other t.kind h) r
+other_run (t ∷ ts) h r = of_source.other_move (kind_other t.kind h) r
 
 expression_run : {t : Token} {ts rest : List Token} {x : MaybeExpr} → IsMaybe ts x (t ∷ rest) → t.kind ≡ kinds.Sign signs.Semicolon → (P : List Piece) (K : List Frame) → Reaches (tstate nx.Stmt P ts K) (tstate nx.StmtDone (PStmt (Expression (from_of ts) x) ∷ P) rest K)
-expression_run s.nothing h P K = mv.empty_move h here
-expression_run {ts = ts} (s.something d) h P K = other_run ts (expr_starts d) (then (closed_run (complete_expr d (rw h tt)) (rw h tt) P (fr.Expression (from_of ts) ∷ K)) (mv.expression_done h here))
+expression_run s.nothing h P K = of_source.empty_move h here
+expression_run {ts = ts} (s.something d) h P K = other_run ts (expr_starts d) (then (closed_run (complete_expr d (rw h tt)) (rw h tt) P (fr.Expression (from_of ts) ∷ K)) (of_expr.expression_done h here))
 
 -- a statement begins with neither a brace that closes nor a type
 abbrev Begun : List Token → Type 0
@@ -227,34 +232,34 @@ stmt_begun (s.return {t = t} {ts = ts} e d h) = word_begun t ts _ e refl
 
 mutual
   pub complete_stmt : {ts rest : List Token} {x : Stmt} → IsStmt ts x rest → (P : List Piece) (K : List Frame) → Reaches (tstate nx.Stmt P ts K) (tstate nx.StmtDone (PStmt x ∷ P) rest K)
-  complete_stmt (s.block {t = t} e d h) P K = mv.block_move e (then (complete_entries d t.from P K) (mv.entry_end h here))
+  complete_stmt (s.block {t = t} e d h) P K = of_source.block_move e (then (complete_entries d t.from P K) (of_source.entry_end h here))
   complete_stmt (s.expression d h) P K = expression_run d h P K
   complete_stmt (s.if_only {t = t} {e = x} e h d k c n) P K =
-      mv.if_move e h (then (closed_run (complete_expr d (rw k tt)) (rw k tt) P (fr.IfCond t.from ∷ K)) (mv.if_cond_done k (then (complete_stmt c (PExpr x ∷ P) (fr.IfThen t.from ∷ K)) (mv.if_done n here))))
+      of_source.if_move e h (then (closed_run (complete_expr d (rw k tt)) (rw k tt) P (fr.IfCond t.from ∷ K)) (of_expr.if_cond_done k (then (complete_stmt c (PExpr x ∷ P) (fr.IfThen t.from ∷ K)) (of_source.if_done n here))))
   complete_stmt (s.if_else {t = t} {e = x} {s = y} e h d k c w z) P K =
-      mv.if_move e h (then (closed_run (complete_expr d (rw k tt)) (rw k tt) P (fr.IfCond t.from ∷ K)) (mv.if_cond_done k (then (complete_stmt c (PExpr x ∷ P) (fr.IfThen t.from ∷ K)) (mv.else_move w (then (complete_stmt z (PStmt y ∷ PExpr x ∷ P) (fr.IfElse t.from ∷ K)) (mv.else_done here))))))
+      of_source.if_move e h (then (closed_run (complete_expr d (rw k tt)) (rw k tt) P (fr.IfCond t.from ∷ K)) (of_expr.if_cond_done k (then (complete_stmt c (PExpr x ∷ P) (fr.IfThen t.from ∷ K)) (of_source.else_move w (then (complete_stmt z (PStmt y ∷ PExpr x ∷ P) (fr.IfElse t.from ∷ K)) (of_source.else_done here))))))
   complete_stmt (s.while {t = t} {e = x} e h d k c) P K =
-      mv.while_move e h (then (closed_run (complete_expr d (rw k tt)) (rw k tt) P (fr.WhileCond t.from ∷ K)) (mv.while_cond_done k (then (complete_stmt c (PExpr x ∷ P) (fr.WhileBody t.from ∷ K)) (mv.while_done here))))
+      of_source.while_move e h (then (closed_run (complete_expr d (rw k tt)) (rw k tt) P (fr.WhileCond t.from ∷ K)) (of_expr.while_cond_done k (then (complete_stmt c (PExpr x ∷ P) (fr.WhileBody t.from ∷ K)) (of_source.while_done here))))
   complete_stmt (s.do_while {t = t} {s = y} e d h k c l m) P K =
-      mv.do_move e (then (complete_stmt d P (fr.DoBody t.from ∷ K)) (mv.do_done h k (then (closed_run (complete_expr c (rw l tt)) (rw l tt) (PStmt y ∷ P) (fr.DoCond t.from ∷ K)) (mv.do_cond_done l m here))))
+      of_source.do_move e (then (complete_stmt d P (fr.DoBody t.from ∷ K)) (of_source.do_done h k (then (closed_run (complete_expr c (rw l tt)) (rw l tt) (PStmt y ∷ P) (fr.DoCond t.from ∷ K)) (of_expr.do_cond_done l m here))))
   complete_stmt (s.for {t = t} {a = a} {x = x} {y = y} e h d c k b l q) P K =
-      mv.for_move e h (then (first_run d t.from P K) (then (test_run c k t.from (PFirst a ∷ P) K) (then (step_run b l t.from (PMaybe x ∷ PFirst a ∷ P) K) (then (complete_stmt q (PMaybe y ∷ PMaybe x ∷ PFirst a ∷ P) (fr.ForBody t.from ∷ K)) (mv.for_done here)))))
-  complete_stmt (s.break e h) P K = mv.break_move e h here
-  complete_stmt (s.continue e h) P K = mv.continue_move e h here
+      of_source.for_move e h (then (first_run d t.from P K) (then (test_run c k t.from (PFirst a ∷ P) K) (then (step_run b l t.from (PMaybe x ∷ PFirst a ∷ P) K) (then (complete_stmt q (PMaybe y ∷ PMaybe x ∷ PFirst a ∷ P) (fr.ForBody t.from ∷ K)) (of_source.for_done here)))))
+  complete_stmt (s.break e h) P K = of_source.break_move e h here
+  complete_stmt (s.continue e h) P K = of_source.continue_move e h here
   complete_stmt (s.return e d h) P K = return_run e d h P K
 
   complete_entries : {ts rest : List Token} {es : Entries} → IsEntries ts es rest → (f : ℕ) (P : List Piece) (K : List Frame) → Reaches (tstate nx.Entry (PEntries NoEntries ∷ P) ts (fr.Block f ∷ K)) (tstate nx.Entry (PEntries es ∷ P) rest (fr.Block f ∷ K))
   complete_entries s.no_entry f P K = here
   complete_entries (s.local_entry {us = us} {es = es} d c) f P K =
-      then (complete_entries d f P K) (mv.entry_local (type_mark us marks.CloseBrace (local_begins c) refl) (local_begins c) (local_run c (PEntries es ∷ P) (fr.Block f ∷ K)))
+      then (complete_entries d f P K) (of_source.entry_local (type_mark us marks.CloseBrace (local_begins c) refl) (local_begins c) (local_run c (PEntries es ∷ P) (fr.Block f ∷ K)))
   complete_entries (s.stmt_entry {es = es} d c) f P K =
       let b = stmt_begun c in
-      then (complete_entries d f P K) (mv.entry_stmt b.0 b.1 (then (complete_stmt c (PEntries es ∷ P) (fr.Block f ∷ K)) (mv.entry_more here)))
+      then (complete_entries d f P K) (of_source.entry_stmt b.0 b.1 (then (complete_stmt c (PEntries es ∷ P) (fr.Block f ∷ K)) (of_source.entry_more here)))
 
 members_run : {ts rest : List Token} {ds : Decls} → IsMembers ts ds rest → (P : List Piece) (K : List Frame) → Reaches (tstate (nx.Names places.Member) (PDecls NoDecls ∷ P) ts K) (tstate nx.MemberEnd (PDecls ds ∷ P) rest K)
-members_run (s.first_members c d h) P K = mv.names_member (specs_taken c (names_wordless d (inr h))) (all_names d h places.Member (λ x. x) P K)
+members_run (s.first_members c d h) P K = of_declr.names_member (specs_taken c (names_wordless d (inr h))) (all_names d h places.Member (λ x. x) P K)
 members_run (s.more_members {us = us} m c d h) P K =
-    then (members_run m P K) (mv.members_more (type_mark us marks.CloseBrace (type_begins c) refl) (mv.names_member (specs_taken c (names_wordless d (inr h))) (all_names d h places.Member (λ x. x) P K)))
+    then (members_run m P K) (of_source.members_more (type_mark us marks.CloseBrace (type_begins c) refl) (of_declr.names_member (specs_taken c (names_wordless d (inr h))) (all_names d h places.Member (λ x. x) P K)))
 
 -- a type at top level begins with a word
 word_mark : (t : Token) (ts : List Token) (w : Word) (c : Punctuator) → t.kind ≡ kinds.Word w → mark_at (t ∷ ts) ≡ c → is_other c ≡ false → ⊥
@@ -307,10 +312,10 @@ top_begins (g.specs (g.tag {t = t} {u = u} {ts = ts} e k f d) h) o = ((λ q. abs
 -- annotations and the type after them
 top_run : {ts us vs : List Token} {an : Annots} {b : Base} → IsAnnotation ts an us → IsSpecs true us b vs → wordless vs ≡ true → Opened vs → (P : List Piece) →
     Reaches (tstate nx.Top P ts []) (tstate (nx.Declr namings.Always 0) (PSpecs an b ∷ P) vs (fr.Names places.Top true ∷ []))
-top_run {ts = ts} g.no_annotation d w o P = let q = top_begins d o in mv.top_plain ts q.0 q.1.0 q.1.1 (mv.specs_top (specs_taken d w) here)
+top_run {ts = ts} g.no_annotation d w o P = let q = top_begins d o in of_source.top_plain ts q.0 q.1.0 q.1.1 (of_declr.specs_top (specs_taken d w) here)
 top_run (g.annotation e a h) d w o P =
     let r = complete_annots a (inr h) targets.Top P [] in
-    rw r.4 (mv.top_annots e (then r.5 (mv.annots_done h (mv.specs_top (specs_taken d w) here))))
+    rw r.4 (of_source.top_annots e (then r.5 (of_declr.annots_done h (of_declr.specs_top (specs_taken d w) here))))
 
 -- a declarator doesn't begin with a brace
 direct_opened : {ts rest : List Token} {ps : Parts} {l : Label} → IsDirect ts ps l rest → Opened rest → Opened ts
@@ -337,14 +342,14 @@ names_opened (s.more_names d e c i) = names_opened d
 pub complete_tops : {ts rest : List Token} {ds : Decls} → IsTops ts ds rest → Reaches (tstate nx.Top (PDecls NoDecls ∷ []) ts []) (tstate nx.Top (PDecls ds ∷ []) rest [])
 complete_tops s.no_top = here
 complete_tops (s.struct {t = t} {n = n} {ds = ds} d e f h m k l) =
-    then (complete_tops d) (mv.struct_move e f h (then (members_run m (PTag t.from n ∷ PDecls ds ∷ []) (fr.Struct ∷ [])) (mv.members_done k l here)))
+    then (complete_tops d) (of_source.struct_move e f h (then (members_run m (PTag t.from n ∷ PDecls ds ∷ []) (fr.Struct ∷ [])) (of_source.members_done k l here)))
 complete_tops (s.names {ds = ds} d a c m h) =
     then (complete_tops d) (then (top_run a c (names_wordless m (inr h)) (names_opened m) (PDecls ds ∷ [])) (all_names m h places.Top (λ x. refl) [] []))
 complete_tops (s.definition {an = an} {b = b} {ps = ps} {f = f} {n = n} {ds = ds} d a c m h x) =
     then (complete_tops d) (then (top_run a c (declr_wordless m (rw h refl)) (declr_opened m) (PDecls ds ∷ []))
     (then (complete_declr m namings.Always 0 (PSpecs an b ∷ PDecls ds ∷ []) (fr.Names places.Top true ∷ []) refl tt (rw h tt) (rw h refl))
-    (mv.names_body h (then (complete_stmt x (PDeclr ps (Some n) f ∷ PSpecs an b ∷ PDecls ds ∷ []) (fr.Body ∷ [])) (mv.body_done here)))))
+    (of_source.names_body h (then (complete_stmt x (PDeclr ps (Some n) f ∷ PSpecs an b ∷ PDecls ds ∷ []) (fr.Body ∷ [])) (of_source.body_done here)))))
 
 -- the tokens of a source are read to their end
 pub complete : {ts : List Token} {ds : Decls} → Spells ts ds → Reaches (tstate nx.Top (PDecls NoDecls ∷ []) ts []) (tstate nx.End (PDecls ds ∷ []) [] [])
-complete d = then (complete_tops d) (mv.top_end here)
+complete d = then (complete_tops d) (of_source.top_end here)

@@ -9,8 +9,9 @@ use Rattle.c_parser_actions.specs.declared.frame.Frame.{Frame}
 use Rattle.c_parser_actions.specs.declared.frame.Next.{Next}
 use Rattle.c_parser_actions.specs.declared.frame.Next.TheVariants as nx
 use Rattle.c_parser_actions.specs.Pieces.{Piece, PDecls, act, acted}
-use Rattle.c_parser_actions.specs.Machine.{Move, move, moved, step, read_next, works}
-use Rattle.c_parser_actions.specs.Weight.{weight}
+use Rattle.c_parser_actions.specs.Machine.{Move, move, moved}
+use Rattle.c_parser_actions.specs.MachineSteps.{step, read_next, works}
+use Rattle.c_parser_actions.proofs.Weight.{weight}
 use Rattle.c_parser_actions.proofs.Runs.{TState, tstate, Reaches, here, go, then}
 use Rattle.c_parser_actions.proofs.Good.{Good}
 use Rattle.c_parser_actions.proofs.SoundSource.{step_good}

@@ -20,7 +20,7 @@ use Rattle.c_parser_actions.specs.declared.mark.After.{After}
 use Rattle.c_parser_actions.specs.declared.mark.After.TheVariants as afters
 use Rattle.c_parser_actions.specs.declared.mark.Begin.TheVariants as begins
 use Rattle.c_parser_actions.specs.Marks.{mark_of, mark_at, sign_mark, after_sign, after_of, begin_of}
-use Rattle.c_parser_actions.proofs.Moves.{Pops}
+use Rattle.c_parser_actions.proofs.MovesExpr.{Pops}
 
 -- the tables of signs
 pub after_level : (x : Sign) (l : ℕ) → level_of x ≡ Some l → after_sign x ≡ afters.Binary l x

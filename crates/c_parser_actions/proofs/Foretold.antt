@@ -10,7 +10,8 @@ use Rattle.c_parser_actions.specs.declared.frame.Frame.{Frame}
 use Rattle.c_parser_actions.specs.declared.frame.Next.{Next}
 use Rattle.c_parser_actions.specs.declared.action.Action.{Action}
 use Rattle.c_parser_actions.specs.Marks.{mark_of}
-use Rattle.c_parser_actions.specs.Machine.{Move, moved, step}
+use Rattle.c_parser_actions.specs.Machine.{Move, moved}
+use Rattle.c_parser_actions.specs.MachineSteps.{step}
 use Rattle.c_parser_actions.specs.Words.{scan, at_mark, lists}
 use Rattle.c_parser_actions.specs.Ahead.{Foretells, nearest, met, closers}
 use Rattle.c_parser_actions.proofs.Onward.{on_step}

@@ -18,11 +18,12 @@ use Rattle.c_parser_actions.specs.declared.frame.Frame.TheVariants as fr
 use Rattle.c_parser_actions.specs.declared.frame.Next.{Next}
 use Rattle.c_parser_actions.specs.declared.frame.Next.TheVariants as nx
 use Rattle.c_parser_actions.specs.Pieces.{Piece, PExpr, PExprs, PMaybe, PDeclr, PSpecs, PDecl, PDecls, PAnnots, PAnnot, PItem, PAtom, PValue, PValues, PEntries, PStmt, PFirst, PTag}
-use Rattle.c_parser_actions.specs.Machine.{start, groups}
+use Rattle.c_parser_actions.specs.MachineDeclr.{groups}
+use Rattle.c_parser_actions.specs.MachineExpr.{start}
 use Rattle.c_syntax.specs.Grammar.{IsPostfix, IsUnary, IsExpr, IsArgs, IsTypeName, IsSpecs, IsConsts, IsDeclr, IsDirect, IsParamList, IsAnnotation, IsAnnots, IsAnnot, IsItems, IsItem, IsAtom, Label, Named, label_from, label_name}
 use Rattle.c_syntax.specs.Sources.{IsValue, IsValues, IsNames, IsMaybe, IsFirst, IsStmt, IsEntries, IsMembers, IsTops}
 use Rattle.c_parser_actions.proofs.Runs.{TState}
-use Rattle.c_parser_actions.proofs.Moves.{valued}
+use Rattle.c_parser_actions.proofs.MovesSource.{valued}
 use Rattle.c_parser_actions.proofs.Complete.{Allows}
 
 -- a list that goes on: nothing so far, or some with a comma

@@ -19,8 +19,8 @@ use Rattle.c_parser_actions.specs.Marks.{mark_of, sign_mark}
 use Rattle.c_parser_actions.specs.declared.frame.Naming.{Naming}
 use Rattle.c_parser_actions.specs.declared.frame.Naming.TheVariants as namings
 use Rattle.c_parser_actions.specs.Words.{at_mark, scan, lists}
-use Rattle.c_parser_actions.specs.Machine.{groups, kind_groups, named_group}
-use Rattle.c_parser_actions.proofs.Moves.{unnamed_ok}
+use Rattle.c_parser_actions.specs.MachineDeclr.{groups, kind_groups, named_group}
+use Rattle.c_parser_actions.proofs.MovesDeclr.{unnamed_ok}
 use Rattle.c_parser_actions.proofs.Types.{type_begins}
 
 abbrev plain : Punctuator → Bool

@@ -1,6 +1,9 @@
+pub mod Weight
 pub mod Foretold
 pub mod Runs
-pub mod Moves
+pub mod MovesExpr
+pub mod MovesDeclr
+pub mod MovesSource
 pub mod Firsts
 pub mod Types
 pub mod Groups
@@ -11,6 +14,14 @@ pub mod Good
 pub mod Sound
 pub mod SoundDeclr
 pub mod SoundSource
+pub mod OnwardWords
+pub mod OnwardExpr
+pub mod OnwardDeclr
+pub mod OnwardSource
 pub mod Onward
+pub mod Short
+pub mod LessExpr
+pub mod LessDeclr
+pub mod LessSource
 pub mod Less
 pub mod Exact

@@ -7,7 +7,8 @@ use Rattle.c_parser_actions.specs.declared.frame.Frame.TheVariants as fr
 use Rattle.c_parser_actions.specs.declared.frame.Next.{Next}
 use Rattle.c_parser_actions.specs.declared.frame.Next.TheVariants as nx
 use Rattle.c_parser_actions.specs.Pieces.{Piece, acted}
-use Rattle.c_parser_actions.specs.Machine.{Move, step}
+use Rattle.c_parser_actions.specs.Machine.{Move}
+use Rattle.c_parser_actions.specs.MachineSteps.{step}
 
 pub record TState : Type 0 where
   pub next : Next

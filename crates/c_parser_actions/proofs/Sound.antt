@@ -21,7 +21,8 @@ use Rattle.c_parser_actions.specs.declared.frame.Next.TheVariants as nx
 use Rattle.c_parser_actions.specs.declared.action.Action.TheVariants as acts
 use Rattle.c_parser_actions.specs.Marks.{mark_of, mark_at, after_of, after_at}
 use Rattle.c_parser_actions.specs.Pieces.{Piece, PExpr}
-use Rattle.c_parser_actions.specs.Machine.{move, tail, fail, bracket, size, start_sign, start, call, field_name, field, after, close, climb, give, do_end, at_comma, at_close, at_bracket, at_colon, at_semicolon, closes, value}
+use Rattle.c_parser_actions.specs.Machine.{move, tail, fail}
+use Rattle.c_parser_actions.specs.MachineExpr.{bracket, size, start_sign, start, call, field_name, field, after, close, climb, give, do_end, at_comma, at_close, at_bracket, at_colon, at_semicolon, closes, value}
 use Rattle.c_syntax.specs.Levels.{opens}
 use Rattle.c_syntax.specs.Grammar as g
 use Rattle.c_syntax.specs.Grammar.{IsPostfix, IsUnary, IsExpr, IsArgs, IsTypeName, IsSpecs, IsConsts, IsDeclr, IsDirect, IsParams, IsParamList, IsParam, IsAnnotation, IsAnnots, IsAnnot, IsItems, IsItem, IsAtom, IsSomething, Label, Named, Nameless, label_from, label_name}

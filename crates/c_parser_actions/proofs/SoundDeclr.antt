@@ -25,11 +25,12 @@ use Rattle.c_parser_actions.specs.declared.action.Action.TheVariants as acts
 use Rattle.c_parser_actions.specs.Marks.{mark_of, mark_at}
 use Rattle.c_parser_actions.specs.Words.{take_specs}
 use Rattle.c_parser_actions.specs.Pieces.{Piece, PDeclr, PSpecs, PDecls, PAnnots, PAnnot, PItem, PAtom, act}
-use Rattle.c_parser_actions.specs.Machine.{move, tail, groups, unnamed, in_group, give_name, declr, params, direct, param_end, type_end, type_closes, typed, targeted, is_top, placed, annotated, annot_items, annot, annots_end, annot_end, atom_size, atom, factor, atom_end, items_end, item_end}
+use Rattle.c_parser_actions.specs.Machine.{move, tail}
+use Rattle.c_parser_actions.specs.MachineDeclr.{groups, unnamed, in_group, give_name, declr, params, direct, param_end, type_end, type_closes, typed, targeted, is_top, placed, annotated, annot_items, annot, annots_end, annot_end, atom_size, atom, factor, atom_end, items_end, item_end}
 use Rattle.c_syntax.specs.Grammar as g
 use Rattle.c_syntax.specs.Grammar.{IsPostfix, IsUnary, IsExpr, IsArgs, IsTypeName, IsSpecs, IsConsts, IsDeclr, IsDirect, IsParams, IsParamList, IsParam, IsAnnotation, IsAnnots, IsAnnot, IsItems, IsItem, IsAtom, IsSomething, Label, Named, Nameless, label_from, label_name, declare}
 use Rattle.c_parser_actions.proofs.Runs.{run}
-use Rattle.c_parser_actions.proofs.Moves.{unnamed_ok}
+use Rattle.c_parser_actions.proofs.MovesDeclr.{unnamed_ok}
 use Rattle.c_parser_actions.proofs.Complete.{Allows}
 use Rattle.c_parser_actions.proofs.Types.{consts_read, specs_read}
 use Rattle.c_parser_actions.proofs.TokenKinds as is

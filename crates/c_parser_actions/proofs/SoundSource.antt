@@ -26,13 +26,17 @@ use Rattle.c_parser_actions.specs.declared.action.Action.TheVariants as acts
 use Rattle.c_parser_actions.specs.Marks.{mark_of, mark_at, begin_of}
 use Rattle.c_parser_actions.specs.Words.{take_specs}
 use Rattle.c_parser_actions.specs.Pieces.{Piece, PDeclr, PSpecs, PDecls, PValue, PStmt, PTag, act}
-use Rattle.c_parser_actions.specs.Machine.{move, tail, start, end_acts, end_next, with_value, with_body, named, declared, is_top, annotated, initial, braces_on, braces_end, init_end, value_end, condition, for_head, leaf, returned, stmt, do_on, do_while, done, block_end, entry, for_first, for_test, for_step, struct_end, member_end, defines_kinds, defines, top, tops, give_next, take_next, read_next, given, taken, step}
+use Rattle.c_parser_actions.specs.Machine.{move, tail}
+use Rattle.c_parser_actions.specs.MachineDeclr.{end_acts, end_next, with_value, with_body, named, declared, is_top, annotated}
+use Rattle.c_parser_actions.specs.MachineExpr.{start}
+use Rattle.c_parser_actions.specs.MachineSource.{initial, braces_on, braces_end, init_end, value_end, condition, for_head, leaf, returned, stmt, do_on, do_while, done, block_end, entry, for_first, for_test, for_step, struct_end, member_end, defines_kinds, defines, top, tops}
+use Rattle.c_parser_actions.specs.MachineSteps.{give_next, take_next, read_next, given, taken, step}
 use Rattle.c_syntax.specs.Grammar as g
 use Rattle.c_syntax.specs.Grammar.{IsPostfix, IsUnary, IsExpr, IsArgs, IsTypeName, IsSpecs, IsConsts, IsDeclr, IsDirect, IsParams, IsParamList, IsParam, IsAnnotation, IsAnnots, IsAnnot, IsItems, IsItem, IsAtom, IsSomething, Label, Named, Nameless, label_from, label_name}
 use Rattle.c_syntax.specs.Sources as s
 use Rattle.c_syntax.specs.Sources.{IsValue, IsValues, IsInit, IsNames, IsLocal, IsMaybe, IsFirst, IsStmt, IsEntries, IsMembers, IsTops}
 use Rattle.c_parser_actions.proofs.Runs.{tstate, run}
-use Rattle.c_parser_actions.proofs.Moves.{valued, end_pieces}
+use Rattle.c_parser_actions.proofs.MovesSource.{valued, end_pieces}
 use Rattle.c_parser_actions.proofs.Complete.{Allows}
 use Rattle.c_parser_actions.proofs.TokenKinds as is
 use Rattle.c_parser_actions.proofs.Good.{NamesPrefix, MembersPrefix, PlaceOf, WantsDeclr, WantsValue, WantsStmt, WantsEntry, Read, Good}

@@ -1,9 +1,12 @@
 pub mod Marks
 pub mod Words
 pub mod Ahead
+pub mod Pieces
+pub mod Builds
 pub mod Machine
+pub mod MachineExpr
+pub mod MachineDeclr
+pub mod MachineSource
+pub mod MachineSteps
 pub mod Seen
 pub mod Plans
-pub mod Pieces
-pub mod Weight
-pub mod Builds

@@ -7,12 +7,10 @@ use Rattle.c_parser_actions.specs.declared.frame.Next.{Next}
 use Rattle.c_parser_actions.specs.declared.frame.Next.TheVariants as nexts
 use Rattle.c_parser_actions.specs.declared.plan.Acts.{Acts}
 use Rattle.c_parser_actions.specs.declared.plan.Acts.TheVariants as acts
-use Rattle.c_parser_actions.specs.declared.plan.Opens.{Opens}
-use Rattle.c_parser_actions.specs.declared.plan.Opens.TheVariants as opens
 use Rattle.c_parser_actions.specs.declared.plan.Plan.{Plan}
-use Rattle.c_parser_actions.specs.declared.parser.Parser.{Parser}
-use Rattle.c_parser_actions.specs.Machine.{Move, move, fail, read_next}
-use Rattle.c_parser_actions.specs.Seen.{opens_seen}
+use Rattle.c_parser_actions.specs.declared.plan.Plan.TheVariants as plans
+use Rattle.c_parser_actions.specs.Machine.{Move, move, fail, begin}
+use Rattle.c_parser_actions.specs.MachineSteps.{read_next}
 
 -- the actions, the newest first
 abbrev pub acts_of : Acts → List Action
@@ -22,20 +20,17 @@ acts_of (acts.Two a b) = b ∷ a ∷ []
 acts_of (acts.Three a b c) = c ∷ b ∷ a ∷ []
 acts_of (acts.Four a b c d) = d ∷ c ∷ b ∷ a ∷ []
 
--- the constructs that are open when these have been opened, the newest first
-unfoldable pub opens_of : Opens → List Frame → List Frame
-opens_of opens.None K = K
-opens_of (opens.One a) K = a ∷ K
-opens_of (opens.Two a b) K = b ∷ a ∷ K
-opens_of (opens.Three a b c) K = c ∷ b ∷ a ∷ K
-
 -- what the plan makes of the constructs that are open
-unfoldable pub planned : Plan → List Frame → Move
-planned p K = move p.next (acts_of p.acts) p.rest.now (opens_of p.opens K)
+abbrev pub planned : Plan → List Frame → Move
+planned (plans.Refuse ts) K = fail ts.now K
+planned (plans.Go a n ts) K = move n (acts_of a) ts.now K
+planned (plans.Open a o n ts) K = move n (acts_of a) ts.now (o ∷ K)
+planned (plans.Read a o m ts) K = begin m (acts_of a) ts.now (o ∷ K)
+planned (plans.ReadIn p o m ts) K = begin m [] ts.now (o ∷ p ∷ K)
 
--- the plan is this move, for the parser
-abbrev pub Plans : Plan → Parser → (List Frame → Move) → Type 0
-Plans p s m = planned p (opens_seen s) ≡ m (opens_seen s)
+-- the plan is this move, whatever is open
+abbrev pub Plans : Plan → (List Frame → Move) → Type 0
+Plans p m = (K : List Frame) → planned p K ≡ m K
 
 -- the moves by what the rest begins with that take no construct off, and none in place of the others
 unfoldable pub read_ahead : Next → List Token → List Frame → Move

@@ -14,6 +14,7 @@ mod parser;
 mod plan;
 mod postfix;
 mod refusal;
+mod specifier;
 mod statement;
 mod step;
 mod top;

@@ -1,13 +1,15 @@
 // The state of the parser.
 
-ghost use Rattle.std.specs.Prelude.{◌≡◌, ◌++◌, ◌∷◌, [], OnOk, IfOk, reverse};
-ghost use Rattle.c_parser_actions.specs.Machine.{tail};
-ghost use Rattle.c_parser_actions.specs.Plans.{acts_of, opens_of, planned};
+ghost use Rattle.std.specs.Prelude.{◌≡◌, ◌++◌, ◌∷◌, [], List, OnOk, IfOk, reverse};
+ghost use Rattle.c_parser_actions.specs.Machine.{Move, begin, tail};
+ghost use Rattle.c_parser_actions.specs.declared.frame.Frame.{Frame as Construct};
+ghost use Rattle.c_parser_actions.specs.Plans.{Plans, acts_of, planned};
 ghost use Rattle.c_parser_actions.specs.Seen.{Goes, IsTop, acts_seen, opens_seen};
 
 use crate::action::Action;
 use crate::frame::{Frame, Next};
-use crate::plan::{Acts, Opens, Plan};
+use crate::mark::from_first;
+use crate::plan::{Acts, Plan};
 use c_lexer::{Text, Token};
 use std::alloc::{AllocError, Global};
 
@@ -68,6 +70,21 @@ impl Parser {
         self.emit(third)
     }
 
+    fn emit_four(
+        &mut self,
+        first: Action,
+        second: Action,
+        third: Action,
+        fourth: Action,
+    ) -> Result<(), AllocError>
+        ensures acts { OnOk result
+            (acts_seen self.new ≡ fourth ∷ third ∷ second ∷ first ∷ acts_seen self.old) }
+        ensures opens { OnOk result (opens_seen self.new ≡ opens_seen self.old) }
+    {
+        self.emit_two(first, second)?;
+        self.emit_two(third, fourth)
+    }
+
     fn emit_all(&mut self, acts: Acts) -> Result<(), AllocError>
         ensures acts { OnOk result (acts_seen self.new ≡ acts_of acts ++ acts_seen self.old) }
         ensures opens { OnOk result (opens_seen self.new ≡ opens_seen self.old) }
@@ -77,41 +94,55 @@ impl Parser {
             Acts::One(first) => self.emit(first),
             Acts::Two(first, second) => self.emit_two(first, second),
             Acts::Three(first, second, third) => self.emit_three(first, second, third),
-            Acts::Four(first, second, third, fourth) => {
-                self.emit_three(first, second, third)?;
-                self.emit(fourth)
-            }
+            Acts::Four(first, second, third, fourth) => self.emit_four(
+                first, second, third, fourth,
+            ),
         }
     }
 
-    #[tactic(auto, unfolding(crate::specs::Plans::opens_of))]
-    fn open_all(&mut self, opens: Opens) -> Result<(), AllocError>
-        ensures opens { OnOk result (opens_seen self.new ≡ opens_of opens (opens_seen self.old)) }
-        ensures acts { OnOk result (acts_seen self.new ≡ acts_seen self.old) }
+    /// Opens a construct, in which an expression of this level is to be read.
+    fn begin<'a>(&mut self, frame: Frame, level: u8, rest: &'a [Token]) -> Went<'a>
+        ensures { Goes result self.old self.new (λ K. begin level [] rest.now (frame ∷ K)) }
     {
-        match opens {
-            Opens::None => Ok(()),
-            Opens::One(first) => self.open(first),
-            Opens::Two(first, second) => {
-                self.open(first)?;
-                self.open(second)
-            }
-            Opens::Three(first, second, third) => {
-                self.open(first)?;
-                self.open(second)?;
-                self.open(third)
-            }
+        self.open(frame)?;
+        self.open(Frame::Climb(level, from_first(rest)))?;
+        Ok((Next::Operand, rest))
+    }
+
+    /// Does what is to be done, where there was memory to tell it.
+    pub fn go<'a>(&mut self, plan: Result<Plan<'a>, AllocError>) -> Went<'a>
+        ensures { (m : List Construct → Move) → IfOk plan.entry (λ p. Plans p m) →
+            Goes result self.old self.new m }
+    {
+        match plan {
+            Ok(plan) => self.carry_out(plan),
+            Err(error) => Err(error),
         }
     }
 
-    /// Does what is to be done.
-    #[tactic(auto, unfolding(crate::specs::Plans::planned))]
-    pub fn go<'a>(&mut self, plan: Plan<'a>) -> Went<'a>
+    fn carry_out<'a>(&mut self, plan: Plan<'a>) -> Went<'a>
         ensures { Goes result self.old self.new (planned plan.entry) }
     {
-        self.emit_all(plan.acts)?;
-        self.open_all(plan.opens)?;
-        Ok((plan.next, plan.rest))
+        match plan {
+            Plan::Refuse(rest) => Ok((Next::Fail, rest)),
+            Plan::Go(acts, next, rest) => {
+                self.emit_all(acts)?;
+                Ok((next, rest))
+            }
+            Plan::Open(acts, frame, next, rest) => {
+                self.emit_all(acts)?;
+                self.open(frame)?;
+                Ok((next, rest))
+            }
+            Plan::Read(acts, frame, level, rest) => {
+                self.emit_all(acts)?;
+                self.begin(frame, level, rest)
+            }
+            Plan::ReadIn(outer, frame, level, rest) => {
+                self.open(outer)?;
+                self.begin(frame, level, rest)
+            }
+        }
     }
 
     /// The actions, in order.

@@ -1,7 +1,7 @@
 // Whole token lists.
 
 ghost use Rattle.std.specs.Prelude.{◌≡◌, IfOk, IfErr};
-ghost use Rattle.c_parser_actions.specs.Machine.{works};
+ghost use Rattle.c_parser_actions.specs.MachineSteps.{works};
 ghost use Rattle.c_parser_actions.specs.Builds.{Found, Only, Refused};
 
 use crate::action::Action;

@@ -1,7 +1,7 @@
 // Where tokens can't go on.
 
-use crate::declarator::at_top;
 use crate::frame::{Frame, Next};
+use crate::specifier::at_top;
 use crate::words::words_read;
 use c_lexer::{Kind, Sign, Token, Word};
 use std::alloc::{AllocError, Global};

@@ -1,100 +1,93 @@
 // The steps of the parser.
 
 ghost use Rattle.std.specs.Prelude.{IfOk};
-ghost use Rattle.c_parser_actions.specs.Machine.{step, give_next, take_next, read_next};
+ghost use Rattle.c_parser_actions.specs.MachineSteps.{step, give_next, given, take_next, taken, read_next};
 ghost use Rattle.c_parser_actions.specs.Plans.{Plans, read_ahead};
 ghost use Rattle.c_parser_actions.specs.Seen.{Goes};
 ghost use Rattle.c_parser_actions.specs.Ahead.{Foretells};
 
+use crate::annotation::{give_annot, give_atom, give_item, start_annot, start_atom};
+use crate::declarator::{after_direct, give_declr, start_declr};
+use crate::expression::{after_operand, give_operand, give_value, start_operand};
 use crate::frame::{Frame, Next, Target};
+use crate::initial::{give_initial, start_initial};
 use crate::mark::{after_first, begin_kind, from_first, mark_first, type_first};
 use crate::parser::{Parser, Went, skip_one};
 use crate::plan::{Acts, Plan};
+use crate::specifier::{start_annotated, start_names, start_target, start_type};
+use crate::statement::{first_part, give_stmt, start_stmt, step_part, test_part};
 use c_lexer::Token;
 use std::alloc::{AllocError, Global};
 
+/// Gives what has been read to the construct that wants it.
+#[tactic(auto, unfolding(crate::specs::MachineSteps::give_next))]
+fn give<'a>(next: Next, frame: Frame, rest: &'a [Token]) -> Plan<'a>
+    ensures { Plans result (give_next next frame rest.now) }
+{
+    match next {
+        Next::Done(level) => give_operand(frame, level, rest),
+        Next::Value => give_value(frame, rest),
+        Next::DeclrDone => give_declr(frame, rest),
+        Next::AnnotDone => give_annot(frame, rest),
+        Next::AtomDone => give_atom(frame, rest),
+        Next::ItemDone => give_item(frame, rest),
+        Next::ValueDone => give_initial(frame, rest),
+        Next::StmtDone => give_stmt(frame, rest),
+        _ => Plan::Refuse(rest),
+    }
+}
+
+/// Reads a token that must be there.
+#[tactic(auto, unfolding(crate::specs::MachineSteps::take_next))]
+fn take<'a>(
+    alloc: Global,
+    ahead: &[bool],
+    next: Next,
+    first: &'a Token,
+    whole: &'a [Token],
+    rest: &'a [Token],
+) -> Result<Plan<'a>, AllocError>
+    requires { Foretells ahead.now rest.now }
+    ensures { IfOk result (λ p. Plans p (take_next next first.now whole.now rest.now)) }
+{
+    match next {
+        Next::Operand => start_operand(alloc, first, rest),
+        Next::Declr(naming, from) => start_declr(alloc, ahead, naming, from, first, whole, rest),
+        Next::Annot => start_annot(alloc, first, rest),
+        Next::Atom => start_atom(alloc, first, rest),
+        Next::Stmt => Ok(start_stmt(begin_kind(&first.kind), first.from, whole, rest)),
+        _ => Ok(Plan::Refuse(rest)),
+    }
+}
+
+/// Goes on by what the rest begins with, where no construct is taken off for it.
+#[tactic(auto, unfolding(crate::specs::MachineSteps::read_next, crate::specs::Plans::read_ahead))]
+fn plan_ahead<'a>(alloc: Global, next: Next, rest: &'a [Token]) -> Result<Plan<'a>, AllocError>
+    ensures { IfOk result (λ p. Plans p (read_ahead next rest.now)) }
+{
+    let what = mark_first(rest);
+    let from = from_first(rest);
+    let others = skip_one(rest);
+    match next {
+        Next::After(from) => after_operand(alloc, after_first(rest), from, rest, others),
+        Next::TypeName => start_type(alloc, rest),
+        Next::Direct => Ok(after_direct(what, from, rest, others)),
+        Next::Param => Ok(start_annotated(what, Target::Param(from), rest, others)),
+        Next::Specs(target) => start_target(alloc, target, rest),
+        Next::Names(place) => start_names(alloc, place, rest),
+        Next::Item => Ok(Plan::Open(Acts::None, Frame::FirstFactor(from), Next::Atom, rest)),
+        Next::Initial => Ok(start_initial(what, from, rest, others)),
+        Next::ForFirst(from) => Ok(first_part(what, type_first(rest), from, rest, others)),
+        Next::ForTest(from) => Ok(test_part(what, from, rest, others)),
+        Next::ForStep(from) => Ok(step_part(what, from, rest, others)),
+        Next::End => Ok(Plan::Go(Acts::None, Next::End, rest)),
+        _ => Ok(Plan::Refuse(rest)),
+    }
+}
+
 impl Parser {
-    /// Gives what has been read to the construct that wants it.
-    #[tactic(auto, unfolding(crate::specs::Machine::give_next))]
-    fn give<'a>(&self, next: Next, frame: Frame, rest: &'a [Token]) -> Plan<'a>
-        ensures { Plans result self.now (give_next next frame rest.now) }
-    {
-        match next {
-            Next::Done(level) => self.give_operand(frame, level, rest),
-            Next::Value => self.give_value(frame, rest),
-            Next::DeclrDone => self.give_declr(frame, rest),
-            Next::AnnotDone => self.give_annot(frame, rest),
-            Next::AtomDone => self.give_atom(frame, rest),
-            Next::ItemDone => self.give_item(frame, rest),
-            Next::ValueDone => self.give_initial(frame, rest),
-            Next::StmtDone => self.give_stmt(frame, rest),
-            _ => self.refuse(rest),
-        }
-    }
-
-    /// Reads a token that must be there.
-    #[tactic(auto, unfolding(crate::specs::Machine::take_next))]
-    fn take<'a>(
-        &self,
-        alloc: Global,
-        ahead: &[bool],
-        next: Next,
-        first: &'a Token,
-        whole: &'a [Token],
-        rest: &'a [Token],
-    ) -> Result<Plan<'a>, AllocError>
-        requires { Foretells ahead.now rest.now }
-        ensures { IfOk result (λ p. Plans p self.now (take_next next first.now whole.now rest.now)) }
-    {
-        match next {
-            Next::Operand => self.start_operand(alloc, first, rest),
-            Next::Declr(naming, from) => self.start_declr(
-                alloc, ahead, naming, from, first, whole, rest,
-            ),
-            Next::Annot => self.start_annot(alloc, first, rest),
-            Next::Atom => self.start_atom(alloc, first, rest),
-            Next::Stmt => Ok(self.start_stmt(begin_kind(&first.kind), first.from, whole, rest)),
-            _ => Ok(self.refuse(rest)),
-        }
-    }
-
-    /// Goes on by what the rest begins with, where no construct is taken off for it.
-    #[tactic(auto, unfolding(crate::specs::Machine::read_next, crate::specs::Plans::read_ahead))]
-    fn plan_ahead<'a>(
-        &self,
-        alloc: Global,
-        next: Next,
-        rest: &'a [Token],
-    ) -> Result<Plan<'a>, AllocError>
-        ensures { IfOk result (λ p. Plans p self.now (read_ahead next rest.now)) }
-    {
-        let what = mark_first(rest);
-        let from = from_first(rest);
-        let others = skip_one(rest);
-        match next {
-            Next::After(from) => self.after_operand(alloc, after_first(rest), from, rest, others),
-            Next::TypeName => self.start_type(alloc, rest),
-            Next::Direct => Ok(self.after_direct(what, from, rest, others)),
-            Next::Param => Ok(self.start_annotated(what, Target::Param(from), rest, others)),
-            Next::Specs(target) => self.start_target(alloc, target, rest),
-            Next::Names(place) => self.start_names(alloc, place, rest),
-            Next::Item => Ok(self.plan_open(
-                Acts::None,
-                Frame::FirstFactor(from),
-                Next::Atom,
-                rest,
-            )),
-            Next::Initial => Ok(self.start_initial(what, from, rest, others)),
-            Next::ForFirst(from) => Ok(self.first_part(what, type_first(rest), from, rest, others)),
-            Next::ForTest(from) => Ok(self.test_part(what, from, rest, others)),
-            Next::ForStep(from) => Ok(self.step_part(what, from, rest, others)),
-            Next::End => Ok(self.plan(Acts::None, Next::End, rest)),
-            _ => Ok(self.refuse(rest)),
-        }
-    }
-
     /// Goes on by what the rest begins with, if anything.
-    #[tactic(auto, unfolding(crate::specs::Machine::read_next, crate::specs::Plans::read_ahead))]
+    #[tactic(auto, unfolding(crate::specs::MachineSteps::read_next, crate::specs::Plans::read_ahead))]
     fn read<'a>(&mut self, alloc: Global, next: Next, rest: &'a [Token]) -> Went<'a>
         ensures { Goes result self.old self.new (read_next next rest.now) }
     {
@@ -104,15 +97,39 @@ impl Parser {
             Next::Entry => self.next_entry(what, type_first(rest), rest, others),
             Next::MemberEnd => self.next_member(what, rest, others),
             Next::Top => self.next_top(alloc, rest),
-            _ => {
-                let plan = self.plan_ahead(alloc, next, rest)?;
-                self.go(plan)
-            }
+            _ => self.go(plan_ahead(alloc, next, rest)),
+        }
+    }
+
+    /// Gives what has been read to the construct that was opened last.
+    fn give_newest<'a>(&mut self, next: Next, rest: &'a [Token]) -> Went<'a>
+        ensures { Goes result self.old self.new (given next rest.now) }
+    {
+        match self.pop() {
+            None => Ok((Next::Fail, rest)),
+            Some(frame) => self.go(Ok(give(next, frame, rest))),
+        }
+    }
+
+    /// Reads a token that must be there, if there is any.
+    fn take_first<'a>(
+        &mut self,
+        alloc: Global,
+        ahead: &[bool],
+        next: Next,
+        rest: &'a [Token],
+    ) -> Went<'a>
+        requires { Foretells ahead.now rest.now }
+        ensures { Goes result self.old self.new (taken next rest.now) }
+    {
+        match rest {
+            [] => Ok((Next::Fail, rest)),
+            [first, others @ ..] => self.go(take(alloc, ahead, next, first, rest, others)),
         }
     }
 
     /// One step, by what the table has of the tokens ahead.
-    #[tactic(auto, unfolding(crate::specs::Machine::step))]
+    #[tactic(auto, unfolding(crate::specs::MachineSteps::step))]
     pub fn step<'a>(
         &mut self,
         alloc: Global,
@@ -131,21 +148,9 @@ impl Parser {
             | Next::AtomDone
             | Next::ItemDone
             | Next::ValueDone
-            | Next::StmtDone => match self.pop() {
-                None => Ok((Next::Fail, rest)),
-                Some(frame) => {
-                    let plan = self.give(next, frame, rest);
-                    self.go(plan)
-                }
-            },
+            | Next::StmtDone => self.give_newest(next, rest),
             Next::Operand | Next::Declr(_, _) | Next::Annot | Next::Atom | Next::Stmt => {
-                match rest {
-                    [] => Ok((Next::Fail, rest)),
-                    [first, others @ ..] => {
-                        let plan = self.take(alloc, ahead, next, first, rest, others)?;
-                        self.go(plan)
-                    }
-                }
+                self.take_first(alloc, ahead, next, rest)
             }
             _ => self.read(alloc, next, rest),
         }

@@ -1,7 +1,7 @@
 // The moves over whole sources.
 
 ghost use Rattle.std.specs.Prelude.{IfOk};
-ghost use Rattle.c_parser_actions.specs.Machine.{struct_end, member_end, top, defines, tops};
+ghost use Rattle.c_parser_actions.specs.MachineSource.{struct_end, member_end, top, defines, tops};
 ghost use Rattle.c_parser_actions.specs.Plans.{Plans};
 ghost use Rattle.c_parser_actions.specs.Seen.{Goes};
 
@@ -10,29 +10,33 @@ use crate::frame::{DeclaredIn, Frame, Next, Target};
 use crate::mark::{Punctuator, mark_first};
 use crate::parser::{Parser, Went, copy, skip_one};
 use crate::plan::{Acts, Plan};
+use crate::specifier::start_annotated;
 use c_lexer::{Kind, Sign, Token, Word};
 use std::alloc::{AllocError, Global};
 
-impl Parser {
-    #[tactic(auto, unfolding(crate::specs::Machine::top, crate::specs::Machine::defines))]
-    fn start_top<'a>(&self, alloc: Global, rest: &'a [Token]) -> Result<Plan<'a>, AllocError>
-        ensures { IfOk result (λ p. Plans p self.now (top (defines rest.now) rest.now)) }
-    {
-        match rest {
-            [first, second, third, others @ ..] => match (&first.kind, &second.kind, &third.kind) {
-                (Kind::Word(Word::Struct), Kind::Name(name), Kind::Sign(Sign::OpenBrace)) => {
-                    let name = copy(alloc, name)?;
-                    let acts = Acts::Two(Action::Tag(first.from, name), Action::NoDecls);
-                    let next = Next::Names(DeclaredIn::Member);
-                    Ok(self.plan_open(acts, Frame::Struct, next, others))
-                }
-                _ => Ok(self.start_annotated(mark_first(rest), Target::Top, rest, skip_one(rest))),
-            },
-            _ => Ok(self.start_annotated(mark_first(rest), Target::Top, rest, skip_one(rest))),
-        }
+#[tactic(auto, unfolding(crate::specs::MachineSource::top, crate::specs::MachineSource::defines))]
+fn start_top<'a>(alloc: Global, rest: &'a [Token]) -> Result<Plan<'a>, AllocError>
+    ensures { IfOk result (λ p. Plans p (top (defines rest.now) rest.now)) }
+{
+    match rest {
+        [first, second, third, others @ ..] => match (&first.kind, &second.kind, &third.kind) {
+            (Kind::Word(Word::Struct), Kind::Name(name), Kind::Sign(Sign::OpenBrace)) => {
+                let name = copy(alloc, name)?;
+                Ok(Plan::Open(
+                    Acts::Two(Action::Tag(first.from, name), Action::NoDecls),
+                    Frame::Struct,
+                    Next::Names(DeclaredIn::Member),
+                    others,
+                ))
+            }
+            _ => Ok(start_annotated(mark_first(rest), Target::Top, rest, skip_one(rest))),
+        },
+        _ => Ok(start_annotated(mark_first(rest), Target::Top, rest, skip_one(rest))),
     }
+}
 
-    #[tactic(auto, unfolding(crate::specs::Machine::struct_end))]
+impl Parser {
+    #[tactic(auto, unfolding(crate::specs::MachineSource::struct_end))]
     fn end_struct<'a>(&mut self, what: Punctuator, rest: &'a [Token]) -> Went<'a>
         ensures { Goes result self.old self.new (struct_end what rest.now) }
     {
@@ -52,7 +56,7 @@ impl Parser {
         }
     }
 
-    #[tactic(auto, unfolding(crate::specs::Machine::member_end))]
+    #[tactic(auto, unfolding(crate::specs::MachineSource::member_end))]
     pub fn next_member<'a>(
         &mut self,
         what: Punctuator,
@@ -70,11 +74,10 @@ impl Parser {
     fn begin_top<'a>(&mut self, alloc: Global, rest: &'a [Token]) -> Went<'a>
         ensures { Goes result self.old self.new (top (defines rest.now) rest.now) }
     {
-        let plan = self.start_top(alloc, rest)?;
-        self.go(plan)
+        self.go(start_top(alloc, rest))
     }
 
-    #[tactic(auto, unfolding(crate::specs::Machine::tops))]
+    #[tactic(auto, unfolding(crate::specs::MachineSource::tops))]
     pub fn next_top<'a>(&mut self, alloc: Global, rest: &'a [Token]) -> Went<'a>
         ensures { Goes result self.old self.new (tops rest.now) }
     {

@@ -2,7 +2,8 @@
 use Rattle.std.proofs.Common.{◌≡◌, ℕ, List, None, Ok, sym, ◌∙◌, subst}
 use Rattle.c_lexer.specs.declared.token.Token.{Token}
 use Rattle.c_lexer.specs.Lexing.{IsTokens}
-use Rattle.c_parser.specs.Parsed.{IsParsed}
+use Rattle.c_parser.specs.declared.parsing.Parsed.{Parsed}
+use Rattle.c_parser.specs.Parsed.{IsCounted}
 use Rattle.c_syntax.specs.Nodes.{Nodes}
 use Rattle.c_syntax.specs.Syntax.{Decls}
 use Rattle.c_types_rules.specs.Limits.{Outcome}
@@ -28,5 +29,5 @@ accepted bytes cut N ds s c source t program texts reads small code = record {
 }
 
 -- the bytes are a source where their tokens have a tree
-abbrev pub source_of : (bytes : List ℕ) (ts : List Token) (N : Nodes) → IsTokens bytes ts → (p : IsParsed ts N) → IsSource bytes p.0
-source_of bytes ts N lexed p = record { tokens = ts; lexed = lexed; spells = p.1; shallow = p.3 }
+abbrev pub source_of : (bytes : List ℕ) (ts : List Token) (q : Parsed) → IsTokens bytes ts → (p : IsCounted ts q) → IsSource bytes p.0
+source_of bytes ts q lexed p = record { tokens = ts; lexed = lexed; spells = p.1; shallow = p.2 }

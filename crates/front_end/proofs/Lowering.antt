@@ -3,8 +3,8 @@ use Rattle.std.proofs.Common.{◌≡◌, ◌<◌, ◌≤◌, ◌↔◌, if◌the
 use Rattle.std.proofs.lemmas.Bool.{cases_lt}
 use Rattle.c_code.specs.Machine.{Flat}
 use Rattle.c_syntax.specs.Syntax.{Decls}
-use Rattle.c_lower_nodes.specs.Counts.{source_nodes}
-use Rattle.c_lower_nodes.specs.Counts as nodes
+use Rattle.c_parser_nodes.specs.Counts.{source_nodes}
+use Rattle.c_parser_nodes.specs.Counts as nodes
 use Rattle.c_lower_rules.specs.Heights.{statement_depth}
 use Rattle.c_types_nodes.specs.Tables.{Table}
 use Rattle.c_types_program.specs.declared.function.Body.{Body}

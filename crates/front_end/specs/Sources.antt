@@ -8,7 +8,7 @@ use Rattle.c_syntax.specs.Sources.{Spells}
 use Rattle.c_syntax.specs.Syntax.{Decls}
 use Rattle.c_parser_depth.specs.Deep.{IsDeepAt, IsShallow}
 use Rattle.c_code.specs.Valid.{most_values}
-use Rattle.c_lower_nodes.specs.Counts.{source_nodes}
+use Rattle.c_parser_nodes.specs.Counts.{source_nodes}
 use Rattle.c_lower_stack.specs.Functions.{function_depth}
 use Rattle.c_lower.specs.Depths.{most_nodes}
 use Rattle.c_types_rules.specs.Checked.{Checked, Fine, Large, Broken}

@@ -6,6 +6,7 @@ ghost use Rattle.c_syntax.specs.Syntax.{Decls};
 ghost use Rattle.c_types_rules.specs.Limits.{Typed, outcome};
 ghost use Rattle.c_types_rules.specs.Sources.{Program};
 ghost use Rattle.c_types_program.specs.Programs.{IsProgram};
+ghost use Rattle.c_parser.specs.Parsed.{IsCountedTree};
 ghost use Rattle.front_end.specs.Answers.{IsCode, IsTooLarge};
 ghost use Rattle.front_end.specs.Sources.{too_large};
 
@@ -13,30 +14,28 @@ use crate::error::SourceError;
 use c_code::Code;
 use c_lower::lower;
 use c_lower_laws::{typed_bodies_are_no_deeper, typed_programs_fit};
-use c_lower_nodes::node_count;
 use c_lower_stack::function_depth;
-use c_syntax::Tree;
+use c_parser::Parsed;
 use c_types_program::TypedProgram;
 use std::alloc::Global;
 
-/// The flat code of a source that has this tree, and is this by its types. `Limit` where it has too many
-/// nodes, or else too deep an evaluation stack
-/// in one of its functions; `Memory` where there is no memory.
+/// The flat code of a source that has this tree and so many nodes, and is this by its types. `Limit` where it has too
+/// many nodes, or else too deep an evaluation stack in one of its functions; `Memory` where there is no memory.
 pub(crate) fn code_of(
     alloc: Global,
-    tree: &Tree,
+    parsed: &Parsed,
     program: &TypedProgram,
 ) -> Result<Code, SourceError>
-    requires { (ds : Decls) × (p : Program) × Holds tree.now ds × (outcome ds ≡ Typed p) ×
+    requires { (ds : Decls) × (p : Program) × Holds parsed.now.tree ds × (outcome ds ≡ Typed p) ×
         IsProgram program.now p }
-    ensures small { (ds : Decls) (p : Program) → Holds tree.now ds → outcome ds ≡ Typed p →
+    ensures small { (ds : Decls) (p : Program) → IsCountedTree parsed.now ds → outcome ds ≡ Typed p →
         IsProgram program.now p → OnOk result (too_large ds ≡ None) }
     ensures code { IfOk result (IsCode program.now) }
-    ensures refused { (ds : Decls) (p : Program) → Holds tree.now ds → outcome ds ≡ Typed p →
+    ensures refused { (ds : Decls) (p : Program) → IsCountedTree parsed.now ds → outcome ds ≡ Typed p →
         IsProgram program.now p → IfErr result (IsTooLarge ds) }
 {
-    let depth = function_depth(alloc, tree)?;
+    let depth = function_depth(alloc, &parsed.tree)?;
     typed_programs_fit();
     typed_bodies_are_no_deeper();
-    Ok(lower(alloc, program, node_count(tree), &depth)?)
+    Ok(lower(alloc, program, parsed.nodes, &depth)?)
 }

@@ -5,7 +5,7 @@ ghost use Rattle.c_lexer.specs.Lexing.{IsTokens};
 ghost use Rattle.c_lexer.specs.declared.token.Token.{Token as Lexed};
 ghost use Rattle.c_syntax.specs.Stands.{Holds};
 ghost use Rattle.c_syntax.specs.Syntax.{Decls};
-ghost use Rattle.c_parser.specs.Parsed.{IsParsed};
+ghost use Rattle.c_parser.specs.Parsed.{IsCounted};
 ghost use Rattle.c_syntax_laws.specs.Numbers.{FitsDecls};
 ghost use Rattle.c_types.specs.Answers.{IsSource as IsFit};
 ghost use Rattle.front_end.specs.Answers.{IsChecked, IsRead, IsSourceError, IsTyped};
@@ -16,7 +16,7 @@ use crate::error::SourceError;
 use annot_reader::{Iface, interface_of};
 use c_code::Code;
 use c_lexer::{Token, lex};
-use c_parser::parse;
+use c_parser::{Parsed, parse_counted};
 use c_syntax::Tree;
 use c_syntax_laws::numbers_fit;
 use c_types::{TypedSource, check_source as check_types, sources_stay_typed};
@@ -43,14 +43,14 @@ fn tokens_of(alloc: Global, bytes: &[u8]) -> Result<Vec<Token>, SourceError>
     }
 }
 
-// The tree of the source that has these tokens.
-fn tree_of(alloc: Global, tokens: &[Token]) -> Result<Tree, SourceError>
-    ensures tree { IfOk result (λ t. IsParsed tokens.now t) }
+// The tree of the source that has these tokens, with its number of nodes.
+fn tree_of(alloc: Global, tokens: &[Token]) -> Result<Parsed, SourceError>
+    ensures tree { IfOk result (λ p. IsCounted tokens.now p) }
     ensures refused { (bytes cut : List ℕ) → IsTokens bytes tokens.now →
         IfErr result (IsSourceError bytes cut) }
 {
-    match parse(alloc, tokens) {
-        Ok(tree) => Ok(tree),
+    match parse_counted(alloc, tokens) {
+        Ok(parsed) => Ok(parsed),
         Err(error) => Err(SourceError::from(error)),
     }
 }
@@ -111,12 +111,12 @@ pub fn check_source(alloc: Global, bytes: &[u8], cut: &[u8]) -> Result<CheckedSo
     ensures { IsChecked bytes.now cut.now result }
 {
     let tokens = tokens_of(alloc, bytes)?;
-    let tree = tree_of(alloc, &tokens)?;
+    let parsed = tree_of(alloc, &tokens)?;
     numbers_fit();
-    let source = typed(alloc, &tokens, &tree)?;
+    let source = typed(alloc, &tokens, &parsed.tree)?;
     drop(tokens);
-    let (program, interface) = with_interface(alloc, source, &tree, cut)?;
-    let code = code_of(alloc, &tree, &program)?;
+    let (program, interface) = with_interface(alloc, source, &parsed.tree, cut)?;
+    let code = code_of(alloc, &parsed, &program)?;
     Ok(CheckedSource {
         program,
         interface,

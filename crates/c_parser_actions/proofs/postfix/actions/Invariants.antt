@@ -1,6 +1,6 @@
 use Rattle.c_parser_actions.specs.Seen.{seen}
 use Rattle.c_parser_actions.specs.Ahead.{Foretells}
-use Rattle.c_parser_actions.specs.Weight.{weight}
+use Rattle.c_parser_actions.proofs.Weight.{weight}
 use Rattle.c_parser_actions.proofs.Runs.{Reaches}
 use Rattle.c_parser_actions.proofs.Exact.{start, made}
 use Rattle.c_parser_actions.proofs.postfix.actions.Given as goal

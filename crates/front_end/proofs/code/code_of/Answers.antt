@@ -12,17 +12,17 @@ pub lower-requires : goal.lower-requires
 lower-requires c = c.typed_programs_fit.ensures c.requires.0 c.requires.1 c.args.program.now c.requires.3 c.requires.4
 
 pub returns-in_err-lower-clause-refused : goal.returns-in_err-lower-clause-refused
-returns-in_err-lower-clause-refused c = λ ds p holds typed is.
+returns-in_err-lower-clause-refused c = λ ds p tree typed is.
     let d = c.args.program.now in
     let q = err_from_is_err_and c.from_residual-in_err-lower.result c.from_residual-in_err-lower.ensures.1 in
-    let us : c.deref.result.now ≡ map capped (function_depth ds) = c.deref.ensures.value ∙ c.in_ok-depth.ensures ds holds in
-    let all = counted ds p d c.node_count.result c.deref.result.now (c.node_count.ensures ds holds) us (c.typed_bodies_are_no_deeper.ensures ds p typed) is in
+    let us : c.deref.result.now ≡ map capped (function_depth ds) = c.deref.ensures.value ∙ c.in_ok-depth.ensures ds tree.0 in
+    let all = counted ds p d c.args.parsed.now.nodes c.deref.result.now tree.1 us (c.typed_bodies_are_no_deeper.ensures ds p typed) is in
     subst (λ (r : Result Flat SourceError). IfErr r (IsTooLarge ds)) (sym (q.1 ∙ ap Err q.2))
-    (large ds d.table d.functions c.node_count.result c.deref.result.now all c.in_err-lower.field-0.0 c.in_err-lower.ensures.long c.in_err-lower.ensures.wide)
+    (large ds d.table d.functions c.args.parsed.now.nodes c.deref.result.now all c.in_err-lower.field-0.0 c.in_err-lower.ensures.long c.in_err-lower.ensures.wide)
 
 pub returns-clause-small : goal.returns-clause-small
-returns-clause-small c = λ ds p holds typed is.
+returns-clause-small c = λ ds p tree typed is.
     let d = c.args.program.now in
-    let us : c.deref.result.now ≡ map capped (function_depth ds) = c.deref.ensures.value ∙ c.in_ok-depth.ensures ds holds in
-    let all = counted ds p d c.node_count.result c.deref.result.now (c.node_count.ensures ds holds) us (c.typed_bodies_are_no_deeper.ensures ds p typed) is in
-    small ds d.table d.functions c.node_count.result c.deref.result.now all c.in_ok-lower.ensures.few
+    let us : c.deref.result.now ≡ map capped (function_depth ds) = c.deref.ensures.value ∙ c.in_ok-depth.ensures ds tree.0 in
+    let all = counted ds p d c.args.parsed.now.nodes c.deref.result.now tree.1 us (c.typed_bodies_are_no_deeper.ensures ds p typed) is in
+    small ds d.table d.functions c.args.parsed.now.nodes c.deref.result.now all c.in_ok-lower.ensures.few

@@ -2,7 +2,7 @@ use Rattle.std.proofs.Common.{List, Err, ap, sym, ◌∙◌, subst}
 use Rattle.c_lexer.specs.declared.token.Token.{Token}
 use Rattle.std.proofs.lemmas.Result.{err_from_is_err_and}
 use Rattle.c_lexer.specs.Lexing.{IsTokens}
-use Rattle.c_parser.specs.Parsed.{IsParsed}
+use Rattle.c_parser.specs.Parsed.{IsCounted}
 use Rattle.front_end.specs.Answers.{IsChecked, IsTyped}
 use Rattle.front_end.proofs.Accepting.{accepted, source_of}
 use Rattle.front_end.proofs.Refusals.{by_size, read}
@@ -10,47 +10,49 @@ use Rattle.front_end.proofs.source.check_source.Goals as goal
 
 pub returns-in_err-tokens : goal.returns-in_err-tokens
 returns-in_err-tokens c =
-    let q = err_from_is_err_and c.from_residual.result c.from_residual.ensures.1 in
-    subst (IsChecked c.args.bytes.now c.args.cut.now) (sym (q.1 ∙ ap Err q.2)) (c.in_err-tokens.ensures.refused c.args.cut.now)
+    let e = err_from_is_err_and c.from_residual.result c.from_residual.ensures.1 in
+    subst (IsChecked c.args.bytes.now c.args.cut.now) (sym (e.1 ∙ ap Err e.2)) (c.in_err-tokens.ensures.refused c.args.cut.now)
 
-pub returns-in_err-tree : goal.returns-in_err-tree
-returns-in_err-tree c =
-    let q = err_from_is_err_and c.from_residual-in_err-tree.result c.from_residual-in_err-tree.ensures.1 in
+pub returns-in_err-parsed : goal.returns-in_err-parsed
+returns-in_err-parsed c =
+    let e = err_from_is_err_and c.from_residual-in_err-parsed.result c.from_residual-in_err-parsed.ensures.1 in
     let lexed = subst (IsTokens c.args.bytes.now) (sym c.deref.ensures.value) c.in_ok-tokens.ensures.tokens in
-    subst (IsChecked c.args.bytes.now c.args.cut.now) (sym (q.1 ∙ ap Err q.2)) (c.in_err-tree.ensures.refused c.args.bytes.now c.args.cut.now lexed)
+    subst (IsChecked c.args.bytes.now c.args.cut.now) (sym (e.1 ∙ ap Err e.2)) (c.in_err-parsed.ensures.refused c.args.bytes.now c.args.cut.now lexed)
 
 pub returns-in_err-source : goal.returns-in_err-source
 returns-in_err-source c =
-    let q = err_from_is_err_and c.from_residual-in_err-source.result c.from_residual-in_err-source.ensures.1 in
+    let e = err_from_is_err_and c.from_residual-in_err-source.result c.from_residual-in_err-source.ensures.1 in
     let lexed = subst (IsTokens c.args.bytes.now) (sym c.deref.ensures.value) c.in_ok-tokens.ensures.tokens in
-    let p = c.in_ok-tree.ensures.tree in
-    subst (IsChecked c.args.bytes.now c.args.cut.now) (sym (q.1 ∙ ap Err q.2))
-    (c.in_err-source.ensures.refused c.args.bytes.now c.args.cut.now p.0 p.2 (source_of c.args.bytes.now c.deref.result.now c.in_ok-tree.tree lexed p))
+    let p = c.in_ok-parsed.ensures.tree in
+    subst (IsChecked c.args.bytes.now c.args.cut.now) (sym (e.1 ∙ ap Err e.2))
+    (c.in_err-source.ensures.refused c.args.bytes.now c.args.cut.now p.0 p.3.0 (source_of c.args.bytes.now c.deref.result.now c.in_ok-parsed.parsed lexed p))
 
 pub returns-in_err-program : goal.returns-in_err-program
 returns-in_err-program c =
     let ts = c.in_ok-tokens.tokens.items in
-    let N = c.in_ok-tree.tree in
+    let q = c.in_ok-parsed.parsed in
+    let N = q.tree in
     let bytes = c.args.bytes.now in
     let lexed = c.in_ok-tokens.ensures.tokens in
-    let p = subst (λ (v : List Token). IsParsed v N) c.deref.ensures.value c.in_ok-tree.ensures.tree in
-    let source = source_of bytes ts N lexed p in
+    let p = subst (λ (v : List Token). IsCounted v q) c.deref.ensures.value c.in_ok-parsed.ensures.tree in
+    let source = source_of bytes ts q lexed p in
     let t =
-    subst (λ (v : List Token). IsTyped N v p.0 c.in_ok-source.source) c.deref-2.ensures.value (c.in_ok-source.ensures.typed p.0 p.2 (c.numbers_fit.ensures bytes ts p.0 lexed p.1))
+    subst (λ (v : List Token). IsTyped N v p.0 c.in_ok-source.source) c.deref-2.ensures.value (c.in_ok-source.ensures.typed p.0 p.3.0 (c.numbers_fit.ensures bytes ts p.0 lexed p.1))
     in
-    let q = err_from_is_err_and c.from_residual-in_err-program.result c.from_residual-in_err-program.ensures.1 in
-    subst (IsChecked bytes c.args.cut.now) (sym (q.1 ∙ ap Err q.2)) (c.in_err-program.ensures bytes p.0 source t)
+    let e = err_from_is_err_and c.from_residual-in_err-program.result c.from_residual-in_err-program.ensures.1 in
+    subst (IsChecked bytes c.args.cut.now) (sym (e.1 ∙ ap Err e.2)) (c.in_err-program.ensures bytes p.0 source t)
 
 pub code_of-requires : goal.code_of-requires
 code_of-requires c =
     let ts = c.in_ok-tokens.tokens.items in
-    let N = c.in_ok-tree.tree in
+    let q = c.in_ok-parsed.parsed in
+    let N = q.tree in
     let bytes = c.args.bytes.now in
     let lexed = c.in_ok-tokens.ensures.tokens in
-    let p = subst (λ (v : List Token). IsParsed v N) c.deref.ensures.value c.in_ok-tree.ensures.tree in
-    let source = source_of bytes ts N lexed p in
+    let p = subst (λ (v : List Token). IsCounted v q) c.deref.ensures.value c.in_ok-parsed.ensures.tree in
+    let source = source_of bytes ts q lexed p in
     let t =
-    subst (λ (v : List Token). IsTyped N v p.0 c.in_ok-source.source) c.deref-2.ensures.value (c.in_ok-source.ensures.typed p.0 p.2 (c.numbers_fit.ensures bytes ts p.0 lexed p.1))
+    subst (λ (v : List Token). IsTyped N v p.0 c.in_ok-source.source) c.deref-2.ensures.value (c.in_ok-source.ensures.typed p.0 p.3.0 (c.numbers_fit.ensures bytes ts p.0 lexed p.1))
     in
     let reads = c.in_ok-program.ensures bytes p.0 source t in
     (p.0, t.program, t.holds, t.typed, reads.0)
@@ -58,31 +60,33 @@ code_of-requires c =
 pub returns-in_err-code : goal.returns-in_err-code
 returns-in_err-code c =
     let ts = c.in_ok-tokens.tokens.items in
-    let N = c.in_ok-tree.tree in
+    let q = c.in_ok-parsed.parsed in
+    let N = q.tree in
     let bytes = c.args.bytes.now in
     let lexed = c.in_ok-tokens.ensures.tokens in
-    let p = subst (λ (v : List Token). IsParsed v N) c.deref.ensures.value c.in_ok-tree.ensures.tree in
-    let source = source_of bytes ts N lexed p in
+    let p = subst (λ (v : List Token). IsCounted v q) c.deref.ensures.value c.in_ok-parsed.ensures.tree in
+    let source = source_of bytes ts q lexed p in
     let t =
-    subst (λ (v : List Token). IsTyped N v p.0 c.in_ok-source.source) c.deref-2.ensures.value (c.in_ok-source.ensures.typed p.0 p.2 (c.numbers_fit.ensures bytes ts p.0 lexed p.1))
+    subst (λ (v : List Token). IsTyped N v p.0 c.in_ok-source.source) c.deref-2.ensures.value (c.in_ok-source.ensures.typed p.0 p.3.0 (c.numbers_fit.ensures bytes ts p.0 lexed p.1))
     in
     let reads = c.in_ok-program.ensures bytes p.0 source t in
-    let q = err_from_is_err_and c.from_residual-in_err-code.result c.from_residual-in_err-code.ensures.1 in
+    let e = err_from_is_err_and c.from_residual-in_err-code.result c.from_residual-in_err-code.ensures.1 in
     let cut = c.args.cut.now in
-    subst (IsChecked bytes cut) (sym (q.1 ∙ ap Err q.2))
-    (by_size bytes cut p.0 c.in_err-code.field-0.0 source (read cut p.0 t.program c.in_ok-program.interface t.typed reads.2) (c.in_err-code.ensures.refused p.0 t.program t.holds t.typed reads.0))
+    subst (IsChecked bytes cut) (sym (e.1 ∙ ap Err e.2))
+    (by_size bytes cut p.0 c.in_err-code.field-0.0 source (read cut p.0 t.program c.in_ok-program.interface t.typed reads.2) (c.in_err-code.ensures.refused p.0 t.program p.3 t.typed reads.0))
 
 pub returns : goal.returns
 returns c =
     let ts = c.in_ok-tokens.tokens.items in
-    let N = c.in_ok-tree.tree in
+    let q = c.in_ok-parsed.parsed in
+    let N = q.tree in
     let bytes = c.args.bytes.now in
     let lexed = c.in_ok-tokens.ensures.tokens in
-    let p = subst (λ (v : List Token). IsParsed v N) c.deref.ensures.value c.in_ok-tree.ensures.tree in
-    let source = source_of bytes ts N lexed p in
+    let p = subst (λ (v : List Token). IsCounted v q) c.deref.ensures.value c.in_ok-parsed.ensures.tree in
+    let source = source_of bytes ts q lexed p in
     let t =
-    subst (λ (v : List Token). IsTyped N v p.0 c.in_ok-source.source) c.deref-2.ensures.value (c.in_ok-source.ensures.typed p.0 p.2 (c.numbers_fit.ensures bytes ts p.0 lexed p.1))
+    subst (λ (v : List Token). IsTyped N v p.0 c.in_ok-source.source) c.deref-2.ensures.value (c.in_ok-source.ensures.typed p.0 p.3.0 (c.numbers_fit.ensures bytes ts p.0 lexed p.1))
     in
     let reads = c.in_ok-program.ensures bytes p.0 source t in
     accepted bytes c.args.cut.now N p.0 c.in_ok-source.source (record { program = c.in_ok-program.program; interface = c.in_ok-program.interface; code = c.in_ok-code.code }) source t
-    reads.0 reads.1 reads.2 (c.in_ok-code.ensures.small p.0 t.program t.holds t.typed reads.0) c.in_ok-code.ensures.code
+    reads.0 reads.1 reads.2 (c.in_ok-code.ensures.small p.0 t.program p.3 t.typed reads.0) c.in_ok-code.ensures.code

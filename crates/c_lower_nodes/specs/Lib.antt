@@ -1,5 +1,0 @@
-pub mod Counts
-pub mod Weights
-pub mod Named
-pub mod Totals
-pub mod Places

@@ -1,0 +1,140 @@
+// The moves over specifiers, and the annotations before them.
+
+ghost use Rattle.std.specs.Prelude.{◌≡◌, IfOk, Some, false};
+ghost use Rattle.c_parser_actions.specs.MachineDeclr.{annotated, is_top, placed, targeted, typed};
+ghost use Rattle.c_parser_actions.specs.Plans.{Plans};
+ghost use Rattle.c_parser_actions.specs.Words.{take_specs};
+ghost use Rattle.c_syntax.specs.Levels.{from_of};
+
+use crate::action::Action;
+use crate::frame::{DeclaredIn, Frame, Naming, Next, Target};
+use crate::mark::{Punctuator, from_first};
+use crate::plan::{Acts, Plan};
+use crate::words::specs;
+use c_lexer::Token;
+use c_syntax::Base;
+use std::alloc::{AllocError, Global};
+
+pub fn at_top(target: Target) -> bool
+    ensures { result ≡ is_top target }
+{
+    match target {
+        Target::Top => true,
+        Target::Param(_) => false,
+    }
+}
+
+#[tactic(auto, unfolding(crate::specs::MachineDeclr::typed))]
+pub fn start_type<'a>(alloc: Global, rest: &'a [Token]) -> Result<Plan<'a>, AllocError>
+    ensures { IfOk result (λ p. Plans p
+        (typed (take_specs false rest.now) (from_of rest.now))) }
+{
+    let from = from_first(rest);
+    match specs(alloc, false, rest)? {
+        None => Ok(Plan::Refuse(&rest[rest.len()..])),
+        Some((base, others)) => {
+            Ok(Plan::Go(
+                Acts::Two(Action::NoAnnots, Action::Specs(base)),
+                Next::Declr(Naming::Never, from),
+                others,
+            ))
+        }
+    }
+}
+
+#[tactic(auto, unfolding(crate::specs::MachineDeclr::targeted))]
+fn begin_target<'a>(base: Base, target: Target, rest: &'a [Token]) -> Plan<'a>
+    ensures { Plans result (targeted (Some (base, rest.now)) target) }
+{
+    match target {
+        Target::Top => {
+            Plan::Open(
+                Acts::One(Action::Specs(base)),
+                Frame::Names(DeclaredIn::Top, true),
+                Next::Declr(Naming::Always, 0),
+                rest,
+            )
+        }
+        Target::Param(from) => Plan::Go(
+            Acts::One(Action::Specs(base)),
+            Next::Declr(Naming::Either, from),
+            rest,
+        ),
+    }
+}
+
+#[tactic(auto, unfolding(crate::specs::MachineDeclr::targeted))]
+pub fn start_target<'a>(
+    alloc: Global,
+    target: Target,
+    rest: &'a [Token],
+) -> Result<Plan<'a>, AllocError>
+    ensures { IfOk result
+        (λ p. Plans p (targeted (take_specs (is_top target) rest.now) target)) }
+{
+    match specs(alloc, at_top(target), rest)? {
+        None => Ok(Plan::Refuse(&rest[rest.len()..])),
+        Some((base, others)) => Ok(begin_target(base, target, others)),
+    }
+}
+
+/// Names are to be read that share this type.
+#[tactic(auto, unfolding(crate::specs::MachineDeclr::placed))]
+fn begin_names<'a>(base: Base, place: DeclaredIn, rest: &'a [Token]) -> Plan<'a>
+    ensures { Plans result (placed (Some (base, rest.now)) place) }
+{
+    match place {
+        DeclaredIn::Member => {
+            Plan::Open(
+                Acts::Two(Action::NoAnnots, Action::Specs(base)),
+                Frame::Names(place, true),
+                Next::Declr(Naming::Always, 0),
+                rest,
+            )
+        }
+        _ => {
+            Plan::Open(
+                Acts::Three(Action::NoDecls, Action::NoAnnots, Action::Specs(base)),
+                Frame::Names(place, true),
+                Next::Declr(Naming::Always, 0),
+                rest,
+            )
+        }
+    }
+}
+
+#[tactic(auto, unfolding(crate::specs::MachineDeclr::placed))]
+pub fn start_names<'a>(
+    alloc: Global,
+    place: DeclaredIn,
+    rest: &'a [Token],
+) -> Result<Plan<'a>, AllocError>
+    ensures { IfOk result (λ p. Plans p (placed (take_specs false rest.now) place)) }
+{
+    match specs(alloc, false, rest)? {
+        None => Ok(Plan::Refuse(&rest[rest.len()..])),
+        Some((base, others)) => Ok(begin_names(base, place, others)),
+    }
+}
+
+#[tactic(auto, unfolding(crate::specs::MachineDeclr::annotated))]
+pub fn start_annotated<'a>(
+    what: Punctuator,
+    target: Target,
+    whole: &'a [Token],
+    rest: &'a [Token],
+) -> Plan<'a>
+    ensures { Plans result (annotated what target whole.now rest.now) }
+{
+    match what {
+        Punctuator::OpenBracket => {
+            Plan::Open(
+                Acts::One(Action::NoAnnots),
+                Frame::Annots(target),
+                Next::Annot,
+                rest,
+            )
+        }
+        _ => Plan::Go(Acts::One(Action::NoAnnots), Next::Specs(target), whole),
+    }
+}

@@ -1,0 +1,4 @@
+pub mod Sums
+pub mod Lists
+pub mod Measures
+pub mod Follows
