@@ -8,3 +8,4 @@ pub mod Naming
 pub mod Names
 pub mod Gathered
 pub mod Types
+mod Keeps

@@ -78,7 +78,7 @@ module _ (p : Declared) where
   abbrev height : ℕ → ℕ
   height = height_in (all_heights p p.functions)
 
-  knows : Knows s code sig
+  pub knows : Knows s code sig
   unfolding sig_in
   knows = record {
     each = λ f info e. let h = typed_at p [] nowhere f info e in (h.0, h.2);

@@ -1,8 +1,9 @@
 //! Lowering.
 
 ghost use Rattle.std.specs.Prelude.{◌≡◌, ◌↔◌, ◌<◌, ◌≤◌, ℕ, List, None, Some, IfOk, OnOk};
+ghost use Rattle.c_code.specs.Typed.{KeepsTypes};
 ghost use Rattle.c_semantics.specs.Context.{Source};
-ghost use Rattle.c_lower_rules.specs.Laws.{MakesTheMarks};
+ghost use Rattle.c_lower_rules.specs.Laws.{MakesTheMarks, laid};
 ghost use Rattle.c_lower_laws.specs.Fits.{IsFit};
 ghost use Rattle.c_lower.specs.Lowered.{IsSourceOf, lowered};
 ghost use Rattle.c_lower.specs.Named.{NamesNoMore};
@@ -14,7 +15,9 @@ use crate::functions::{builtin_infos, function_info};
 use crate::wide::first_wide;
 use c_code::Code;
 use c_lower_layout::Index;
-use c_lower_rules::{emitted_code_is_steady, emitted_code_makes_the_marks};
+use c_lower_rules::{
+    code_of_sources_keeps_types, emitted_code_is_steady, emitted_code_makes_the_marks,
+};
 use c_types_program::TypedProgram;
 use std::alloc::{AllocError, Global};
 
@@ -66,6 +69,7 @@ pub fn lower(
         (first_wide_of program.now.table counted.now 0 program.now.functions ≡ None)) }
     ensures code { IfOk result (λ c. c ≡ lowered program.now) }
     ensures marks { IfOk result (λ c. (s : Source) → IsSourceOf program.now s → MakesTheMarks s c) }
+    ensures keeps { IfOk result (λ c. (s : Source) → IsSourceOf program.now s → KeepsTypes (laid s c)) }
     ensures types { IfOk result (λ c. (s : Source) → IsSourceOf program.now s → TellsTypes s c) }
     ensures names { IfOk result (λ c. NamesNoMore program.now c) }
 {
@@ -73,6 +77,7 @@ pub fn lower(
         return Err(LowerError::Long);
     }
     emitted_code_makes_the_marks();
+    code_of_sources_keeps_types();
     match first_wide(program, counted) {
         Some(number) => Err(LowerError::Wide(number)),
         None => Ok(code(alloc, program)?),

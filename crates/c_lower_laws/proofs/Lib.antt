@@ -1,5 +1,6 @@
 pub mod Held
 pub mod Values
+pub mod Passing
 pub mod Bodies
 pub mod Locals
 pub mod Params

@@ -1,4 +1,4 @@
--- In a typed expression each call has one value per parameter of what is called.
+-- In a typed expression each call is of what is known, and has one value per parameter, converted to its type.
 use Rattle.std.proofs.Common.{◌≡◌, ℕ, suc, ◌+◌, Bool, true, false, cond, ◌&&◌, List, length, Option, Some, None, refl, sym, ap, ◌∙◌, subst}
 use Rattle.std.specs.Prelude.{slice_get, pos}
 use Rattle.r2_num.specs.declared.kinds.IntKind.{IntKind}
@@ -13,19 +13,24 @@ use Rattle.c_code.specs.Machine.{func_of}
 use Rattle.c_types_model.specs.Types.{CType, CTypes, Void, Integer, PointerTo, ArrayOf, StructOf, UndefinedStruct, FunctionOf, NoTypes, MoreTypes}
 use Rattle.c_types_model.specs.declared.extent.Extent.{Extent}
 use Rattle.c_builtins.specs.declared.builtin.Builtin.{Builtin}
+use Rattle.c_builtins.specs.declared.builtin.Builtin.TheVariants.{Malloc, Free, Spawn, Join, Lock, Unlock, Print}
 use Rattle.c_builtins.specs.Table.{first_source_function, number_of, prototype_of}
 use Rattle.c_scopes.specs.Scopes.{meaning_of}
-use Rattle.c_types_rules.specs.Checked.{Checked, Fine, Large, Broken, keep, need, ◌>>=◌, ◌>>◌}
+use Rattle.c_types_rules.specs.Checked.{Checked, Fine, keep, need, ◌>>=◌, ◌>>◌}
 use Rattle.c_types_rules.specs.TypeTests.{is_complete, is_integer, is_scalar, same_type}
 use Rattle.c_types_rules.specs.Constants.{is_null}
-use Rattle.c_types_rules.specs.TypedTree.{Object, Value, Values, Callee, Typed, Sum, PointerPlus, PlusPointer, PointerMinus, Way, Given, Up, Down, New, Old, Both, Either, Negate, Complement, Choice, MoreValues, NoValues, SourceFunction, BuiltinFunction, Through, AnObject, AFunction, AValue, CallOf, Convert, PointerSum, PointerDifference, PointerComparison, Moved, Stepped, MemberOf, Pointed, Element, typed_type, object_type, value_type, read_as, address_of_callee, value_of}
-use Rattle.c_types_rules.specs.Operators.{arithmetic, shift, pointer_sum, sum_of, difference_of, comparison_of, logical, binary, promoted_operand, as_it_is, signed_operand, assigned, left_object, changed, moved, compound_of, assignment_of, operator_in, assignment, step_of, step, pointers_chosen, unlike_chosen, is_settled, choice, cast, can_cast, integer_kind, scalar, are_comparable, fits, size_in, to_kind, rule_of_right}
+use Rattle.c_types_rules.specs.TypedTree.{Object, Value, Values, Callee, Typed, Sum, PointerPlus, PlusPointer, PointerMinus, Way, Given, Up, Down, New, Old, Both, Either, Choice, SourceFunction, BuiltinFunction, Through, AnObject, AFunction, AValue, Convert, PointerSum, PointerDifference, PointerComparison, Moved, Stepped, MemberOf, Pointed, Element, typed_type, object_type, value_type, read_as, address_of_callee, value_of}
+use Rattle.c_types_rules.specs.Operators.{arithmetic, shift, pointer_sum, sum_of, difference_of, comparison_of, logical, binary, signed_operand, assigned, left_object, changed, moved, compound_of, assignment_of, operator_in, assignment, step_of, step, pointers_chosen, unlike_chosen, is_settled, choice, cast, can_cast, integer_kind, scalar, are_comparable, fits, size_in, to_kind, rule_of_right}
 use Rattle.c_types_rules.specs.Environment.{Environment, Meaning, FunctionNamed, GlobalNamed, LocalNamed, builtin_of, extents}
-use Rattle.c_types_rules.specs.Expressions.{expression, arguments, declared_type, meant, named, unknown_name, member, member_of, arrow_of, pointed_of, element, subscript_of, address, a_value, prefixed, postfixed, function_type, called_value, called, builtin_called, builtin_in, constant, member_in, start_of}
+use Rattle.c_types_rules.specs.Expressions.{expression, arguments, declared_type, meant, unknown_name, member, member_of, arrow_of, pointed_of, element, subscript_of, address, a_value, prefixed, postfixed, function_type, called_value, called, builtin_called, builtin_in, constant, member_in, start_of}
 use Rattle.c_types_rules.specs.Limits.{count as types_count}
 use Rattle.c_types_rules.specs.Sources.{params_of}
+use Rattle.c_semantics.specs.Arguments.{AreConverted, IsKnown, called_type, is_known}
+use Rattle.c_semantics.specs.Context.{Source, type_of}
+use Rattle.c_semantics.specs.Returned.{IsConverted}
 use Rattle.c_semantics.specs.Values.{target}
-use Rattle.c_lower_laws.proofs.Held.{Holds, holds_then, holds_on, holds_after}
+use Rattle.c_semantics.proofs.TypedReturns.{scalar_fits}
+use Rattle.c_lower_laws.proofs.Held.{Holds, holds_then, holds_on, holds_after, holds_both, holds_kept}
 use Rattle.c_lower_rules.specs.Code.{Making}
 use Rattle.c_lower_rules.specs.Placement.{count}
 use Rattle.c_lower_rules.specs.Heights.{ObjectCalls, ValueCalls, ValuesCall, CalleeCalls, Takes}
@@ -38,8 +43,15 @@ params_count t = types_count (params_of t)
 abbrev pub IsAt : List CType → (number : ℕ) → CType → Type 0
 IsAt us number t = (place : ℕ) × (number ≡ place + first_source_function) × (slice_get us place ≡ Some t)
 
--- what is known of code: how many values each function of the source, each builtin and each pointer to functions takes
+-- the source knows the function, with this type
+pub record IsOf (s : Source) (number : ℕ) (t : CType) : Type 0 where
+  pub known : is_known s number ≡ true
+  pub type : type_of s number ≡ t
+
+-- what is known of a source and code: the functions with their types; how many values each function of the source, each builtin
+-- and each pointer to functions takes
 pub record Serves (x : Making) (us : List CType) : Type 0 where
+  pub types : (number : ℕ) (t : CType) → IsAt us number t → IsOf x.against.source number t
   pub sources : (number : ℕ) (t : CType) → IsAt us number t → Takes x.against.code number (params_count t)
   pub builtins : (b : Builtin) → Takes x.against.code (number_of b) (params_count (prototype_of b))
   pub pointers : (t : CType) (f : ℕ) (info : FuncInfo) → func_of x.against.code f ≡ Some info → info.sig ≡ x.sig t → length info.params ≡ params_count t
@@ -47,6 +59,15 @@ pub record Serves (x : Making) (us : List CType) : Type 0 where
 -- each function that is named has its type
 abbrev pub NamesAre : List CType → Environment → Type 0
 NamesAre us env = (name : List ℕ) (number : ℕ) (t : CType) → meaning_of name env.scopes ≡ Some (FunctionNamed number t) → IsAt us number t
+
+pub builtin_type : (s : Source) (b : Builtin) → type_of s (number_of b) ≡ prototype_of b
+builtin_type s Malloc = refl
+builtin_type s Free = refl
+builtin_type s Spawn = refl
+builtin_type s Join = refl
+builtin_type s Lock = refl
+builtin_type s Unlock = refl
+builtin_type s Print = refl
 
 module _ (x : Making) (us : List CType) (serves : Serves x us) where
   abbrev pub Counts : Value → Type 0
@@ -150,6 +171,16 @@ module _ (x : Making) (us : List CType) (serves : Serves x us) where
 
   pub assigned_counts : (from : ℕ) (t : CType) (v : Value) → Counts v → Holds Counts (assigned from t v)
   assigned_counts from t v h = holds_after Counts (keep from 6 (fits t (value_type v) v)) (Fine (Convert t v)) h
+
+  assigned_converts : (from : ℕ) (t : CType) (v : Value) → Holds (IsConverted t) (assigned from t v)
+  assigned_converts from t v = holds_kept (IsConverted t) from 6 (fits t (value_type v) v) (Fine (Convert t v)) (λ e. (refl, scalar_fits t (value_type v) v e))
+
+  -- an argument
+  abbrev pub Argument : CType → Value → Type 0
+  Argument t v = Counts v × IsConverted t v
+
+  assigned_passes : (from : ℕ) (t : CType) (v : Value) → Counts v → Holds (Argument t) (assigned from t v)
+  assigned_passes from t v h = holds_both Counts (IsConverted t) (assigned from t v) (assigned_counts from t v h) (assigned_converts from t v)
 
   left_counts : (from : ℕ) (a : Typed) → CountsTyped a → Holds CountsObject (left_object from a)
   left_counts from (AnObject o) h = holds_after CountsObject (keep from 8 (is_scalar (object_type o))) (Fine o) h
@@ -269,14 +300,14 @@ module _ (x : Making) (us : List CType) (serves : Serves x us) where
 
   -- ---- calls
 
-  -- what is called takes as many values as it has parameters
+  -- what is called is known, and takes as many values as it has parameters
   abbrev pub TakesAll : Callee × CType × CTypes → Type 0
-  TakesAll f = CalleeCalls f.0 x (types_count f.2)
+  TakesAll f = CalleeCalls f.0 x (types_count f.2) × IsKnown x.against.source f.0 × (params_of (called_type x.against.source f.0) ≡ f.2)
 
-  takes : (f : Callee) (r : CType) (ps : CTypes) → CalleeIs f (FunctionOf r ps) → CalleeCalls f x (types_count ps)
-  takes (SourceFunction at number) r ps h = serves.sources number (FunctionOf r ps) h
-  takes (BuiltinFunction at b) r ps h = subst (λ t. Takes x.against.code (number_of b) (params_count t)) h (serves.builtins b)
-  takes (Through v) r ps h = (h.0, λ f info known sig. serves.pointers (FunctionOf r ps) f info known (sig ∙ ap x.sig h.1))
+  takes : (f : Callee) (r : CType) (ps : CTypes) → CalleeIs f (FunctionOf r ps) → TakesAll (f, r, ps)
+  takes (SourceFunction at number) r ps h = let of = serves.types number (FunctionOf r ps) h in (serves.sources number (FunctionOf r ps) h, of.known, ap params_of of.type)
+  takes (BuiltinFunction at b) r ps h = (subst (λ t. Takes x.against.code (number_of b) (params_count t)) h (serves.builtins b), tt, ap params_of (builtin_type x.against.source b ∙ h))
+  takes (Through v) r ps h = ((h.0, λ f info known sig. serves.pointers (FunctionOf r ps) f info known (sig ∙ ap x.sig h.1)), tt, ap params_of h.1)
 
   function_takes : (from : ℕ) (f : Callee) (t : CType) → CalleeIs f t → Holds TakesAll (function_type from t >>= (λ g. Fine (f, g.0, g.1)))
   function_takes from f (FunctionOf r ps) h = takes f r ps h
@@ -305,9 +336,9 @@ module _ (x : Making) (us : List CType) (serves : Serves x us) where
   callee_takes from at (Some f) c h = function_takes at (BuiltinFunction at f) (prototype_of f) refl
   callee_takes from at None c h = holds_then CountsTyped TakesAll c (called from) h (called_takes from)
 
-  -- one value per parameter
+  -- one value per parameter, converted to its type
   abbrev pub Passes : CTypes → Values → Type 0
-  Passes ts vs = ValuesCall vs x × (count vs ≡ types_count ts)
+  Passes ts vs = ValuesCall vs x × (count vs ≡ types_count ts) × AreConverted ts vs
 
   mutual
     pub expression_counts : (e : Expr) (env : Environment) → NamesAre us env → Holds CountsTyped (expression e env)
@@ -336,15 +367,16 @@ module _ (x : Making) (us : List CType) (serves : Serves x us) where
         (λ d k. subscript_counts (extents env) from (value_of c) (value_of d) (value_type (value_of c)) (value_type (value_of d)) (value_counts c h) (value_counts d k)))
     expression_counts (Call from a es) env ns =
         holds_then TakesAll CountsTyped (elim (builtin_in env a) [ Some f ↦ builtin_called (start_of a) f | None ↦ expression a env >>= called from ]) _ (callee_takes from (start_of a) (builtin_in env a) (expression a env) (expression_counts a env ns))
-        (λ f h. holds_then (Passes f.2) CountsTyped (arguments es env from f.2) _ (arguments_pass es env from f.2 ns) (λ vs k. (subst (λ n. CalleeCalls f.0 x n) (sym k.1) h, k.0)))
+        (λ f h. holds_then (Passes f.2) CountsTyped (arguments es env from f.2) _ (arguments_pass es env from f.2 ns)
+        (λ vs k. (subst (λ n. CalleeCalls f.0 x n) (sym k.1) h.0, k.0, (h.1, subst (λ ts. AreConverted ts vs) (sym h.2) k.2))))
     expression_counts (Member from a name) env ns = holds_then CountsTyped CountsTyped (expression a env) _ (expression_counts a env ns) (λ c h. named_member_counts env from c name h)
     expression_counts (Arrow from a name) env ns = holds_then CountsTyped CountsTyped (expression a env) _ (expression_counts a env ns) (λ c h. arrow_counts env from (value_of c) (value_type (value_of c)) name (value_counts c h))
 
     arguments_pass : (es : Exprs) (env : Environment) (from : ℕ) (ts : CTypes) → NamesAre us env → Holds (Passes ts) (arguments es env from ts)
-    arguments_pass NoExprs env from NoTypes ns = (tt, refl)
+    arguments_pass NoExprs env from NoTypes ns = (tt, refl, tt)
     arguments_pass NoExprs env from (MoreTypes t ts) ns = tt
     arguments_pass (MoreExprs a es) env from NoTypes ns = tt
     arguments_pass (MoreExprs a es) env from (MoreTypes t ts) ns =
         holds_then CountsTyped (Passes (MoreTypes t ts)) (expression a env) _ (expression_counts a env ns)
-        (λ c h. holds_then Counts (Passes (MoreTypes t ts)) (assigned (start_of a) t (value_of c)) _ (assigned_counts (start_of a) t (value_of c) (value_counts c h))
-        (λ v k. holds_then (Passes ts) (Passes (MoreTypes t ts)) (arguments es env from ts) _ (arguments_pass es env from ts ns) (λ vs j. ((k, j.0), ap suc j.1))))
+        (λ c h. holds_then (Argument t) (Passes (MoreTypes t ts)) (assigned (start_of a) t (value_of c)) _ (assigned_passes (start_of a) t (value_of c) (value_counts c h))
+        (λ v k. holds_then (Passes ts) (Passes (MoreTypes t ts)) (arguments es env from ts) _ (arguments_pass es env from ts ns) (λ vs j. ((k.0, j.0), ap suc j.1, (k.1, j.2)))))

@@ -1,5 +1,5 @@
 -- A typed program is fit.
-use Rattle.std.proofs.Common.{◌≡◌, ℕ, zero, suc, ◌+◌, ◌-◌, ◌^◌, ◌<◌, ◌≤◌, Bool, true, false, ◌&&◌, cond, ltb, lit≤, List, [], ◌∷◌, length, map, take, Option, Some, None, refl, sym, ap, ◌∙◌, subst, arith}
+use Rattle.std.proofs.Common.{◌≡◌, ℕ, zero, suc, ◌+◌, ◌-◌, ◌≤◌, Bool, true, false, ◌&&◌, cond, ltb, lit≤, List, [], ◌∷◌, length, take, Option, Some, None, refl, sym, ap, ◌∙◌, subst, arith}
 use Rattle.std.specs.Prelude.{slice_get, nat_le}
 use Rattle.std.specs.Option.{option_map}
 use Rattle.std.proofs.lemmas.Option.{same_Some, slice_get-map, slice_get_within}
@@ -15,20 +15,21 @@ use Rattle.c_builtins.specs.declared.builtin.Builtin.{Builtin}
 use Rattle.c_builtins.specs.declared.builtin.Builtin.TheVariants.{Malloc, Free, Spawn, Join, Lock, Unlock, Print}
 use Rattle.c_builtins.specs.Table.{number_of, prototype_of}
 use Rattle.c_types_rules.specs.Checked.{Checked, Fine, Large, Broken}
-use Rattle.c_types_rules.specs.Limits.{Which, Functions, Params, Outcome, Typed, Limit, all_keep, count as types_count, decided, few_params, first_limit, frame_size, most_functions, outcome, unless}
-use Rattle.c_types_rules.specs.Limits as limits
+use Rattle.c_types_rules.specs.Limits.{Which, Functions, Params, Typed, all_keep, count as types_count, decided, few_params, first_limit, frame_size, most_functions, outcome, unless}
 use Rattle.c_types_rules.specs.Sources.{Function, Program, extents_in, params_of, program}
 use Rattle.c_types_rules.specs.TypedTree as typed
 use Rattle.c_semantics.specs.Context.{Source, body_of, body_or, builtin_of, param_shapes, shapes_of, source_function, type_of, type_or}
+use Rattle.c_semantics.specs.Arguments.{is_any}
+use Rattle.c_semantics.specs.Returned.{ResultsAreConverted}
+use Rattle.c_semantics.proofs.TypedFunctions.{results_are_converted}
 use Rattle.c_lower_laws.proofs.Held.{Holds}
 use Rattle.c_lower_rules.specs.Code.{making}
 use Rattle.c_types_program.specs.Declarations.{Declared}
 use Rattle.c_types_program.specs.Programs.{IsProgram, program_in}
 use Rattle.c_lower_layout.specs.Sources.{sig_in, source_in, types_of_functions}
 use Rattle.c_lower_laws.specs.Fits.{IsBodyFit, IsFit, IsFitSource, Knows}
-use Rattle.c_lower_laws.proofs.Values.{IsAt, Serves, params_count}
+use Rattle.c_lower_laws.proofs.Values.{IsOf, Serves, builtin_type, params_count}
 use Rattle.c_lower_laws.proofs.Frames.{frame_holds, params_lie}
-use Rattle.c_lower_laws.proofs.Locals.{Begins}
 use Rattle.c_lower_laws.proofs.Params.{AreScalars, TakesScalars}
 use Rattle.c_lower_laws.proofs.Programs.{Extends, Fits, Good, source_good}
 
@@ -58,40 +59,40 @@ here s f g e = by (ltb f builtin_count) refl e
     by true l h = absurd cc
     by false l h = let le : 16 ≤ f = ltb-false f 16 l in record { place = f - builtin_count; numbered = omega arith; there = h }
 
--- the type of the function at a place
-type_here : (s : Source) (place : ℕ) (g : Function) → slice_get s.program.functions place ≡ Some g → type_of s (builtin_count + place) ≡ g.type
-type_here s place g e =
+-- the function at a place, and its type
+function_here : (s : Source) (place : ℕ) (g : Function) → slice_get s.program.functions place ≡ Some g → source_function s (builtin_count + place) ≡ Some g
+function_here s place g e =
     let below : ltb (builtin_count + place) builtin_count ≡ false = le-ltb (16 + place) 16 (omega arith) in
     let at : builtin_count + place - builtin_count ≡ place = omega arith in
-    let found : source_function s (builtin_count + place) ≡ Some g =
-    ap (λ b. cond b None (slice_get s.program.functions (builtin_count + place - builtin_count))) below ∙ (ap (slice_get s.program.functions) at ∙ e) in
-    ap (λ o. type_or o (builtin_of (builtin_count + place))) found
+    ap (λ b. cond b None (slice_get s.program.functions (builtin_count + place - builtin_count))) below ∙ (ap (slice_get s.program.functions) at ∙ e)
+
+type_here : (s : Source) (place : ℕ) (g : Function) → slice_get s.program.functions place ≡ Some g → type_of s (builtin_count + place) ≡ g.type
+type_here s place g e = ap (λ o. type_or o (builtin_of (builtin_count + place))) (function_here s place g e)
 
 -- how many parameters are known of a function of this type
 params_known : (s : Source) (f : ℕ) (info : FuncInfo) (t : CType) → info.params ≡ param_shapes s f → type_of s f ≡ t → length info.params ≡ params_count t
 params_known s f info t e h = ap length e ∙ (ap (λ u. length (shapes_of (params_of u))) h ∙ shapes_count (params_of t))
 
-builtin_type : (s : Source) (b : Builtin) → type_of s (number_of b) ≡ prototype_of b
-builtin_type s Malloc = refl
-builtin_type s Free = refl
-builtin_type s Spawn = refl
-builtin_type s Join = refl
-builtin_type s Lock = refl
-builtin_type s Unlock = refl
-builtin_type s Print = refl
-
-module _ (s : Source) (sig : CType → ℕ) (facts : Facts s.program.functions) where
+module _ (s : Source) (sig : CType → ℕ) (facts : Facts s.program.functions) (converts : ResultsAreConverted s) where
   abbrev us : List CType
   us = types_of_functions s.program.functions
 
   -- code that knows the functions of a source serves them
   serves : (code : Flat) (b : typed.Body) → Knows s code sig → Serves (making s code sig b) us
   serves code b knows = record {
+    types = λ number t at. is_of number t at.0 at.1 (slice_get s.program.functions at.0) refl (sym (slice_get-map (λ (f : Function). f.type) s.program.functions at.0) ∙ at.2);
     sources = λ number t at. source number t at.0 at.1 (slice_get s.program.functions at.0) refl (sym (slice_get-map (λ (f : Function). f.type) s.program.functions at.0) ∙ at.2);
     builtins = λ c. let known = knows.builtins c in (known.0, known.1, params_known s (number_of c) known.0 (prototype_of c) (knows.each (number_of c) known.0 known.1).0 (builtin_type s c));
     pointers = λ t f info known e. params_known s f info t (knows.each f info known).0 (knows.tells f info t known e);
   }
     where
+      is_of : (number : ℕ) (t : CType) (place : ℕ) → number ≡ place + 16 → (o : Option Function) → slice_get s.program.functions place ≡ o → option_map (λ (f : Function). f.type) o ≡ Some t → IsOf s number t
+      is_of number t place e None eo h = absurd cc
+      is_of number t place e (Some g) eo h =
+          let is : builtin_count + place ≡ number = omega (arith, e) in
+          let known = ap (λ o. is_any o (builtin_of (builtin_count + place))) (function_here s place g eo) in
+          subst (λ n. IsOf s n t) is (record { known = known; type = type_here s place g eo ∙ same_Some g.type t h })
+
       source : (number : ℕ) (t : CType) (place : ℕ) → number ≡ place + 16 → (o : Option Function) → slice_get s.program.functions place ≡ o → option_map (λ (f : Function). f.type) o ≡ Some t
           → (info : FuncInfo) × (func_of code number ≡ Some info) × (length info.params ≡ params_count t)
       source number t place e None eo h = absurd cc
@@ -124,6 +125,7 @@ module _ (s : Source) (sig : CType → ℕ) (facts : Facts s.program.functions) 
           let type : type_of s f ≡ g.type = ap (λ o. type_or o (builtin_of f)) eo in
           record {
             calls = λ code knows. fits.1 (making s code sig b) us (serves code b knows) extends;
+            returns = converts f b e;
             holds = subst (λ t. params_end 0 (shapes_of (params_of t)) ≤ frame_size s.program b.locals) (sym type) (frame_holds s.program (params_of g.type) b.locals (scalars_of g.type (facts.scalars h.place g h.there)) fits.0);
             places = subst (λ t. take (length (shapes_of (params_of t))) (offsets_from 0 (extents_in s.program b.locals)) ≡ param_offsets 0 (shapes_of (params_of t))) (sym type) (params_lie s.program (params_of g.type) b.locals (scalars_of g.type (facts.scalars h.place g h.there)) fits.0);
           }
@@ -193,4 +195,6 @@ pub typed_programs_fit : (ds : Decls) (p : Program) (d : Declared) → outcome d
 unfolding source_in
 typed_programs_fit ds p d e is =
     let functions : p.functions ≡ (program_in d []).functions = sym (ap (λ (q : Program). q.functions) is) in
-    source_fits (source_in d) (sig_in d) (subst (λ (fs : List Function). Facts fs) functions (decided_facts (program ds) p (source_good ds) e))
+    let converts : ResultsAreConverted (record { program = program_in d p.names; texts = (source_in d).texts; placed = (source_in d).placed }) =
+    subst (λ (q : Program). ResultsAreConverted (record { program = q; texts = (source_in d).texts; placed = (source_in d).placed })) (sym is) (results_are_converted ds p e (source_in d).texts (source_in d).placed) in
+    source_fits (source_in d) (sig_in d) (subst (λ (fs : List Function). Facts fs) functions (decided_facts (program ds) p (source_good ds) e)) converts

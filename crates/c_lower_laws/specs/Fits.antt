@@ -10,7 +10,9 @@ use Rattle.c_builtins.specs.declared.builtin.Builtin.{Builtin}
 use Rattle.c_builtins.specs.Table.{number_of}
 use Rattle.c_types_rules.specs.TypedTree.{Body}
 use Rattle.c_types_rules.specs.Limits.{frame_size}
+use Rattle.c_types_rules.specs.Sources.{result_of}
 use Rattle.c_semantics.specs.Context.{Source, body_of, local_offsets, param_shapes, type_of}
+use Rattle.c_semantics.specs.Returned.{Converts}
 use Rattle.c_lower_rules.specs.Code.{making}
 use Rattle.c_lower_rules.specs.Heights.{StatementCalls}
 use Rattle.c_types_program.specs.Declarations.{Declared}
@@ -28,10 +30,12 @@ pub record Knows (s : Source) (code : Flat) (sig : CType → ℕ) : Type 0 where
   pub sources : (k : ℕ) → k < length s.program.functions → (info : FuncInfo) ×
       (func_of code (builtin_count + k) ≡ Some info)
 
--- in a body each call has one value per parameter, and its frame begins with its parameters, each at the
+-- in a body each call is of what is known, and has one value per parameter, converted to its type; each
+-- `return` converts its value to the result's type; and its frame begins with its parameters, each at the
 -- place of its local
 pub record IsBodyFit (s : Source) (sig : CType → ℕ) (f : ℕ) (b : Body) : Type 0 where
   pub calls : (code : Flat) → Knows s code sig → StatementCalls b.statements (making s code sig b)
+  pub returns : Converts (result_of (type_of s f)) b.statements
   pub holds : params_end 0 (param_shapes s f) ≤ frame_size s.program b.locals
   pub places : take (length (param_shapes s f)) (local_offsets s b.locals) ≡
       param_offsets 0 (param_shapes s f)

@@ -8,3 +8,4 @@ mod Keeping
 mod Steady
 mod Whole
 mod Aboves
+mod Typed

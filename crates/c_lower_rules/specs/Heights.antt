@@ -7,6 +7,7 @@ use Rattle.c_code.specs.Valid.{Keeps}
 use Rattle.c_builtins.specs.Table.{number_of}
 use Rattle.c_types_rules.specs.TypedTree.{Object, Value, Values, Callee, Sum, PointerPlus, PlusPointer, PointerMinus, Way, Up, Down, GlobalObject, LocalObject, TextObject, Pointed, Element, MemberOf, Constant, FunctionAddress, ReadOf, AddressOf, Convert, Negate, Complement, Arithmetic, PointerSum, PointerDifference, PointerComparison, Not, Both, Either, Choice, Sequence, Assigned, Changed, Moved, Stepped, CallOf, NoValues, MoreValues, SourceFunction, BuiltinFunction, Through, MaybeValue, NoValue, OneValue, Statement, Statements, Block, Evaluate, Initialise, If, IfElse, While, Do, For, Break, Continue, Return, NoStatements, MoreStatements, object_type, value_type}
 use Rattle.c_types_rules.specs.TypedTree as typed
+use Rattle.c_semantics.specs.Arguments.{Passes}
 use Rattle.c_semantics.specs.Context.{kind_of}
 use Rattle.c_semantics.specs.Values.{is_read, target}
 use Rattle.c_lower_rules.specs.Conversions.{converts, reconverts}
@@ -69,7 +70,7 @@ abbrev pub Takes : Flat → (func count : ℕ) → Type 0
 Takes code f n = (info : FuncInfo) × (func_of code f ≡ Some info) × (length info.params ≡ n)
 
 abbrev mutual
-  -- each call has one value per parameter
+  -- each call is of what is known, and has one value per parameter, converted to its type
   pub ObjectCalls : Object → Making → Type 0
   ObjectCalls (GlobalObject from place t) x = Unit {0}
   ObjectCalls (LocalObject place t) x = Unit {0}
@@ -99,7 +100,7 @@ abbrev mutual
   ValueCalls (Changed o op k v) x = ObjectCalls o x × ValueCalls v x
   ValueCalls (Moved o w i size) x = ObjectCalls o x × ValueCalls i x
   ValueCalls (Stepped o w g size) x = ObjectCalls o x
-  ValueCalls (CallOf f vs t) x = CalleeCalls f x (count vs) × ValuesCall vs x
+  ValueCalls (CallOf f vs t) x = CalleeCalls f x (count vs) × ValuesCall vs x × Passes x.against.source f vs
 
   pub ValuesCall : Values → Making → Type 0
   ValuesCall NoValues x = Unit {0}

@@ -1,8 +1,9 @@
 -- Code makes exactly the marks of its source.
-use Rattle.std.specs.Prelude.{◌≡◌, ◌≢◌, ℕ, ◌+◌, ◌<◌, ◌≤◌, true, List, ◌∷◌, ◌++◌, length, reverse, Some, None, is_some, slice_get}
+use Rattle.std.specs.Prelude.{◌≡◌, ◌≢◌, ℕ, ◌+◌, ◌<◌, ◌≤◌, ltb, true, List, ◌∷◌, ◌++◌, length, reverse, Some, None, is_some, slice_get}
 use Rattle.marks.specs.declared.side.Side.{Side}
 use Rattle.marks.specs.declared.side.Side.TheVariants.{Replay}
 use Rattle.marks.specs.Marks.{Mark}
+use Rattle.marks.specs.Places.{builtin_count}
 use Rattle.marks.specs.Wants.{answer_to}
 use Rattle.c_code.specs.declared.code.FuncInfo.{FuncInfo}
 use Rattle.c_code.specs.declared.instr.Instr.{Instr}
@@ -13,7 +14,8 @@ use Rattle.c_code.specs.Valid.{most_values}
 use Rattle.c_types_model.specs.Types.{CType}
 use Rattle.c_types_rules.specs.TypedTree.{Body}
 use Rattle.c_types_rules.specs.Limits.{frame_size}
-use Rattle.c_semantics.specs.Context.{Source, body_of, param_shapes, result_shape}
+use Rattle.c_semantics.specs.Arguments.{is_known}
+use Rattle.c_semantics.specs.Context.{Source, body_of, param_shapes, result_shape, type_of}
 use Rattle.c_semantics.specs.Calls.{behaviour, thread_above, thread_behaviour}
 use Rattle.c_lower_rules.specs.Placement.{HasCode, IsSigOf}
 use Rattle.c_lower_rules.specs.Code.{Lies, body_code, making}
@@ -59,6 +61,15 @@ pub record MakesTheMarks (s : Source) (code : Flat) : Type 0 where
 -- the code knows the results of all functions
 abbrev pub HasResults : Source → Flat → Type 0
 HasResults s code = (f : ℕ) → result_of (laid s code) f ≡ result_shape s f
+
+-- the code knows the functions of the source and the builtins, and of each number what the source says of
+-- its type; a builtin has no body in it
+pub record KnowsFunctions (s : Source) (code : Flat) : Type 0 where
+  pub known : (f : ℕ) → is_known s f ≡ true → (info : FuncInfo) × (func_of code f ≡ Some info)
+  pub params : (f : ℕ) (info : FuncInfo) → func_of code f ≡ Some info → info.params ≡ param_shapes s f
+  pub results : HasResults s code
+  pub sigs : (f : ℕ) (info : FuncInfo) → func_of code f ≡ Some info → IsSigOf s code (type_of s f) info.sig
+  pub builtins : (f : ℕ) → ltb f builtin_count ≡ true → entry (laid s code) f ≡ None
 
 -- what a thread of the code wants above the cut is a function of its marks there so far, which the next of
 -- them answers: it

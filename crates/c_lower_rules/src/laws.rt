@@ -3,12 +3,14 @@
 ghost use Rattle.std.specs.Prelude.{ℕ, List};
 ghost use Rattle.c_code.specs.Laws.{AboveForgets, ReturnsValues};
 ghost use Rattle.c_code.specs.Machine.{Flat, callee};
+ghost use Rattle.c_code.specs.Typed.{KeepsTypes};
 ghost use Rattle.c_code.specs.Valid.{IsSteady, IsValid};
 ghost use Rattle.c_types_model.specs.Types.{CType};
+ghost use Rattle.c_semantics.specs.Arguments.{ArgumentsAreConverted};
 ghost use Rattle.c_semantics.specs.Context.{Source};
 ghost use Rattle.c_semantics.specs.Returned.{ResultsAreConverted};
 ghost use Rattle.c_lower_rules.specs.Placement.{IsSigOf};
-ghost use Rattle.c_lower_rules.specs.Laws.{HasResults, IsEmitted, IsLowered, IsMadeOf, MakesTheMarks, NextAnswersAbove, laid};
+ghost use Rattle.c_lower_rules.specs.Laws.{HasResults, IsEmitted, IsLowered, IsMadeOf, KnowsFunctions, MakesTheMarks, NextAnswersAbove, laid};
 
 /// A law: where the code of each function of a source lies in flat code, the lists of marks that the code can make are
 /// exactly those of the source: of each call, each thread, and each thread above the cut.
@@ -47,4 +49,11 @@ pub fn code_of_sources_forgets()
     ensures forgets { (s : Source) (code : Flat) → ResultsAreConverted s → MakesTheMarks s code →
         HasResults s code → IsValid code → (t : CType) (sig address : ℕ) (args : List ℕ) →
         IsSigOf s code t sig → AboveForgets (laid s code) (callee (laid s code) sig address) args }
+{}
+
+/// A law: code that makes the marks of a source, whose functions it knows, keeps types, where the source converts arguments and
+/// results: what each thread of it wants carries values of their types, and so does its end.
+pub fn code_of_sources_keeps_types()
+    ensures { (s : Source) (code : Flat) → ResultsAreConverted s → ArgumentsAreConverted s →
+        MakesTheMarks s code → KnowsFunctions s code → KeepsTypes (laid s code) }
 {}

@@ -5,6 +5,6 @@
 mod laws;
 
 pub use laws::{
-    emitted_code_is_steady, emitted_code_makes_the_marks, lowered_code_makes_the_marks,
-    next_mark_answers_above,
+    code_of_sources_keeps_types, emitted_code_is_steady, emitted_code_makes_the_marks,
+    lowered_code_makes_the_marks, next_mark_answers_above,
 };

@@ -88,7 +88,6 @@ module _ (s : Source) (c : Bodies) (l : Loop s c) (most : ℕ) where
     follows = λ side want. (side ≡ System) × IsPlain want;
     weaker = λ j k p q le d ms n few less fits some right. d ms n (let x = le.0 in omega arith) (let x = le.1 in omega arith) fits some right;
     wrongs = λ k ms n few less fits some right. absurd (right refl);
-    ends = gone_ends;
     asks = gone_asks;
     counted = gone_counted;
   }

@@ -14,7 +14,7 @@ use Rattle.c_semantics.specs.Reading.{Marks, wrong, ended, ask, with_value, with
 use Rattle.c_semantics.specs.Context.{Source, body_of, frame_of, is_face, param_shapes, result_shape}
 use Rattle.c_semantics.specs.Values.{Here}
 use Rattle.c_semantics.specs.Calls.{Bodies, any_below, any_step, back_or_plain, begun, behaviour, below, bodies, call, call_by_address, call_by_name, called_back, callee, calling, entering, entering_below, first, here, is_pool, making, outside, outside_step, own_below, pooling, started, stepping, thread_above, thread_behaviour, to_callee}
-use Rattle.c_semantics.proofs.Relations.{Bounds, Less, AtMost, Relation, FollowsAll, Cuts, lower, weaker_all, cut_cond, cut_fails, cut_frame, cut_value}
+use Rattle.c_semantics.proofs.Relations.{Bounds, Less, AtMost, Relation, FollowsAll, PassesEnds, Cuts, lower, weaker_all, cut_cond, cut_fails, cut_frame, cut_value}
 use Rattle.c_semantics.proofs.ValuePrefixes.{Makes, making_calls, CallsCut}
 use Rattle.c_semantics.proofs.StatementPrefixes.{statement_cut}
 
@@ -151,23 +151,24 @@ module _ (R : Relation) (all : FollowsAll R) where
       let fewer : j.right < m = let x = lt.1 in omega arith in
       bodies_cut n m j r s less fewer
 
-  pub behaviour_cut : (r : Reading) (s : Source) (side : Side) (f : ℕ) (args : List ℕ) (k : Bounds) → R.rel k (behaviour r s side f args) (behaviour r s side f args)
-  behaviour_cut r s side f args k =
-      R.counted k (λ n. entering s (bodies n r s) side side false f args ended) (λ m. entering s (bodies m r s) side side false f args ended)
-      (λ j n m le fl fr. entering_cut j s (bodies n r s) (bodies m r s) side side false f args ended ended (all_bodies n m j r s fl fr) (λ v. R.ends j v))
+  module _ (ends : PassesEnds R) where
+    pub behaviour_cut : (r : Reading) (s : Source) (side : Side) (f : ℕ) (args : List ℕ) (k : Bounds) → R.rel k (behaviour r s side f args) (behaviour r s side f args)
+    behaviour_cut r s side f args k =
+        R.counted k (λ n. entering s (bodies n r s) side side false f args ended) (λ m. entering s (bodies m r s) side side false f args ended)
+        (λ j n m le fl fr. entering_cut j s (bodies n r s) (bodies m r s) side side false f args ended ended (all_bodies n m j r s fl fr) (λ v. ends j v))
 
-  begun_cut : (k : Bounds) (s : Source) (b c : Bodies) (has : Bool) (f : ℕ) (args : List ℕ) → BodiesCut k b c → R.rel k (begun s b has f args) (begun s c has f args)
-  begun_cut k s b c true f args d = entering_below_cut k s b c true f args ended ended d (λ v. R.ends k v)
-  begun_cut k s b c false f args d = stepping_cut k s System true f args ended ended (λ v. R.ends k v)
+    begun_cut : (k : Bounds) (s : Source) (b c : Bodies) (has : Bool) (f : ℕ) (args : List ℕ) → BodiesCut k b c → R.rel k (begun s b has f args) (begun s c has f args)
+    begun_cut k s b c true f args d = entering_below_cut k s b c true f args ended ended d (λ v. ends k v)
+    begun_cut k s b c false f args d = stepping_cut k s System true f args ended ended (λ v. ends k v)
 
-  started_cut : (k : Bounds) (s : Source) (b c : Bodies) (o : Option ℕ) (args : List ℕ) → BodiesCut k b c → R.rel k (started s b o args) (started s c o args)
-  started_cut k s b c None args d = cut_fails R k System BadCall (λ want plain. all System want)
-  started_cut k s b c (Some f) args d = begun_cut k s b c (is_some (body_of s f)) f args d
+    started_cut : (k : Bounds) (s : Source) (b c : Bodies) (o : Option ℕ) (args : List ℕ) → BodiesCut k b c → R.rel k (started s b o args) (started s c o args)
+    started_cut k s b c None args d = cut_fails R k System BadCall (λ want plain. all System want)
+    started_cut k s b c (Some f) args d = begun_cut k s b c (is_some (body_of s f)) f args d
 
-  pub thread_cut : (s : Source) (t : CType) (address : ℕ) (args : List ℕ) (k : Bounds) → R.rel k (thread_behaviour s t address args) (thread_behaviour s t address args)
-  thread_cut s t address args k =
-      R.counted k (λ n. started s (bodies n Split s) (callee s t address) args) (λ m. started s (bodies m Split s) (callee s t address) args)
-      (λ j n m le fl fr. started_cut j s (bodies n Split s) (bodies m Split s) (callee s t address) args (all_bodies n m j Split s fl fr))
+    pub thread_cut : (s : Source) (t : CType) (address : ℕ) (args : List ℕ) (k : Bounds) → R.rel k (thread_behaviour s t address args) (thread_behaviour s t address args)
+    thread_cut s t address args k =
+        R.counted k (λ n. started s (bodies n Split s) (callee s t address) args) (λ m. started s (bodies m Split s) (callee s t address) args)
+        (λ j n m le fl fr. started_cut j s (bodies n Split s) (bodies m Split s) (callee s t address) args (all_bodies n m j Split s fl fr))
 
   outside_step_cut : (k : Bounds) (s : Source) (b c : Bodies) (p q : Marks) → BodiesCut k b c → R.rel k p q → (a : Answer) → R.rel k (outside_step s b p a) (outside_step s c q a)
   outside_step_cut k s b c p q d r (CalledBack g args) = called_back_cut k s b c g args (λ v. p) (λ v. q) d (λ v. r)

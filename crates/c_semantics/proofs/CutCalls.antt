@@ -20,8 +20,8 @@ use Rattle.c_semantics.proofs.Relations.{Bounds, Less, AtMost, Cuts, lower, weak
 use Rattle.c_semantics.proofs.ValuePrefixes.{CallsCut}
 use Rattle.c_semantics.proofs.CallPrefixes.{calls_of, making_cut}
 use Rattle.c_semantics.proofs.Returned.{restricted, made_same}
-use Rattle.c_semantics.proofs.ReplayMarks.{Seen, seen, bounds, expects_is_right, heard_answers, heard_seen, keeps}
-use Rattle.c_semantics.proofs.BelowMarks.{Gone, gone, Loop, under, beyond, back_gone}
+use Rattle.c_semantics.proofs.ReplayMarks.{Seen, seen, seen_ends, bounds, expects_is_right, heard_answers, heard_seen, keeps}
+use Rattle.c_semantics.proofs.BelowMarks.{Gone, gone, gone_ends, Loop, under, beyond, back_gone}
 
 module _ (s : Source) where
   -- replay code in bodies, on both sides
@@ -223,7 +223,7 @@ module _ (s : Source) where
         let n = length ms in
         let m = length (replay_part ms) in
         let k = bounds n m in
-        entering_seen k (bodies (suc n) Split s) (bodies (suc m) Above s) false f args ended ended (λ j lt. (within (suc n)).replays (suc m) j (let x = lt.0 in omega arith) (let y = lt.1 in omega arith)) (λ v. seen.ends k v) ms (omega arith) (omega arith) right
+        entering_seen k (bodies (suc n) Split s) (bodies (suc m) Above s) false f args ended ended (λ j lt. (within (suc n)).replays (suc m) j (let x = lt.0 in omega arith) (let y = lt.1 in omega arith)) (λ v. seen_ends k v) ms (omega arith) (omega arith) right
 
     started_gone : (n m : ℕ) (o : Option ℕ) (args : List ℕ) → Gone s (bodies (suc m) Above s) (beyond s (bodies (suc m) Above s)) m (bounds n n) (started s (bodies (suc n) Split s) o args) wrong
     started_gone n m None args = cut_fails (gone s (bodies (suc m) Above s) (beyond s (bodies (suc m) Above s)) m) (bounds n n) System BadCall (λ want p. (refl, bare_plain want p))
@@ -232,8 +232,8 @@ module _ (s : Source) where
         by : (has : Bool) → Gone s (bodies (suc m) Above s) (beyond s (bodies (suc m) Above s)) m (bounds n n) (begun s (bodies (suc n) Split s) has f args) wrong
         by true =
             indirect_gone (bodies (suc m) Above s) (beyond s (bodies (suc m) Above s)) m (bounds n n) (bodies (suc n) Split s) f args ended
-            (λ j x y. (within (suc n)).replays (suc m) j (omega arith) (omega arith)) (λ j x. (within (suc n)).systems (suc m) m j (omega arith) (omega arith)) (λ v. (gone s (bodies (suc m) Above s) (beyond s (bodies (suc m) Above s)) m).ends (bounds n n) v)
-        by false = stepping_gone (bodies (suc m) Above s) (beyond s (bodies (suc m) Above s)) m (bounds n n) true f args ended (λ v. (gone s (bodies (suc m) Above s) (beyond s (bodies (suc m) Above s)) m).ends (bounds n n) v)
+            (λ j x y. (within (suc n)).replays (suc m) j (omega arith) (omega arith)) (λ j x. (within (suc n)).systems (suc m) m j (omega arith) (omega arith)) (λ v. gone_ends s (bodies (suc m) Above s) (beyond s (bodies (suc m) Above s)) m (bounds n n) v)
+        by false = stepping_gone (bodies (suc m) Above s) (beyond s (bodies (suc m) Above s)) m (bounds n n) true f args ended (λ v. gone_ends s (bodies (suc m) Above s) (beyond s (bodies (suc m) Above s)) m (bounds n n) v)
 
     pub threads_are_right : (t : CType) (address : ℕ) (args : List ℕ) → ReplayPartIsRight (thread_behaviour s t address args) (thread_above s)
     threads_are_right t address args ms right =

@@ -70,7 +70,6 @@ module _ (s : Source) where
     follows = λ side want. Fine s want;
     weaker = λ j k p q le d ms few less. d ms (let x = le.0 in omega arith) (let x = le.1 in omega arith);
     wrongs = λ k ms few less. tt;
-    ends = well_ends;
     asks = well_asks;
     counted = well_counted;
   }

@@ -1,6 +1,6 @@
--- Where each call passes converted arguments, code makes the same marks if calls are made with values of the parameters'
--- types alone.
-use Rattle.std.proofs.Common.{◌≡◌, ℕ, ◌+◌, ◌-ℤ◌, pos, negsuc, ◌&&◌, Bool, true, cond, List, [], ◌∷◌, Option, Some, None, refl, sym, ap, ◌∙◌, subst}
+-- Where each call is of what is known and passes converted arguments, code makes the same marks if no other calls are made
+-- than of known functions with values of their parameters' types.
+use Rattle.std.proofs.Common.{◌≡◌, ℕ, ◌+◌, ◌-ℤ◌, pos, negsuc, true, cond, List, [], ◌∷◌, Option, Some, None, refl, sym, ap, ◌∙◌, subst}
 use Rattle.std.proofs.lemmas.Bool.{and_from, cond-true}
 use Rattle.r2_num.specs.declared.kinds.IntKind.TheVariants.{I64, U64}
 use Rattle.r2_num.specs.declared.operations.Op.TheVariants.{Div}
@@ -8,17 +8,18 @@ use Rattle.r2_num.specs.Conversions.{wrapped}
 use Rattle.marks.specs.Places.{function_address}
 use Rattle.c_code.specs.Frames.{are_values}
 use Rattle.c_code.specs.Values.{arith_of, at_zero, converted, is_value, read, written}
+use Rattle.c_builtins.specs.declared.builtin.Builtin.{Builtin}
+use Rattle.c_builtins.specs.declared.builtin.Builtin.TheVariants.{Malloc, Free, Spawn, Join, Lock, Unlock, Print}
 use Rattle.c_builtins.specs.Table.{number_of}
 use Rattle.c_types_model.specs.Types.{CType, CTypes, NoTypes, MoreTypes}
-use Rattle.c_types_rules.specs.TypedTree.{Body, Object, Value, Values, Callee, Sum, PointerPlus, PlusPointer, PointerMinus, GlobalObject, LocalObject, TextObject, Pointed, Element, MemberOf, Constant, FunctionAddress, ReadOf, AddressOf, Convert, Negate, Complement, Arithmetic, PointerSum, PointerDifference, PointerComparison, Not, Both, Either, Choice, Sequence, Assigned, Changed, Moved, Stepped, CallOf, NoValues, MoreValues, SourceFunction, BuiltinFunction, Through, object_type, value_type, MaybeValue, NoValue, OneValue, Statement, Statements, Block, Evaluate, Initialise, If, IfElse, While, Do, For, Break, Continue, Return, NoStatements, MoreStatements}
+use Rattle.c_types_rules.specs.TypedTree.{Body, Object, Value, Values, Sum, PointerPlus, PlusPointer, PointerMinus, GlobalObject, LocalObject, TextObject, Pointed, Element, MemberOf, Constant, FunctionAddress, ReadOf, AddressOf, Convert, Negate, Complement, Arithmetic, PointerSum, PointerDifference, PointerComparison, Not, Both, Either, Choice, Sequence, Assigned, Changed, Moved, Stepped, CallOf, NoValues, MoreValues, SourceFunction, BuiltinFunction, Through, object_type, value_type, MaybeValue, NoValue, OneValue, Statement, Statements, Block, Evaluate, Initialise, If, IfElse, While, Do, For, Break, Continue, Return, NoStatements, MoreStatements}
 use Rattle.c_types_rules.specs.Sources.{params_of}
 use Rattle.c_semantics.specs.Reading.{Marks, wrong, or_fault}
 use Rattle.c_semantics.specs.Context.{Source, body_of, global_address, text_address, size_of, member_offset, kind_of, param_shapes, shape_of, shapes_of, type_of}
-use Rattle.c_semantics.specs.Values.{Here, address, called, converted_to, fetch, given, in_order, load, local_address, moved_by, origin, stepped_by, store, summed, target, truth, value, values, wrap}
+use Rattle.c_semantics.specs.Values.{Here, address, converted_to, fetch, given, in_order, load, local_address, moved_by, origin, stepped_by, store, summed, target, truth, value, values, wrap}
 use Rattle.c_semantics.specs.Statements.{Exits, looping, maybe, statement, statements, within}
 use Rattle.c_semantics.specs.Calls.{making}
-use Rattle.c_semantics.specs.Returned.{IsConverted}
-use Rattle.c_semantics.specs.Arguments.{AreConverted, called_type, ObjectPasses, ValuePasses, ValuesPass, CalleePasses, MaybePasses, StatementPasses, StatementsPass, ArgumentsAreConverted}
+use Rattle.c_semantics.specs.Arguments.{AreConverted, is_known, takes_values, ObjectPasses, ValuePasses, ValuesPass, MaybePasses, StatementPasses, StatementsPass, ArgumentsAreConverted}
 use Rattle.c_semantics.proofs.Converted.{converted_is_value}
 
 -- where code runs, with calls that are made with such values alone
@@ -28,9 +29,18 @@ guard s h = record {
   side = h.side;
   base = h.base;
   offsets = h.offsets;
-  call = λ f args go. cond (are_values (param_shapes s f) args) (h.call f args go) wrong;
+  call = λ f args go. cond (takes_values s f args) (h.call f args go) wrong;
   call_at = λ t a args go. cond (are_values (shapes_of (params_of t)) args) (h.call_at t a args go) wrong;
 }
+
+builtin_known : (s : Source) (b : Builtin) → is_known s (number_of b) ≡ true
+builtin_known s Malloc = refl
+builtin_known s Free = refl
+builtin_known s Spawn = refl
+builtin_known s Join = refl
+builtin_known s Lock = refl
+builtin_known s Unlock = refl
+builtin_known s Print = refl
 
 module _ (s : Source) (h : Here) where
   abbrev g : Here
@@ -50,8 +60,8 @@ module _ (s : Source) (h : Here) where
   in_order_same PointerMinus p q i j go on hp hi e = hp (λ x. i (λ y. go x y)) (λ x. j (λ y. on x y)) (λ x. hi (λ y. go x y) (λ y. on x y) (λ y. e x y))
 
   -- a call of a function by name, and through an address, with values of its parameters' types
-  named_same : (f : ℕ) (go on : ℕ → Marks) → Same go on → (xs : List ℕ) → are_values (param_shapes s f) xs ≡ true → h.call f xs go ≡ g.call f xs on
-  named_same f go on e xs ok = (λ i. h.call f xs (λ r. e r i)) ∙ sym (cond-true (are_values (param_shapes s f) xs) (h.call f xs on) wrong ok)
+  named_same : (f : ℕ) (go on : ℕ → Marks) → is_known s f ≡ true → Same go on → (xs : List ℕ) → are_values (param_shapes s f) xs ≡ true → h.call f xs go ≡ g.call f xs on
+  named_same f go on known e xs ok = (λ i. h.call f xs (λ r. e r i)) ∙ sym (cond-true (takes_values s f xs) (h.call f xs on) wrong (and_from (is_known s f) (are_values (param_shapes s f) xs) known ok))
 
   pointed_same : (t : CType) (a : ℕ) (go on : ℕ → Marks) → Same go on → (xs : List ℕ) → are_values (shapes_of (params_of t)) xs ≡ true → h.call_at t a xs go ≡ g.call_at t a xs on
   pointed_same t a go on e xs ok = (λ i. h.call_at t a xs (λ r. e r i)) ∙ sym (cond-true (are_values (shapes_of (params_of t)) xs) (h.call_at t a xs on) wrong ok)
@@ -123,13 +133,13 @@ module _ (s : Source) (h : Here) where
         address_same o (λ a. fetch h (origin o) t (λ old. store h (origin o) t a (new old) (go (given v old (new old)))) a) (λ a. fetch g (origin o) t (λ old. store g (origin o) t a (new old) (on (given v old (new old)))) a) c
         (λ a i. fetch h (origin o) t (λ old. store h (origin o) t a (new old) (e (given v old (new old)) i)) a)
     value_same (CallOf (SourceFunction from number) vs t) go on c e =
-        values_same (params_of (type_of s number)) vs (λ xs. h.call number xs go) (λ xs. g.call number xs on) c.1 c.2 (named_same number go on e)
+        values_same (params_of (type_of s number)) vs (λ xs. h.call number xs go) (λ xs. g.call number xs on) c.1 c.2.1 (named_same number go on c.2.0 e)
     value_same (CallOf (BuiltinFunction from b) vs t) go on c e =
-        values_same (params_of (type_of s (number_of b))) vs (λ xs. h.call (number_of b) xs go) (λ xs. g.call (number_of b) xs on) c.1 c.2 (named_same (number_of b) go on e)
+        values_same (params_of (type_of s (number_of b))) vs (λ xs. h.call (number_of b) xs go) (λ xs. g.call (number_of b) xs on) c.1 c.2.1 (named_same (number_of b) go on (builtin_known s b) e)
     value_same (CallOf (Through v) vs t) go on c e =
         let u = target (value_type v) in
         value_same v (λ a. values vs h (λ xs. h.call_at u a xs go)) (λ a. values vs g (λ xs. g.call_at u a xs on)) c.0
-        (λ a. values_same (params_of u) vs (λ xs. h.call_at u a xs go) (λ xs. g.call_at u a xs on) c.1 c.2 (pointed_same u a go on e))
+        (λ a. values_same (params_of u) vs (λ xs. h.call_at u a xs go) (λ xs. g.call_at u a xs on) c.1 c.2.1 (pointed_same u a go on e))
 
     -- arguments are values of the types
     values_same : (ts : CTypes) (vs : Values) (go on : List ℕ → Marks) → ValuesPass s vs → AreConverted ts vs → ((xs : List ℕ) → are_values (shapes_of ts) xs ≡ true → go xs ≡ on xs) → values vs h go ≡ values vs g on

@@ -12,7 +12,7 @@ mod BelowMarks
 pub mod CutCalls
 pub mod Parts
 pub mod GivenBack
-mod TypedReturns
-mod TypedFunctions
+pub mod TypedReturns
+pub mod TypedFunctions
 pub mod Guarded
 pub mod Carried

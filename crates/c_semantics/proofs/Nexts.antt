@@ -6,7 +6,7 @@ use Rattle.marks.specs.Wants.{Want, Answer, Go, Value, Frame, CalledBack, Stoppe
 use Rattle.c_code.specs.MarkLists.{Wrong, closed, reply}
 use Rattle.c_semantics.specs.Laws.{IsOneWant}
 use Rattle.c_semantics.specs.Reading.{Marks, ended, heard, ask}
-use Rattle.c_semantics.proofs.Relations.{Bounds, Less, AtMost, Relation, FollowsAll}
+use Rattle.c_semantics.proofs.Relations.{Bounds, Less, AtMost, Relation, FollowsAll, PassesEnds}
 
 bounds : ℕ → ℕ → Bounds
 bounds i j = record { left = i; right = j }
@@ -61,10 +61,13 @@ next = record {
   follows = λ side want. Unit {0};
   weaker = λ j k p q le c past m n ms ns few less left right. c past m n ms ns (let x = le.0 in omega arith) (let x = le.1 in omega arith) left right;
   wrongs = λ k past m n ms ns few less left right. absurd (left refl);
-  ends = next_ends;
   asks = next_asks;
   counted = next_counted;
 }
+
+pub next_passes_ends : PassesEnds next
+unfolding next
+next_passes_ends = next_ends
 
 pub all_nexts : FollowsAll next
 unfolding next

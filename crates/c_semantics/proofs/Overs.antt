@@ -5,7 +5,7 @@ use Rattle.marks.specs.Marks.{Mark}
 use Rattle.marks.specs.Wants.{Want, Answer, Go, Value, Frame, CalledBack, Stopped}
 use Rattle.c_code.specs.MarkLists.{Ended, Wrong, closed, reply}
 use Rattle.c_semantics.specs.Reading.{Marks, ended, heard, ask}
-use Rattle.c_semantics.proofs.Relations.{Bounds, Less, AtMost, Relation, FollowsAll}
+use Rattle.c_semantics.proofs.Relations.{Bounds, Less, AtMost, Relation, FollowsAll, PassesEnds}
 
 bounds : ℕ → ℕ → Bounds
 bounds i j = record { left = i; right = j }
@@ -51,10 +51,13 @@ over = record {
   follows = λ side want. Unit {0};
   weaker = λ j k p q le c ms m more v few less e. c ms m more v (let x = le.0 in omega arith) (let x = le.1 in omega arith) e;
   wrongs = λ k ms m more v few less e. refl;
-  ends = over_ends;
   asks = over_asks;
   counted = over_counted;
 }
+
+pub over_passes_ends : PassesEnds over
+unfolding over
+over_passes_ends = over_ends
 
 pub all_overs : FollowsAll over
 unfolding over

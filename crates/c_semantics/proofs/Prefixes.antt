@@ -6,7 +6,7 @@ use Rattle.marks.specs.Marks.{Mark}
 use Rattle.marks.specs.Wants.{Want, Answer, Go, Value, Frame, CalledBack, Stopped}
 use Rattle.c_code.specs.MarkLists.{Ended, Expects, Open, Wrong, closed, reply}
 use Rattle.c_semantics.specs.Reading.{Marks, ended, heard, ask}
-use Rattle.c_semantics.proofs.Relations.{Bounds, Less, AtMost, Relation, FollowsAll}
+use Rattle.c_semantics.proofs.Relations.{Bounds, Less, AtMost, Relation, FollowsAll, PassesEnds}
 
 bounds : ℕ → ℕ → Bounds
 bounds i j = record { left = i; right = j }
@@ -61,10 +61,13 @@ prefix = record {
   follows = λ side want. Unit {0};
   weaker = λ j k p q le c ms more few less right. c ms more (let x = le.0 in omega arith) (let x = le.1 in omega arith) right;
   wrongs = λ k ms more few less right. absurd (right refl);
-  ends = prefix_ends;
   asks = prefix_asks;
   counted = prefix_counted;
 }
+
+pub prefix_passes_ends : PassesEnds prefix
+unfolding prefix
+prefix_passes_ends = prefix_ends
 
 pub all_prefixes : FollowsAll prefix
 unfolding prefix

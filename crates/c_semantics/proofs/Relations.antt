@@ -35,13 +35,16 @@ pub record Relation : Type 1 where
   pub follows : Side → Want → Type 0
   pub weaker : (j k : Bounds) (p q : Marks) → AtMost j k → rel k p q → rel j p q
   pub wrongs : (k : Bounds) → rel k wrong wrong
-  pub ends : (k : Bounds) (v : ℕ) → rel k (ended v) (ended v)
   pub asks : (k : Bounds) (side : Side) (want : Want) → follows side want → (go on : Answer → Marks) → ((a : Answer) (j : Bounds) → Less j k → rel j (go a) (on a)) → rel k (ask side want go) (ask side want on)
   pub counted : (k : Bounds) (f g : ℕ → Marks) → ((j : Bounds) (n m : ℕ) → AtMost j k → j.left < n → j.right < m → rel j (f n) (g m)) → rel k (λ ms. f (suc (length ms)) ms) (λ ms. g (suc (length ms)) ms)
 
 -- it follows all marks
 abbrev pub FollowsAll : Relation → Type 0
 FollowsAll R = (side : Side) (want : Want) → R.follows side want
+
+-- it passes through ends with any value
+abbrev pub PassesEnds : Relation → Type 0
+PassesEnds R = (k : Bounds) (v : ℕ) → R.rel k (ended v) (ended v)
 
 -- what a function wants besides its calls
 abbrev pub IsBare : Want → Type 0

@@ -72,7 +72,6 @@ seen = record {
   follows = λ side want. side ≡ Replay;
   weaker = λ j k p q le c ms few less right. c ms (let x = le.0 in omega arith) (let x = le.1 in omega arith) right;
   wrongs = λ k ms few less right. absurd (right refl);
-  ends = seen_ends;
   asks = seen_asks;
   counted = seen_counted;
 }

@@ -46,7 +46,7 @@ holds_kept Q from rule false y h = tt
 
 -- ---- values that are returned
 
-scalar_fits : (t u : CType) (v : Value) → fits t u v ≡ true → is_read t ≡ true
+pub scalar_fits : (t u : CType) (v : Value) → fits t u v ≡ true → is_read t ≡ true
 scalar_fits (Integer k) u v e = refl
 scalar_fits (PointerTo t) u v e = refl
 scalar_fits Void u v e = absurd cc

@@ -1,7 +1,6 @@
 -- Calls whose arguments are converted to the types of the parameters as if by assignment (C11 6.5.2.2, 7),
--- and what code
--- wants then: it carries values of their types.
-use Rattle.std.specs.Prelude.{◌≡◌, ℕ, true, List, Some}
+-- and what threads want then: it carries values of their types, and so do their ends.
+use Rattle.std.specs.Prelude.{◌≡◌, ℕ, Bool, true, false, ◌&&◌, List, Option, Some, None}
 use Rattle.marks.specs.declared.side.Side.{Side}
 use Rattle.marks.specs.Marks.{Mark}
 use Rattle.marks.specs.Wants.{Want, Outside, Turns, Loads, Stores, Enters, Leaves, Allocs, Frees, Calls, Below, Gives, Returns, CallsBack, UpReturns, Steps, Fails}
@@ -9,13 +8,14 @@ use Rattle.c_code.specs.declared.shape.Shape.TheVariants.{Pointer}
 use Rattle.c_code.specs.Builtins.{size as size_shape}
 use Rattle.c_code.specs.Frames.{are_values}
 use Rattle.c_code.specs.Values.{is_value}
-use Rattle.c_code.specs.MarkLists.{Expects}
+use Rattle.c_code.specs.MarkLists.{Ended, Expects}
+use Rattle.c_builtins.specs.declared.builtin.Builtin.{Builtin}
 use Rattle.c_builtins.specs.Table.{number_of}
 use Rattle.c_types_model.specs.Types.{CType, CTypes, NoTypes, MoreTypes}
 use Rattle.c_types_rules.specs.TypedTree.{Body, Object, Value, Values, Callee, GlobalObject, LocalObject, TextObject, Pointed, Element, MemberOf, Constant, FunctionAddress, ReadOf, AddressOf, Convert, Negate, Complement, Arithmetic, PointerSum, PointerDifference, PointerComparison, Not, Both, Either, Choice, Sequence, Assigned, Changed, Moved, Stepped, CallOf, NoValues, MoreValues, SourceFunction, BuiltinFunction, Through, value_type, MaybeValue, NoValue, OneValue, Statement, Statements, Block, Evaluate, Initialise, If, IfElse, While, Do, For, Break, Continue, Return, NoStatements, MoreStatements}
-use Rattle.c_types_rules.specs.Sources.{params_of}
+use Rattle.c_types_rules.specs.Sources.{Function, params_of, result_of}
 use Rattle.c_semantics.specs.Reading.{Marks}
-use Rattle.c_semantics.specs.Context.{Source, body_of, param_shapes, result_shape, type_of}
+use Rattle.c_semantics.specs.Context.{Source, body_of, builtin_of, param_shapes, result_shape, shape_of, source_function, type_of}
 use Rattle.c_semantics.specs.Values.{target}
 use Rattle.c_semantics.specs.Returned.{IsConverted}
 
@@ -32,7 +32,26 @@ called_type s (SourceFunction from number) = type_of s number
 called_type s (BuiltinFunction from b) = type_of s (number_of b)
 called_type s (Through v) = target (value_type v)
 
--- each call within passes converted arguments
+abbrev pub is_any : Option Function → Option Builtin → Bool
+is_any (Some f) b = true
+is_any None (Some b) = true
+is_any None None = false
+
+-- the number is that of a function of the source, or of a builtin
+abbrev pub is_known : Source → ℕ → Bool
+is_known s f = is_any (source_function s f) (builtin_of f)
+
+-- what is called by its name is known
+abbrev pub IsKnown : Source → Callee → Type 0
+IsKnown s (SourceFunction from number) = is_known s number ≡ true
+IsKnown s (BuiltinFunction from b) = Unit {0}
+IsKnown s (Through v) = Unit {0}
+
+-- a call of what is known, with converted arguments
+abbrev pub Passes : Source → Callee → Values → Type 0
+Passes s f vs = IsKnown s f × AreConverted (params_of (called_type s f)) vs
+
+-- each call within is one
 abbrev mutual
   pub ObjectPasses : Source → Object → Type 0
   ObjectPasses s (GlobalObject from place t) = Unit {0}
@@ -63,8 +82,7 @@ abbrev mutual
   ValuePasses s (Changed o op k v) = ObjectPasses s o × ValuePasses s v
   ValuePasses s (Moved o w i size) = ObjectPasses s o × ValuePasses s i
   ValuePasses s (Stepped o w g size) = ObjectPasses s o
-  ValuePasses s (CallOf f vs t) = CalleePasses s f × ValuesPass s vs ×
-      AreConverted (params_of (called_type s f)) vs
+  ValuePasses s (CallOf f vs t) = CalleePasses s f × ValuesPass s vs × Passes s f vs
 
   pub ValuesPass : Source → Values → Type 0
   ValuesPass s NoValues = Unit {0}
@@ -102,9 +120,12 @@ abbrev mutual
 abbrev pub ArgumentsAreConverted : Source → Type 0
 ArgumentsAreConverted s = (f : ℕ) (b : Body) → body_of s f ≡ Some b → StatementPasses s b.statements
 
--- values of the types of a function's parameters, one for each
+-- the function is known, and these are values of its parameters' types, one for each
+abbrev pub takes_values : Source → ℕ → List ℕ → Bool
+takes_values s f args = is_known s f && are_values (param_shapes s f) args
+
 abbrev pub AreArguments : Source → ℕ → List ℕ → Type 0
-AreArguments s f args = are_values (param_shapes s f) args ≡ true
+AreArguments s f args = takes_values s f args ≡ true
 
 -- what is wanted carries values of their types
 abbrev pub CarriesValues : Source → Want → Type 0
@@ -129,3 +150,8 @@ CarriesValues s (Fails kind) = Unit {0}
 abbrev pub WantsCarryValues : Source → Marks → Type 0
 WantsCarryValues s p = (ms : List Mark) (side : Side) (want : Want) → p ms ≡ Expects side want →
     CarriesValues s want
+
+-- the result with which a list ends is a value of the result's type
+abbrev pub EndsWithValues : CType → Marks → Type 0
+EndsWithValues t p = (ms : List Mark) (v : ℕ) → p ms ≡ Ended v →
+    is_value (shape_of (result_of t)) v ≡ true

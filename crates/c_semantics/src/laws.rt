@@ -15,7 +15,7 @@ ghost use Rattle.c_code.specs.Frames.{are_values};
 ghost use Rattle.c_semantics.specs.Laws.{EndIsLast, PrefixesAreRight, NextIsOne};
 ghost use Rattle.c_semantics.specs.Parts.{ReplayPartIsRight, WantAboveIsOne};
 ghost use Rattle.c_semantics.specs.Returned.{ResultsAreConverted, ReturnsGiveValues};
-ghost use Rattle.c_semantics.specs.Arguments.{ArgumentsAreConverted, WantsCarryValues};
+ghost use Rattle.c_semantics.specs.Arguments.{ArgumentsAreConverted, EndsWithValues, WantsCarryValues};
 
 /// A law: a list of marks that a call, a thread, or a thread above the cut can make stays one when it is cut short.
 pub fn prefixes_are_right()
@@ -74,9 +74,12 @@ pub fn returns_give_values()
 {}
 
 /// A law: where results and arguments are converted, what a thread wants carries values of their types: the arguments of each
-/// function that is entered, called or called back, and each result.
+/// function that is entered, called or called back, and each result. So does the end of a thread.
 pub fn wants_carry_values()
-    ensures { (s : Source) → ResultsAreConverted s → ArgumentsAreConverted s →
+    ensures wants { (s : Source) → ResultsAreConverted s → ArgumentsAreConverted s →
         (t : CType) (address : ℕ) (args : List ℕ) → are_values (shapes_of (params_of t)) args ≡ true →
         WantsCarryValues s (thread_behaviour s t address args) }
+    ensures ends { (s : Source) → ResultsAreConverted s → ArgumentsAreConverted s →
+        (t : CType) (address : ℕ) (args : List ℕ) → are_values (shapes_of (params_of t)) args ≡ true →
+        EndsWithValues t (thread_behaviour s t address args) }
 {}

@@ -8,8 +8,9 @@ use Rattle.c_syntax_laws.specs.Numbers.{FitsDecls}
 use Rattle.c_types_rules.specs.Limits.{Outcome, Typed, outcome}
 use Rattle.c_types_rules.specs.Sources.{Program, tags_of}
 use Rattle.c_code.specs.Machine.{Flat}
+use Rattle.c_code.specs.Typed.{KeepsTypes}
 use Rattle.c_semantics.specs.Context.{Source}
-use Rattle.c_lower_rules.specs.Laws.{MakesTheMarks}
+use Rattle.c_lower_rules.specs.Laws.{MakesTheMarks, laid}
 use Rattle.c_types_program.specs.Declarations.{Declared}
 use Rattle.c_types_program.specs.Programs.{IsProgram}
 use Rattle.c_types_program.specs.declared.text.TextLiteral.{TextLiteral}
@@ -37,11 +38,12 @@ pub record IsTyped (N : Nodes) (ts : List Token) (ds : Decls) (s : TypedSource) 
   pub is : IsTypedAs (tags_of ds) program s
   pub texts : s.texts ≡ texts_among ts
 
--- the flat code of a program: it makes exactly the marks of the source, wherever its objects lie, and names
--- no more than the source does
+-- the flat code of a program: it makes exactly the marks of the source, wherever its objects lie, hands over
+-- values of their types alone, and names no more than the source does
 pub record IsCode (p : Declared) (c : Flat) : Type 0 where
   pub lowered_is : c ≡ lowered p
   pub marks : (s : Source) → IsSourceOf p s → MakesTheMarks s c
+  pub keeps : (s : Source) → IsSourceOf p s → KeepsTypes (laid s c)
   pub names : NamesNoMore p c
 
 -- the typed program, its strings, the interface of the cut and the code are what these declarations and
