@@ -1,0 +1,5 @@
+pub mod Growing
+pub mod Operations
+pub mod Builtins
+pub mod Stubs
+pub mod Examples

@@ -1,0 +1,5 @@
+use Rattle.stub_operations.proofs.Growing.{two}
+use Rattle.stub_texts.proofs.operation.put_hold.Goals as goal
+
+pub returns : goal.returns
+returns c = two (two c.put_placed.ensures c.put_sized.ensures) c.put_sized-2.ensures
