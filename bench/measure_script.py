@@ -1,6 +1,6 @@
 #!/usr/bin/env python3
-"""Runs `PROGRAM FILE` and `wc -l FILE` in turn over several system files of 1 MiB, and prints the time of the first over that of
-the second, each the best of its runs. What a program takes to start is part of both."""
+"""Runs `PROGRAM FILE`, the same in plain C and `wc -l FILE` in turn over several system files of 1 MiB, and prints the time of the
+first over those of the others, each the best of its runs. What a program takes to start is part of each."""
 import os
 import sys
 
@@ -27,13 +27,13 @@ FILES = {
 
 
 def main():
-    program, scratch = sys.argv[1:]
+    program, plain, scratch = sys.argv[1:]
     printed = os.path.join(scratch, "printed")
     for name, text in FILES.items():
         file = os.path.join(scratch, "file.sys")
         with open(file, "w", encoding="ascii") as out:
             out.write(text)
-        words = {"read": [program, file], "wc": ["wc", "-l", file]}
+        words = {"read": [program, file], "plain": [plain, file], "wc": ["wc", "-l", file]}
         best = dict.fromkeys(words, float("inf"))
         for _ in range(21):
             for word, command in words.items():
@@ -41,8 +41,9 @@ def main():
                 if status != 0:
                     sys.exit(f"{command} ended with {status}")
                 best[word] = min(best[word], seconds)
-        ratio = best["read"] / best["wc"]
-        print(f"{name:24} read {best['read'] * 1e3:6.2f} ms  wc -l {best['wc'] * 1e3:6.2f} ms  ratio {ratio:5.2f}")
+        times = "  ".join(f"{word} {best[word] * 1e3:6.2f} ms" for word in words)
+        ratios = "  ".join(f"{word} {best['read'] / best[word]:5.2f}" for word in ("plain", "wc"))
+        print(f"{name:24} {times}  ratio to {ratios}")
 
 
 main()

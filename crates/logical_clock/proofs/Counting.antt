@@ -18,16 +18,16 @@ use Rattle.logical_clock.specs.Counts.{Counts, latest, last_clock}
 use Rattle.logical_clock.proofs.Places.{greatest_same, named_among}
 use Rattle.logical_clock.proofs.Longest.{longest, latest_le, last_le, count_le}
 
-pub latest_of : (past : List Occurrence) (c : ClockState) (t : ℕ) (keys : List Key) (own clock : ℕ) → Counts past c → t < length c.threads → own ≡ slice_index c.threads t → clock ≡ max own (greatest_of (λ (k : Key). (counted_at c.numbers c.rows (name k)).clock) keys) → clock ≡ latest (last_clock past) (occurrence t keys)
+pub latest_of : (past : List Occurrence) (c : ClockState) (t : ℕ) (keys : List Key) (own clock : ℕ) → Counts past c → t < length c.threads → own ≡ slice_index c.threads t → clock ≡ max own (greatest_of (λ (k : Key). (counted_at c.keys (name k)).clock) keys) → clock ≡ latest (last_clock past) (occurrence t keys)
 latest_of past c t keys own clock h lt is e =
     let o = is ∙ h.of_threads t lt in
-    let g = greatest_same (λ (k : Key). (counted_at c.numbers c.rows (name k)).clock) (λ k. last_clock past (OfKey k)) keys (λ k. ap (λ (x : Counted). x.clock) (h.of_keys k)) in
+    let g = greatest_same (λ (k : Key). (counted_at c.keys (name k)).clock) (λ k. last_clock past (OfKey k)) keys (λ k. ap (λ (x : Counted). x.clock) (h.of_keys k)) in
     omega (arith, e, o, g)
 
 pub clock_fits : (past : List Occurrence) (c : ClockState) (m : Occurrence) (clock : ℕ) → Counts past c → clock ≡ latest (last_clock past) m → clock ≤ c.events
 clock_fits past c m clock h e = omega (arith, e, h.events, latest_le (last_clock past) m (length past) (last_le past))
 
-pub events_fit : (past : List Occurrence) (c : ClockState) (k : Key) (n : Counted) → Counts past c → n ≡ counted_at c.numbers c.rows (name k) → n.events ≤ c.events
+pub events_fit : (past : List Occurrence) (c : ClockState) (k : Key) (n : Counted) → Counts past c → n ≡ counted_at c.keys (name k) → n.events ≤ c.events
 events_fit past c k n h e =
     let z = ap (λ (x : Counted). x.events) (e ∙ h.of_keys k) in
     omega (arith, z, h.events, count_le past (OfKey k))
@@ -35,7 +35,7 @@ events_fit past c k n h e =
 pub stamped : (past : List Occurrence) (m : Occurrence) (clock : ℕ) → clock ≡ latest (last_clock past) m → IsClockOf (m ∷ past) (clock + 1)
 stamped past m clock e = subst (IsClockOf (m ∷ past)) (sym (add-one clock ∙ ap suc e)) (longest past m)
 
-pub counted_same : (past : List Occurrence) (c : ClockState) (keys : List Key) (f : Key → ℕ) → Counts past c → ((k : Key) → f k ≡ (counted_at c.numbers c.rows (name k)).events) → map f keys ≡ map (λ k. count (OfKey k) past) keys
+pub counted_same : (past : List Occurrence) (c : ClockState) (keys : List Key) (f : Key → ℕ) → Counts past c → ((k : Key) → f k ≡ (counted_at c.keys (name k)).events) → map f keys ≡ map (λ k. count (OfKey k) past) keys
 counted_same past c [] f h e = refl
 counted_same past c (k ∷ keys) f h e = (λ i. (e k ∙ ap (λ (x : Counted). x.events) (h.of_keys k)) i ∷ counted_same past c keys f h e i)
 
@@ -52,7 +52,7 @@ thread_after past c t u keys clock h lt lu e =
     (cases_eq t u)
 
 -- what is kept of a key
-key_after : (past : List Occurrence) (c : ClockState) (t : ℕ) (keys : List Key) (k : Key) (clock : ℕ) (now new : Counted) → Counts past c → clock ≡ latest (last_clock past) (occurrence t keys) → now ≡ counted_at c.numbers c.rows (name k) → new ≡ after (is_named keys (name k)) (clock + 1) now
+key_after : (past : List Occurrence) (c : ClockState) (t : ℕ) (keys : List Key) (k : Key) (clock : ℕ) (now new : Counted) → Counts past c → clock ≡ latest (last_clock past) (occurrence t keys) → now ≡ counted_at c.keys (name k) → new ≡ after (is_named keys (name k)) (clock + 1) now
     → new ≡ record { events = count (OfKey k) (occurrence t keys ∷ past); clock = last_clock (occurrence t keys ∷ past) (OfKey k) }
 key_after past c t keys k clock now new h e is up = up ∙ go (is_named keys (name k)) (is_among keys k) (named_among keys k)
   where
@@ -77,7 +77,7 @@ take_prefix (x ∷ xs) ys zero e = absurd (omega (arith, e))
 take_prefix (x ∷ xs) ys (suc n) e = ap (λ l. x ∷ l) (take_prefix xs ys n (omega (arith, e)))
 
 pub counts_after : (past : List Occurrence) (c : ClockState) (t : ℕ) (keys : List Key) (clock : ℕ) (mid : KeyName → Counted) (new : Keys) → Counts past c → t < length c.threads → clock ≡ latest (last_clock past) (occurrence t keys)
-    → ((q : KeyName) → mid q ≡ counted_at c.numbers c.rows q) → ((q : KeyName) → counted_in new q ≡ after (is_named keys q) (clock + 1) (mid q)) → Counts (occurrence t keys ∷ past) (record { events = c.events + 1; threads = set c.threads t (clock + 1); numbers = new.numbers.entries; rows = new.rows.items })
+    → ((q : KeyName) → mid q ≡ counted_at c.keys q) → ((q : KeyName) → counted_in new q ≡ after (is_named keys q) (clock + 1) (mid q)) → Counts (occurrence t keys ∷ past) (record { events = c.events + 1; threads = set c.threads t (clock + 1); keys = new.rows.entries })
 counts_after past c t keys clock mid new h lt e same up =
     record {
       events = omega (arith, h.events);

@@ -10,12 +10,9 @@ use Rattle.run_events.specs.declared.key.Key.{Key}
 use Rattle.causal_order.specs.Order.{same_key}
 use Rattle.logical_clock.specs.declared.name.KeyName.{KeyName}
 use Rattle.logical_clock.specs.Events.{is_among, AreDistinct}
-use Rattle.logical_clock.specs.Names.{name, key_cmp, is_named, greatest_of}
+use Rattle.logical_clock.specs.Names.{name, key_cmp, same_name, is_named, greatest_of}
 
 -- the order of keys tells them apart
-
-abbrev same_name : KeyName → KeyName → Bool
-same_name j k = eqb j.class k.class && eqb j.value k.value
 
 pub at_name : (j k : KeyName) → is_at (key_cmp j) k ≡ same_name j k
 at_name j k = grind (arith, nat_tests)
@@ -26,6 +23,15 @@ name_is j k h =
     let c : j.class ≡ k.class = eqb-true j.class k.class p.0 in
     let v : j.value ≡ k.value = eqb-true j.value k.value p.1 in
     λ i. record { class = c i; value = v i }
+
+pub same_is : (j k : KeyName) → same_name j k ≡ true → j ≡ k
+same_is j k h = name_is j k (at_name j k ∙ h)
+
+pub same_self : (k : KeyName) → same_name k k ≡ true
+same_self k = λ i. eq-eqb k.class k.class refl i && eq-eqb k.value k.value refl i
+
+pub name_swaps : (j k : KeyName) → same_name j k ≡ same_name k j
+name_swaps j k = grind (arith, nat_tests)
 
 pub is_name : (j k : KeyName) → j ≡ k → is_at (key_cmp j) k ≡ true
 is_name j k e = at_name j k ∙ subst (λ x. same_name j x ≡ true) e (λ i. eq-eqb j.class j.class refl i && eq-eqb j.value j.value refl i)

@@ -1,85 +1,146 @@
 -- What is kept of keys by their numbers, and how it changes.
-use Rattle.std.proofs.Common.{◌≡◌, ℕ, suc, zero, ◌+◌, ◌<◌, Bool, true, false, ◌||◌, cond, List, [], ◌∷◌, ◌++◌, length, take, get_or, Option, Some, None, refl, sym, ap, ◌∙◌, subst, arith}
-use Rattle.std.proofs.Math.ListN.{set}
-use Rattle.std.proofs.lemmas.List.{take_more, get_or_past, get_or-set_same, get_or-set_other}
+use Rattle.std.proofs.Common.{◌≡◌, ℕ, suc, zero, ◌+◌, ◌<◌, Bool, true, false, ◌||◌, not, cond, List, [], ◌∷◌, ◌++◌, length, take, get_or, Option, Some, None, refl, sym, ap, ◌∙◌, subst, arith}
+use Rattle.std.specs.Prelude.{nat_lt, position, unwrap_or}
+use Rattle.std.specs.List.{position_or_len}
+use Rattle.std.specs.Option.{option_map}
+use Rattle.std.specs.Map.{lookup, keys_of}
+use Rattle.std.proofs.lemmas.Bool.Decides.{nat_tests}
+use Rattle.std.proofs.lemmas.List.{take_more}
 use Rattle.std.proofs.lemmas.Slice.Zip.{AllZip-long, all_zipped_more}
 use Rattle.std.specs.BTreeMap.{is_at}
+use Rattle.indexmap.specs.IndexMap.{insert_entry, set_value_at}
 use Rattle.run_events.specs.declared.key.Key.{Key}
 use Rattle.logical_clock.specs.declared.name.KeyName.{KeyName}
 use Rattle.logical_clock.specs.declared.keys.Counted.{Counted}
 use Rattle.logical_clock.specs.Events.{AreDistinct}
-use Rattle.logical_clock.specs.Names.{name, key_cmp, is_named}
-use Rattle.logical_clock.specs.Kept.{nothing, row_at, AreNumbers, HaveNumbers, one_more, after}
-use Rattle.logical_clock.proofs.Places.{name_is, is_name, named_more, not_before}
+use Rattle.logical_clock.specs.Names.{name, key_cmp, same_name, is_named}
+use Rattle.logical_clock.specs.Kept.{nothing, counted_at, number_at, row_at, HaveNumbers, one_more, after}
+use Rattle.logical_clock.proofs.Places.{name_is, same_is, same_self, name_swaps, at_name, named_more, not_before}
 
--- a row of nothing more, of a key that gets its number or of none
+-- a key's number is its place
 
-pub blank_row : (rows : List Counted) (o : Option ℕ) → row_at (rows ++ nothing ∷ []) o ≡ row_at rows o
-blank_row rows None = refl
-blank_row rows (Some n) = go rows n
+pub number_is_place : (es : List (KeyName × Counted)) (q : KeyName) → position (same_name q) (keys_of es) ≡ number_at es q
+number_is_place [] q = refl
+number_is_place (e ∷ es) q = go (same_name q e.0) (position_or_len (same_name q) (keys_of es)) (length (keys_of es)) (number_at es q) (number_is_place es q)
   where
-    go : (rows : List Counted) (n : ℕ) → get_or (rows ++ nothing ∷ []) n nothing ≡ get_or rows n nothing
-    go [] zero = refl
-    go [] (suc n) = refl
-    go (x ∷ xs) zero = refl
-    go (x ∷ xs) (suc n) = go xs n
-
-pub more_rows : (number : KeyName → Option ℕ) (n : ℕ) → AreNumbers number n → AreNumbers number (n + 1)
-more_rows number n h = record { below = λ q m e. omega (arith, h.below q m e); apart = λ p q m e f. h.apart p q m e f }
-
-pub next_keeps : (number new : KeyName → Option ℕ) (key : KeyName) (n : ℕ) → number key ≡ None → ((q : KeyName) → new q ≡ cond (is_at (key_cmp key) q) (Some n) (number q)) → (q : KeyName) (m : ℕ) → number q ≡ Some m → new q ≡ Some m
-next_keeps number new key n none up q m h = go (is_at (key_cmp key) q) refl (up q)
-  where
-    go : (b : Bool) → is_at (key_cmp key) q ≡ b → new q ≡ cond b (Some n) (number q) → new q ≡ Some m
-    go true at e = let z = sym none ∙ ap number (name_is key q at) ∙ h in absurd cc
-    go false at e = e ∙ h
-
-pub next_number : (number new : KeyName → Option ℕ) (key : KeyName) (n : ℕ) → AreNumbers number n → ((q : KeyName) → new q ≡ cond (is_at (key_cmp key) q) (Some n) (number q)) → AreNumbers new (n + 1)
-next_number number new key n h up = record { below = below; apart = apart }
-  where
-    below : (q : KeyName) (m : ℕ) → new q ≡ Some m → m < n + 1
-    below q m is = go (is_at (key_cmp key) q) (sym (up q) ∙ is)
+    go : (b : Bool) (n m : ℕ) (o : Option ℕ) → cond (nat_lt n m) (Some n) None ≡ o
+        → cond (nat_lt (cond (not b) (1 + n) 0) (suc m)) (Some (cond (not b) (1 + n) 0)) None ≡ cond b (Some 0) (option_map suc o)
+    go true n m o h = let first : nat_lt 0 (suc m) ≡ true = grind (arith, nat_tests) in ap (λ c. cond c (Some 0) None) first
+    go false n m o h =
+        let more : 1 + n ≡ suc n = omega arith in
+        let same : nat_lt (1 + n) (suc m) ≡ nat_lt n m = grind (arith, nat_tests) in
+        (λ i. cond (same i) (Some (more i)) None) ∙ into (nat_lt n m) n ∙ ap (option_map suc) h
       where
-        go : (b : Bool) → cond b (Some n) (number q) ≡ Some m → m < n + 1
-        go true e = let z : n ≡ m = cc in omega (arith, z)
-        go false e = let lt = h.below q m e in omega (arith, lt)
+        into : (b : Bool) (n : ℕ) → cond b (Some (suc n)) None ≡ option_map suc (cond b (Some n) None)
+        into true n = refl
+        into false n = refl
 
-    apart : (p q : KeyName) (m : ℕ) → new p ≡ Some m → new q ≡ Some m → p ≡ q
-    apart p q m is also = go (is_at (key_cmp key) p) (is_at (key_cmp key) q) refl refl (sym (up p) ∙ is) (sym (up q) ∙ also)
-      where
-        go : (b d : Bool) → is_at (key_cmp key) p ≡ b → is_at (key_cmp key) q ≡ d → cond b (Some n) (number p) ≡ Some m → cond d (Some n) (number q) ≡ Some m → p ≡ q
-        go true true at there e f = sym (name_is key p at) ∙ name_is key q there
-        go true false at there e f = let z : n ≡ m = cc in let lt = h.below q m f in absurd (omega (arith, z, lt))
-        go false true at there e f = let z : n ≡ m = cc in let lt = h.below p m e in absurd (omega (arith, z, lt))
-        go false false at there e f = h.apart p q m e f
+suc_of : (o : Option ℕ) (n : ℕ) → option_map suc o ≡ Some n → (m : ℕ) × (o ≡ Some m) × (suc m ≡ n)
+suc_of None n e = absurd cc
+suc_of (Some m) n e = (m, refl, cc)
 
-pub next_same : (number new : KeyName → Option ℕ) (rows : List Counted) (key : KeyName) → number key ≡ None → ((q : KeyName) → new q ≡ cond (is_at (key_cmp key) q) (Some (length rows)) (number q)) → (q : KeyName) → row_at (rows ++ nothing ∷ []) (new q) ≡ row_at rows (number q)
-next_same number new rows key none up q = blank_row rows (new q) ∙ go (is_at (key_cmp key) q) refl (up q)
+no_suc : (o : Option ℕ) → option_map suc o ≡ None → o ≡ None
+no_suc None e = refl
+no_suc (Some m) e = absurd cc
+
+-- it has a row, which is its own
+pub number_below : (es : List (KeyName × Counted)) (q : KeyName) (n : ℕ) → number_at es q ≡ Some n → n < length es
+number_below [] q n is = absurd cc
+number_below (e ∷ es) q n is = go (same_name q e.0) (λ m at. number_below es q m at) is
   where
-    go : (b : Bool) → is_at (key_cmp key) q ≡ b → new q ≡ cond b (Some (length rows)) (number q) → row_at rows (new q) ≡ row_at rows (number q)
-    go true at e = ap (row_at rows) e ∙ get_or_past rows (length rows) nothing (omega arith) ∙ ap (row_at rows) (sym none ∙ ap number (name_is key q at))
-    go false at e = ap (row_at rows) e
+    go : (b : Bool) → ((m : ℕ) → number_at es q ≡ Some m → m < length es) → cond b (Some 0) (option_map suc (number_at es q)) ≡ Some n → n < length (e ∷ es)
+    go true rest is = let z : 0 ≡ n = cc in omega (arith, z)
+    go false rest is = let p = suc_of (number_at es q) n is in let lt = rest p.0 p.1 in omega (arith, lt, p.2)
+
+pub row_is : (es : List (KeyName × Counted)) (q : KeyName) (n : ℕ) → number_at es q ≡ Some n → row_at es n ≡ counted_at es q
+row_is [] q n is = absurd cc
+row_is (e ∷ es) q n is = go (same_name q e.0) (λ m at. row_is es q m at) is
+  where
+    go : (b : Bool) → ((m : ℕ) → number_at es q ≡ Some m → row_at es m ≡ counted_at es q) → cond b (Some 0) (option_map suc (number_at es q)) ≡ Some n → row_at (e ∷ es) n ≡ unwrap_or (cond b (Some e.1) (lookup (same_name q) es)) nothing
+    go true rest is = let z : 0 ≡ n = cc in subst (λ m. row_at (e ∷ es) m ≡ e.1) z refl
+    go false rest is = let p = suc_of (number_at es q) n is in subst (λ m. row_at (e ∷ es) m ≡ counted_at es q) p.2 (rest p.0 p.1)
+
+-- a key more, which is last
+
+pub appended : (es : List (KeyName × Counted)) (k : KeyName) (v : Counted) → number_at es k ≡ None → insert_entry same_name es k v ≡ es ++ (k, v) ∷ []
+appended [] k v none = refl
+appended (e ∷ es) k v none = go (same_name k e.0) (λ h. appended es k v h) none
+  where
+    go : (b : Bool) → (number_at es k ≡ None → insert_entry same_name es k v ≡ es ++ (k, v) ∷ []) → cond b (Some 0) (option_map suc (number_at es k)) ≡ None → cond b ((e.0, v) ∷ es) (e ∷ insert_entry same_name es k v) ≡ e ∷ (es ++ (k, v) ∷ [])
+    go true rest none = absurd cc
+    go false rest none = ap (λ l. e ∷ l) (rest (no_suc (number_at es k) none))
+
+pub next_number : (es : List (KeyName × Counted)) (k : KeyName) (v : Counted) → number_at es k ≡ None → number_at (es ++ (k, v) ∷ []) k ≡ Some (length es)
+next_number [] k v none = ap (λ b. cond b (Some 0) None) (same_self k)
+next_number (e ∷ es) k v none = go (same_name k e.0) (λ h. next_number es k v h) none
+  where
+    go : (b : Bool) → (number_at es k ≡ None → number_at (es ++ (k, v) ∷ []) k ≡ Some (length es)) → cond b (Some 0) (option_map suc (number_at es k)) ≡ None → cond b (Some 0) (option_map suc (number_at (es ++ (k, v) ∷ []) k)) ≡ Some (suc (length es))
+    go true rest none = absurd cc
+    go false rest none = ap (option_map suc) (rest (no_suc (number_at es k) none))
+
+pub next_keeps : (es : List (KeyName × Counted)) (e : KeyName × Counted) (q : KeyName) (n : ℕ) → number_at es q ≡ Some n → number_at (es ++ e ∷ []) q ≡ Some n
+next_keeps [] e q n is = absurd cc
+next_keeps (d ∷ es) e q n is = go (same_name q d.0) (λ m at. next_keeps es e q m at) is
+  where
+    go : (b : Bool) → ((m : ℕ) → number_at es q ≡ Some m → number_at (es ++ e ∷ []) q ≡ Some m) → cond b (Some 0) (option_map suc (number_at es q)) ≡ Some n → cond b (Some 0) (option_map suc (number_at (es ++ e ∷ []) q)) ≡ Some n
+    go true rest is = is
+    go false rest is = let p = suc_of (number_at es q) n is in ap (option_map suc) (rest p.0 p.1) ∙ ap (λ m. Some m) p.2
+
+pub next_same : (es : List (KeyName × Counted)) (k q : KeyName) → counted_at (es ++ (k, nothing) ∷ []) q ≡ counted_at es q
+next_same [] k q = go (same_name q k)
+  where
+    go : (b : Bool) → unwrap_or (cond b (Some nothing) None) nothing ≡ nothing
+    go true = refl
+    go false = refl
+next_same (e ∷ es) k q = go (same_name q e.0) (next_same es k q)
+  where
+    go : (b : Bool) → counted_at (es ++ (k, nothing) ∷ []) q ≡ counted_at es q → unwrap_or (cond b (Some e.1) (lookup (same_name q) (es ++ (k, nothing) ∷ []))) nothing ≡ unwrap_or (cond b (Some e.1) (lookup (same_name q) es)) nothing
+    go true rest = refl
+    go false rest = rest
 
 -- a row that is written
 
-pub row_written : (number : KeyName → Option ℕ) (rows : List Counted) (k : KeyName) (n : ℕ) (v : Counted) → AreNumbers number (length rows) → number k ≡ Some n → (q : KeyName) → row_at (set rows n v) (number q) ≡ cond (is_at (key_cmp k) q) v (row_at rows (number q))
-row_written number rows k n v h is q = go (is_at (key_cmp k) q) refl (number q) refl
+pub numbers_stay : (es : List (KeyName × Counted)) (n : ℕ) (v : Counted) (q : KeyName) → number_at (set_value_at es n v) q ≡ number_at es q
+numbers_stay [] n v q = refl
+numbers_stay (e ∷ es) zero v q = refl
+numbers_stay (e ∷ es) (suc n) v q = ap (λ o. cond (same_name q e.0) (Some 0) (option_map suc o)) (numbers_stay es n v q)
+
+-- the first row
+first_written : (e : KeyName × Counted) (es : List (KeyName × Counted)) (v : Counted) (q : KeyName) (a b : Bool) → a ≡ b → unwrap_or (cond a (Some v) (lookup (same_name q) es)) nothing ≡ cond b v (unwrap_or (cond a (Some e.1) (lookup (same_name q) es)) nothing)
+first_written e es v q true true s = refl
+first_written e es v q true false s = absurd cc
+first_written e es v q false true s = absurd cc
+first_written e es v q false false s = refl
+
+-- a later one
+later_written : (e : KeyName × Counted) (es new : List (KeyName × Counted)) (k : KeyName) (v : Counted) (q : KeyName) → same_name k e.0 ≡ false → counted_at new q ≡ cond (is_at (key_cmp k) q) v (counted_at es q) → counted_at (e ∷ new) q ≡ cond (is_at (key_cmp k) q) v (counted_at (e ∷ es) q)
+later_written e es new k v q off h = go (same_name q e.0) (is_at (key_cmp k) q) refl refl h
   where
-    go : (b : Bool) → is_at (key_cmp k) q ≡ b → (o : Option ℕ) → number q ≡ o → row_at (set rows n v) o ≡ cond b v (row_at rows o)
-    go true at o e = ap (row_at (set rows n v)) (sym e ∙ ap number (sym (name_is k q at)) ∙ is) ∙ get_or-set_same rows n v nothing (h.below k n is)
-    go false at None e = refl
-    go false at (Some m) e = get_or-set_other rows n m v nothing (λ same.
-        let one : k ≡ q = h.apart k q m (is ∙ ap (λ x. Some x) (sym same)) e in
-        let hit : is_at (key_cmp k) q ≡ true = is_name k q one in
-        absurd cc)
+    go : (a b : Bool) → same_name q e.0 ≡ a → is_at (key_cmp k) q ≡ b → counted_at new q ≡ cond b v (counted_at es q) → unwrap_or (cond a (Some e.1) (lookup (same_name q) new)) nothing ≡ cond b v (unwrap_or (cond a (Some e.1) (lookup (same_name q) es)) nothing)
+    go true true f g h = let z : same_name k e.0 ≡ true = subst (λ x. same_name x e.0 ≡ true) (sym (name_is k q g)) f in absurd cc
+    go true false f g h = refl
+    go false b f g h = h
+
+pub row_written : (es : List (KeyName × Counted)) (k : KeyName) (n : ℕ) (v : Counted) → number_at es k ≡ Some n → (q : KeyName) → counted_at (set_value_at es n v) q ≡ cond (is_at (key_cmp k) q) v (counted_at es q)
+row_written [] k n v is q = absurd cc
+row_written (e ∷ es) k n v is q = go (same_name k e.0) refl (λ m at. row_written es k m v at q) is
+  where
+    go : (b : Bool) → same_name k e.0 ≡ b → ((m : ℕ) → number_at es k ≡ Some m → counted_at (set_value_at es m v) q ≡ cond (is_at (key_cmp k) q) v (counted_at es q)) → cond b (Some 0) (option_map suc (number_at es k)) ≡ Some n → counted_at (set_value_at (e ∷ es) n v) q ≡ cond (is_at (key_cmp k) q) v (counted_at (e ∷ es) q)
+    go true at rest is =
+        let z : 0 ≡ n = cc in
+        let same : same_name q e.0 ≡ is_at (key_cmp k) q = ap (same_name q) (sym (same_is k e.0 at)) ∙ (name_swaps q k ∙ sym (at_name k q)) in
+        subst (λ m. counted_at (set_value_at (e ∷ es) m v) q ≡ cond (is_at (key_cmp k) q) v (counted_at (e ∷ es) q)) z (first_written e es v q (same_name q e.0) (is_at (key_cmp k) q) same)
+    go false at rest is =
+        let p = suc_of (number_at es k) n is in
+        subst (λ m. counted_at (set_value_at (e ∷ es) m v) q ≡ cond (is_at (key_cmp k) q) v (counted_at (e ∷ es) q)) p.2 (later_written e es (set_value_at es p.0 v) k v q at (rest p.0 p.1))
 
 -- numbers of keys
 
-pub number_at : (number : KeyName → Option ℕ) (ks : List Key) (ns : List ℕ) (i : ℕ) (d : Key) → HaveNumbers number ks ns → i < length ks → number (name (get_or ks i d)) ≡ Some (get_or ns i 0)
-number_at number [] ns i d h lt = absurd (omega (arith, lt))
-number_at number (k ∷ ks) [] i d h lt = absurd h
-number_at number (k ∷ ks) (n ∷ ns) zero d h lt = h.0
-number_at number (k ∷ ks) (n ∷ ns) (suc i) d h lt = number_at number ks ns i d h.1 (omega (arith, lt))
+pub number_of : (number : KeyName → Option ℕ) (ks : List Key) (ns : List ℕ) (i : ℕ) (d : Key) → HaveNumbers number ks ns → i < length ks → number (name (get_or ks i d)) ≡ Some (get_or ns i 0)
+number_of number [] ns i d h lt = absurd (omega (arith, lt))
+number_of number (k ∷ ks) [] i d h lt = absurd h
+number_of number (k ∷ ks) (n ∷ ns) zero d h lt = h.0
+number_of number (k ∷ ks) (n ∷ ns) (suc i) d h lt = number_of number ks ns i d h.1 (omega (arith, lt))
 
 pub numbers_long : (number : KeyName → Option ℕ) (ks : List Key) (ns : List ℕ) → HaveNumbers number ks ns → length ns ≡ length ks
 numbers_long number ks ns h = AllZip-long (λ (k : Key) (n : ℕ). number (name k) ≡ Some n) ks ns h

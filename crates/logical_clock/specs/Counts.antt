@@ -21,7 +21,7 @@ last_clock (m ∷ past) l = if has m l then suc (latest (last_clock past) m) els
 pub record Counts (past : List Occurrence) (c : ClockState) : Type 0 where
   pub events : c.events ≡ length past
   pub of_threads : (t : ℕ) → t < length c.threads → slice_index c.threads t ≡ last_clock past (OfThread t)
-  pub of_keys : (k : Key) → counted_at c.numbers c.rows (name k) ≡
+  pub of_keys : (k : Key) → counted_at c.keys (name k) ≡
       record { events = count (OfKey k) past; clock = last_clock past (OfKey k) }
 
 -- some events lead to this

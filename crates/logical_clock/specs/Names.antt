@@ -1,5 +1,5 @@
 -- Keys by the number of their class and their value.
-use Rattle.std.specs.Prelude.{ℕ, max, Bool, false, ◌||◌, List, [], ◌∷◌}
+use Rattle.std.specs.Prelude.{ℕ, max, Bool, false, ◌||◌, ◌&&◌, ◌==◌, List, [], ◌∷◌}
 use Rattle.std.specs.BTreeMap.{is_at}
 use Rattle.std.specs.declared.cmp.Ordering.{Ordering}
 use Rattle.std.specs.Ordering.{nat_cmp, ordering_then}
@@ -12,6 +12,10 @@ name k = record { class = number_of k.class; value = k.value }
 
 abbrev pub key_cmp : KeyName → KeyName → Ordering
 key_cmp a b = ordering_then (nat_cmp a.class b.class) (nat_cmp a.value b.value)
+
+-- names are the same
+abbrev pub same_name : KeyName → KeyName → Bool
+same_name a b = a.class == b.class && a.value == b.value
 
 -- one of the keys has the name
 abbrev pub is_named : List Key → KeyName → Bool

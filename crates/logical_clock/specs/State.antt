@@ -3,10 +3,9 @@ use Rattle.std.specs.Prelude.{ℕ, List}
 use Rattle.logical_clock.specs.declared.name.KeyName.{KeyName}
 use Rattle.logical_clock.specs.declared.keys.Counted.{Counted}
 
--- how many events were made; by thread the clock of its last event; the numbers of the keys, and by number
--- what is kept of each
+-- how many events were made; by thread the clock of its last event; and what is kept of each key that was
+-- seen
 pub record ClockState : Type 0 where
   pub events : ℕ
   pub threads : List ℕ
-  pub numbers : List (KeyName × ℕ)
-  pub rows : List Counted
+  pub keys : List (KeyName × Counted)

@@ -7,7 +7,6 @@ ghost use Rattle.logical_clock.specs.Counts.{Counts, CountsNoMore, CountsOneMore
 use crate::keys::Keys;
 use run_events::{Key, Stamp, Words};
 use std::alloc::{AllocError, Global};
-use std::collections::BTreeMap;
 use std::marker::Model;
 
 /// What the clocks and tickets of the next event follow from.
@@ -26,23 +25,18 @@ impl Model for Clocks {
     ghost Value = { ClockState };
 
     ghost use Rattle.logical_clock.specs.Counts.{Reached};
-    ghost use Rattle.logical_clock.specs.Kept.{AreNumbered};
 
     ghost view = { λ c. record {
       events = c.events;
       threads = c.threads.items;
-      numbers =
-          c.keys.numbers.entries;
-      rows = c.keys.rows.items;
+      keys = c.keys.rows.entries;
     } };
 
     ghost invariant = { λ c. Reached (record {
       events = c.events;
       threads = c.threads.items;
-      numbers =
-          c.keys.numbers.entries;
-      rows = c.keys.rows.items;
-    }) × AreNumbered c.keys };
+      keys = c.keys.rows.entries;
+    }) };
 }
 
 impl Clocks {
@@ -56,10 +50,7 @@ impl Clocks {
         Ok(Clocks {
             events: 0,
             threads: clocks,
-            keys: Keys {
-                numbers: BTreeMap::new(alloc),
-                rows: Vec::new(alloc),
-            },
+            keys: Keys::new(alloc),
         })
     }
 
@@ -74,6 +65,7 @@ impl Clocks {
         ensures counts { OnOk result (CountsOneMore (occurrence thread keys.now) self.old self.new) }
         ensures unchanged { OnErr result (CountsNoMore self.old self.new) }
         ensures events { OnOk result (self.new.events ≡ self.old.events + 1) }
+        ensures no_more { OnErr result (self.new.events ≡ self.old.events) }
         ensures threads { length self.new.threads ≡ length self.old.threads }
     {
         let own = self.threads[thread as usize];

@@ -1,4 +1,4 @@
-//! Keys as tables are sorted by them.
+//! Keys as tables know them.
 
 ghost use Rattle.std.specs.Prelude.{◌≡◌};
 ghost use Rattle.logical_clock.specs.Names.{name};
@@ -6,7 +6,7 @@ ghost use Rattle.logical_clock.specs.Names.{name};
 use run_events::Key;
 
 /// A key, in 16 bytes: the number of its class, and its value.
-#[derive(Clone, Copy, PartialEq, Eq, PartialOrd, Ord)]
+#[derive(Clone, Copy, PartialEq, Eq, PartialOrd, Ord, Hash)]
 pub struct KeyName {
     pub class: u8,
     pub value: u64,

@@ -2,6 +2,7 @@
 
 ghost use Rattle.std.specs.Prelude.{◌≡◌, ◌+◌, ◌-◌, ◌*◌, ◌<◌, ◌≤◌, ◌&&◌, ℕ, true, false, length, IfOk, IfErr, OnOk, OnErr, IsTrue, Some};
 ghost use Rattle.std.specs.List.{All};
+ghost use Rattle.memory_map.specs.declared.areas.TheConstants.{THREADS};
 ghost use Rattle.race_watch.specs.Cells.{IsPart, EachIn, base_of, cell_of};
 ghost use Rattle.race_watch.specs.declared.bytes.TheConstants.{GLOBALS, STACKS, POOL};
 ghost use Rattle.race_watch.specs.Tables.{at, cells_of, AreTables, AreBlankTables, HasEpoch, HasEpochIn, NoneUnknown, IsPut, IsFirst, IsFirstFrom, IsFirstThread};
@@ -31,7 +32,7 @@ fn base(thread: u8, touched: bool) -> u32
 impl Tables {
     /// Zeros.
     pub fn new(alloc: Global, threads: u8) -> Result<Tables, AllocError>
-        requires { threads ≤ 32 }
+        requires { threads ≤ THREADS }
         ensures { IfOk result (AreBlankTables threads) }
     {
         let epochs = Pages::new(alloc, u32::from(threads) * 0x8000)?;

@@ -2,6 +2,7 @@
 
 ghost use Rattle.std.specs.Prelude.{◌≡◌, ◌+◌, ◌<◌, ◌≤◌, [], length, IfOk, OnOk, OnErr};
 ghost use Rattle.logical_clock.specs.Events.{occurrence};
+ghost use Rattle.memory_map.specs.declared.areas.TheConstants.{THREADS};
 ghost use Rattle.race_watch.specs.Told.{Accessed, Happened};
 ghost use Rattle.race_watch.specs.Rows.{AreBlank};
 ghost use Rattle.race_watch.specs.Stands.{Stands, AnswersBy, WasTold, WasToldNoMore};
@@ -77,9 +78,9 @@ impl Model for Watch {
 }
 
 impl Watch {
-    /// Before any event and access of so many threads.
+    /// Before any event and access of so many threads, as many as a run has at most.
     pub fn new(alloc: Global, threads: u8) -> Result<Watch, AllocError>
-        requires { threads ≤ 32 }
+        requires { threads ≤ THREADS }
         ensures stands { IfOk result (λ w. Stands [] w) }
         ensures events { IfOk result (λ w. w.events ≡ 0) }
         ensures threads { IfOk result (λ w. length w.rows ≡ threads) }
@@ -140,6 +141,7 @@ impl Watch {
         ensures told { OnOk result (WasTold (Happened (occurrence thread keys.now)) self.old self.new) }
         ensures unchanged { OnErr result (WasToldNoMore self.old self.new) }
         ensures events { OnOk result (self.new.events ≡ self.old.events + 1) }
+        ensures no_more { OnErr result (self.new.events ≡ self.old.events) }
         ensures threads { length self.new.rows ≡ length self.old.rows }
     {
         let mut row = self.rows[thread as usize];

@@ -49,7 +49,11 @@ fn answer_of(alloc: Global, external: External, words: &[u8]) -> Result<Scripted
 {
     let answer = match cut(words, b' ') {
         None => answer_with(external, words, Vec::new(alloc)),
-        Some((result, words)) => answer_with(external, result, pieces(alloc, words)?),
+        Some((result, words)) => answer_with(
+            external,
+            result,
+            pieces(alloc, external.pieces, words)?,
+        ),
     };
     answer.ok_or(Wrong::Text)
 }

@@ -62,11 +62,11 @@ fn piece(alloc: Global, word: &[u8]) -> Result<Vec<u8>, Wrong>
     }
 }
 
-/// The pieces of several words.
-pub(crate) fn pieces(alloc: Global, words: &[u8]) -> Result<Vec<Bytes>, Wrong>
+/// The pieces of several words, of which about so many are expected.
+pub(crate) fn pieces(alloc: Global, expected: usize, words: &[u8]) -> Result<Vec<Bytes>, Wrong>
     ensures { Says (λ v. v.items) result (each piece (parts 32 words.now)) }
 {
-    let mut pieces = Vec::new(alloc);
+    let mut pieces = Vec::with_capacity(alloc, expected.min(words.len()))?;
     let mut rest = words;
     while let Some((word, after)) = cut(rest, b' ') {
         let bytes = piece(alloc, word)?;

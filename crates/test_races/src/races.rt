@@ -1,6 +1,6 @@
 //! The first race of small runs (`race_watch`).
 
-ghost use Rattle.std.specs.Prelude.{◌<◌, length};
+ghost use Rattle.std.specs.Prelude.{◌≡◌, ◌+◌, ◌<◌, length, OnOk};
 
 use memory_map::Range;
 use race_watch::{Watch, WatchError};
@@ -16,6 +16,34 @@ enum Step {
     Event(u8, Class),
 }
 
+/// What the watch answers to an access. Where there is no memory once, nothing has changed, so that the second answer is the
+/// first one.
+fn access(watch: &mut Watch, thread: u8, addr: u64, len: u64, write: bool) -> Result<(), WatchError>
+    requires { thread < length watch.old.rows }
+    ensures events { watch.new.events ≡ watch.old.events }
+    ensures threads { length watch.new.rows ≡ length watch.old.rows }
+{
+    let range = Range { addr, len };
+    match watch.access(thread, range, write) {
+        Err(WatchError::Memory) => watch.access(thread, range, write),
+        taken => taken,
+    }
+}
+
+/// The same of an event with one key.
+fn event(watch: &mut Watch, thread: u8, class: Class) -> Result<(), AllocError>
+    requires thread { thread < length watch.old.rows }
+    requires few { watch.old.events < 4000000000 }
+    ensures events { OnOk result (watch.new.events ≡ watch.old.events + 1) }
+    ensures threads { length watch.new.rows ≡ length watch.old.rows }
+{
+    let key = Key { class, value: 0 };
+    match watch.event(thread, &[key]) {
+        Ok(()) => Ok(()),
+        Err(_) => watch.event(thread, &[key]),
+    }
+}
+
 /// The first race, with the other thread and the byte.
 fn first_race(alloc: Global, steps: &[Step]) -> Result<Option<(u8, u64)>, AllocError>
     requires { length steps.now < 1000 }
@@ -23,20 +51,17 @@ fn first_race(alloc: Global, steps: &[Step]) -> Result<Option<(u8, u64)>, AllocE
     let mut watch = Watch::new(alloc, 32)?;
     for step in steps {
         let taken = match *step {
-            Step::Read(thread, addr, len) => {
-                watch.access(thread % 32, Range { addr, len }, false)
-            }
-            Step::Write(thread, addr, len) => {
-                watch.access(thread % 32, Range { addr, len }, true)
-            }
+            Step::Read(thread, addr, len) => access(&mut watch, thread % 32, addr, len, false),
+            Step::Write(thread, addr, len) => access(&mut watch, thread % 32, addr, len, true),
             Step::Event(thread, class) => {
-                let key = Key { class, value: 0 };
-                watch.event(thread % 32, &[key])?;
+                event(&mut watch, thread % 32, class)?;
                 Ok(())
             }
         };
-        if let Err(WatchError::Race { other, addr }) = taken {
-            return Ok(Some((other, addr)));
+        match taken {
+            Ok(()) => {}
+            Err(WatchError::Race { other, addr }) => return Ok(Some((other, addr))),
+            Err(WatchError::Memory) => return Err(AllocError),
         }
     }
     Ok(None)

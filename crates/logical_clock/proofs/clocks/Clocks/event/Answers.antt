@@ -11,9 +11,9 @@ use Rattle.logical_clock.proofs.clocks.Clocks.event.Goals as goal
 
 pub overflow_add-clock : goal.overflow_add-clock
 overflow_add-clock c =
-    let old : ClockState = record { events = c.self.inside.events; threads = c.self.inside.threads.items; numbers = c.self.inside.keys.numbers.entries; rows = c.self.inside.keys.rows.items } in
-    let past = c.self.invariant.0.0 in
-    let h : Counts past old = c.self.invariant.0.1 in
+    let old : ClockState = record { events = c.self.inside.events; threads = c.self.inside.threads.items; keys = c.self.inside.keys.rows.entries } in
+    let past = c.self.invariant.0 in
+    let h : Counts past old = c.self.invariant.1 in
     let lt : c.args.thread < length old.threads = subst (λ (s : ClockState). c.args.thread < length s.threads) (sym c.self.view_is) c.requires.thread in
     let few : old.events < 4000000000 = subst (λ (s : ClockState). s.events < 4000000000) (sym c.self.view_is) c.requires.few in
     let e = latest_of past old c.args.thread c.args.keys.now c.index-own.result.now c.in_ok-clock.field-0 h lt (get_or_read old.threads _ _ lt c.index-own.ensures 0) c.in_ok-clock.ensures.clock in
@@ -21,13 +21,13 @@ overflow_add-clock c =
 
 pub count_all-requires-clause-few : goal.count_all-requires-clause-few
 count_all-requires-clause-few c = λ k.
-    let old : ClockState = record { events = c.self.inside.events; threads = c.self.inside.threads.items; numbers = c.self.inside.keys.numbers.entries; rows = c.self.inside.keys.rows.items } in
+    let old : ClockState = record { events = c.self.inside.events; threads = c.self.inside.threads.items; keys = c.self.inside.keys.rows.entries } in
     let few : old.events < 4000000000 = subst (λ (s : ClockState). s.events < 4000000000) (sym c.self.view_is) c.requires.few in
-    omega (arith, events_fit c.self.invariant.0.0 old k (counted_in c.find.new.self (name k)) c.self.invariant.0.1 (c.find.ensures.same (name k)), few)
+    omega (arith, events_fit c.self.invariant.0 old k (counted_in c.find.new.self (name k)) c.self.invariant.1 (c.find.ensures.same (name k)), few)
 
 pub returns-clause-stamp : goal.returns-clause-stamp
 returns-clause-stamp c = λ past k.
-    let old : ClockState = record { events = c.self.inside.events; threads = c.self.inside.threads.items; numbers = c.self.inside.keys.numbers.entries; rows = c.self.inside.keys.rows.items } in
+    let old : ClockState = record { events = c.self.inside.events; threads = c.self.inside.threads.items; keys = c.self.inside.keys.rows.entries } in
     let h : Counts past old = subst (Counts past) (sym c.self.view_is) k in
     let lt : c.args.thread < length old.threads = subst (λ (s : ClockState). c.args.thread < length s.threads) (sym c.self.view_is) c.requires.thread in
     let e = latest_of past old c.args.thread c.args.keys.now c.index-own.result.now c.in_ok-clock.field-0 h lt (get_or_read old.threads _ _ lt c.index-own.ensures 0) c.in_ok-clock.ensures.clock in
@@ -39,7 +39,7 @@ returns-clause-stamp c = λ past k.
 
 pub returns-clause-counts : goal.returns-clause-counts
 returns-clause-counts c = λ past k.
-    let old : ClockState = record { events = c.self.inside.events; threads = c.self.inside.threads.items; numbers = c.self.inside.keys.numbers.entries; rows = c.self.inside.keys.rows.items } in
+    let old : ClockState = record { events = c.self.inside.events; threads = c.self.inside.threads.items; keys = c.self.inside.keys.rows.entries } in
     let h : Counts past old = subst (Counts past) (sym c.self.view_is) k in
     let lt : c.args.thread < length old.threads = subst (λ (s : ClockState). c.args.thread < length s.threads) (sym c.self.view_is) c.requires.thread in
     let e = latest_of past old c.args.thread c.args.keys.now c.index-own.result.now c.in_ok-clock.field-0 h lt (get_or_read old.threads _ _ lt c.index-own.ensures 0) c.in_ok-clock.ensures.clock in
@@ -47,9 +47,9 @@ returns-clause-counts c = λ past k.
 
 pub invariant_of-self-2 : goal.invariant_of-self-2
 invariant_of-self-2 c =
-    let old : ClockState = record { events = c.self.inside.events; threads = c.self.inside.threads.items; numbers = c.self.inside.keys.numbers.entries; rows = c.self.inside.keys.rows.items } in
-    let past = c.self.invariant.0.0 in
-    let h : Counts past old = c.self.invariant.0.1 in
+    let old : ClockState = record { events = c.self.inside.events; threads = c.self.inside.threads.items; keys = c.self.inside.keys.rows.entries } in
+    let past = c.self.invariant.0 in
+    let h : Counts past old = c.self.invariant.1 in
     let lt : c.args.thread < length old.threads = subst (λ (s : ClockState). c.args.thread < length s.threads) (sym c.self.view_is) c.requires.thread in
     let e = latest_of past old c.args.thread c.args.keys.now c.index-own.result.now c.in_ok-clock.field-0 h lt (get_or_read old.threads _ _ lt c.index-own.ensures 0) c.in_ok-clock.ensures.clock in
-    ((occurrence c.args.thread c.args.keys.now ∷ past, counts_after past old c.args.thread c.args.keys.now c.in_ok-clock.field-0 (counted_in c.find.new.self) c.count_all.new.self h lt e c.find.ensures.same c.count_all.ensures.counts), c.count_all.ensures.numbered)
+    (occurrence c.args.thread c.args.keys.now ∷ past, counts_after past old c.args.thread c.args.keys.now c.in_ok-clock.field-0 (counted_in c.find.new.self) c.count_all.new.self h lt e c.find.ensures.same c.count_all.ensures.counts)

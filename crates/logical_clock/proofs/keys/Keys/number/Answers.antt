@@ -1,29 +1,25 @@
-use Rattle.std.proofs.Common.{◌≡◌, ◌∙◌, ◌+◌, ◌∷◌, [], ℕ, Some, cond, length, length-append, ap, sym, subst, arith}
-use Rattle.std.specs.BTreeMap.{get, is_at}
-use Rattle.logical_clock.specs.declared.name.KeyName.{KeyName}
-use Rattle.logical_clock.specs.Names.{key_cmp}
-use Rattle.logical_clock.specs.Kept.{nothing, row_at, AreNumbers}
-use Rattle.logical_clock.proofs.Rows.{next_keeps, next_number, next_same}
+use Rattle.std.proofs.Common.{◌≡◌, ◌∙◌, ◌++◌, ◌∷◌, [], Some, None, ap, sym}
+use Rattle.logical_clock.specs.Kept.{nothing, number_at, counted_at}
+use Rattle.logical_clock.proofs.Rows.{number_is_place, appended, next_keeps, next_number, next_same}
 use Rattle.logical_clock.proofs.keys.Keys.number.Goals as goal
 
-pub returns-clause-numbers : goal.returns-clause-numbers
-returns-clause-numbers c =
-    let old = c.args.self.now in
-    let place : c.len-number.result ≡ length old.rows.items = omega (arith, c.len-number.ensures, old.rows.ok.0) in
-    let up : (q : KeyName) → get key_cmp c.insert.new.self q ≡ cond (is_at (key_cmp c.args.key) q) (Some (length old.rows.items)) (get key_cmp old.numbers q) =
-    λ q. c.in_ok-insert.ensures.updates.0 q ∙ ap (λ (n : ℕ). cond (is_at (key_cmp c.args.key) q) (Some n) (get key_cmp old.numbers q)) place in
-    let long : length c.push.new.self.items ≡ length old.rows.items + 1 = omega (arith, ap length c.in_ok-push.ensures.items, length-append old.rows.items (nothing ∷ [])) in
-    subst (AreNumbers (get key_cmp c.insert.new.self)) (sym long) (next_number (get key_cmp old.numbers) (get key_cmp c.insert.new.self) c.args.key (length old.rows.items) c.requires up)
+pub returns-in-Some-clause-number : goal.returns-in-Some-clause-number
+returns-in-Some-clause-number c = sym (c.in-Some.ensures.index ∙ number_is_place c.args.self.now.rows.entries c.args.key)
+
+pub returns-clause-number : goal.returns-clause-number
+returns-clause-number c =
+    let es = c.args.self.now.rows.entries in
+    let none : number_at es c.args.key ≡ None = sym (c.in_default.ensures.index ∙ number_is_place es c.args.key) in
+    ap (λ l. number_at l c.args.key) (c.in_ok-insert.ensures.entries ∙ appended es c.args.key nothing none) ∙ next_number es c.args.key nothing none ∙ ap (λ n. Some n) (sym c.len-number.ensures.len)
 
 pub returns-clause-keeps : goal.returns-clause-keeps
-returns-clause-keeps c =
-    next_keeps (get key_cmp c.args.self.now.numbers) (get key_cmp c.insert.new.self) c.args.key c.len-number.result (sym (c.in_default.ensures ∙ c.get.ensures.value)) c.in_ok-insert.ensures.updates.0
+returns-clause-keeps c = λ q n is.
+    let es = c.args.self.now.rows.entries in
+    let none : number_at es c.args.key ≡ None = sym (c.in_default.ensures.index ∙ number_is_place es c.args.key) in
+    ap (λ l. number_at l q) (c.in_ok-insert.ensures.entries ∙ appended es c.args.key nothing none) ∙ next_keeps es (c.args.key, nothing) q n is
 
 pub returns-clause-same : goal.returns-clause-same
 returns-clause-same c = λ q.
-    let old = c.args.self.now in
-    let place : c.len-number.result ≡ length old.rows.items = omega (arith, c.len-number.ensures, old.rows.ok.0) in
-    let up : (q : KeyName) → get key_cmp c.insert.new.self q ≡ cond (is_at (key_cmp c.args.key) q) (Some (length old.rows.items)) (get key_cmp old.numbers q) =
-    λ q. c.in_ok-insert.ensures.updates.0 q ∙ ap (λ (n : ℕ). cond (is_at (key_cmp c.args.key) q) (Some n) (get key_cmp old.numbers q)) place in
-    ap (λ l. row_at l (get key_cmp c.insert.new.self q)) c.in_ok-push.ensures.items
-    ∙ next_same (get key_cmp old.numbers) (get key_cmp c.insert.new.self) old.rows.items c.args.key (sym (c.in_default.ensures ∙ c.get.ensures.value)) up q
+    let es = c.args.self.now.rows.entries in
+    let none : number_at es c.args.key ≡ None = sym (c.in_default.ensures.index ∙ number_is_place es c.args.key) in
+    ap (λ l. counted_at l q) (c.in_ok-insert.ensures.entries ∙ appended es c.args.key nothing none) ∙ next_same es c.args.key q
