@@ -7,7 +7,8 @@ use Rattle.c_scopes.specs.Scopes.{innermost}
 use Rattle.c_syntax.specs.Syntax.{Decls}
 use Rattle.c_types_rules.specs.Environment.{Environment}
 use Rattle.c_types_rules.specs.Sources.{Program, at_file, tags_of}
-use Rattle.c_types_rules.specs.Checked.{Checked, Fine, Large, Broken}
+use Rattle.c_types_rules.specs.Checked as checked
+use Rattle.c_types_rules.specs.Checked.{Checked, Fine, Noted, Broken}
 use Rattle.annot_reader_rules.specs.Cuts.{all_noted, annotations, any_in, in_cut}
 use Rattle.annot_reader_rules.specs.Notes.{Annotated, Notes}
 use Rattle.annot_reader_words.specs.declared.error.AnnotationError.{AnnotationError}
@@ -33,21 +34,21 @@ module _ (cut : List ℕ) where
   raises : (c : Checked Annotated) (e : AnnotationError) → Tells {B = Reading} (IsReading cut) c (Err e) → IsInterface cut c (Err (by_annotation_error e))
   raises (Fine a) (broken.Rule f r) h = absurd h
   raises (Fine a) broken.Memory h = tt
-  raises (Large a) (broken.Rule f r) h = absurd h
-  raises (Large a) broken.Memory h = tt
+  raises (Noted n a) (broken.Rule f r) h = absurd h
+  raises (Noted n a) broken.Memory h = tt
   raises (Broken f r) (broken.Rule g s) h = h
   raises (Broken f r) broken.Memory h = tt
 
-  of_large : (a : Annotated) (r : Result Interface InterfaceError) → IsInterface cut (Fine a) r → IsInterface cut (Large a) r
-  of_large a (Ok i) h = h
-  of_large a (Err NoSuchCut) h = h
-  of_large a (Err Memory) h = tt
-  of_large a (Err (Rule f r)) h = absurd h
+  of_noted : (n : checked.Notes) (a : Annotated) (r : Result Interface InterfaceError) → IsInterface cut (Fine a) r → IsInterface cut (Noted n a) r
+  of_noted n a (Ok i) h = h
+  of_noted n a (Err NoSuchCut) h = h
+  of_noted n a (Err Memory) h = tt
+  of_noted n a (Err (Rule f r)) h = absurd h
 
   -- what is made of what was read
   pub finds : (c : Checked Annotated) (v : Reading) (r : Result Interface InterfaceError) → Tells (IsReading cut) c (Ok v) → ((a : Annotated) → AreRead cut a v → IsInterface cut (Fine a) r) → IsInterface cut c r
   finds (Fine a) v r h k = k a h
-  finds (Large a) v r h k = of_large a r (k a h)
+  finds (Noted n a) v r h k = of_noted n a r (k a h)
   finds (Broken f n) v r h k = absurd h
 
   -- what a `?` returns

@@ -7,7 +7,7 @@ use Rattle.c_scopes.specs.Scopes.{meaning_in}
 use Rattle.c_types_model.specs.Layouts.{struct_of}
 use Rattle.c_types_model.specs.Limits.{greatest_object}
 use Rattle.c_types_model.specs.declared.extent.Extent.{Extent}
-use Rattle.c_types_rules.specs.Checked.{Checked, Fine, Large, Broken, keep, large, small, ◌>>=◌, ◌>>◌}
+use Rattle.c_types_rules.specs.Checked.{Checked, Fine, Noted, Notes, Broken, heard, keep, noting, small, ◌>>=◌, ◌>>◌}
 use Rattle.c_types_rules.specs.Environment.{Meaning, FunctionNamed, GlobalNamed, LocalNamed, declarable, extents, is_reserved, place_in}
 use Rattle.c_types_rules.specs.Expressions.{annotation_types, complete, declared_name, declared_type}
 use Rattle.c_types_rules.specs.Initials as initials
@@ -25,44 +25,44 @@ AreFunctionTypes (f ∷ fs) = (is_function f.type ≡ true) × AreFunctionTypes 
 
 abbrev Gives : Checked Program → Type 0
 Gives (Fine p) = AreFunctionTypes p.functions
-Gives (Large p) = AreFunctionTypes p.functions
+Gives (Noted n p) = AreFunctionTypes p.functions
 Gives (Broken from rule) = Unit {0}
 
 abbrev GivesBoth : Checked (ℕ × Program) → Type 0
 GivesBoth (Fine a) = AreFunctionTypes a.1.functions
-GivesBoth (Large a) = AreFunctionTypes a.1.functions
+GivesBoth (Noted n a) = AreFunctionTypes a.1.functions
 GivesBoth (Broken from rule) = Unit {0}
 
-large_gives : (c : Checked Program) → Gives c → Gives (large c)
-large_gives (Fine p) h = h
-large_gives (Large p) h = h
-large_gives (Broken f r) h = tt
+noting_gives : (n : Notes) (c : Checked Program) → Gives c → Gives (noting n c)
+noting_gives n (Fine p) h = h
+noting_gives n (Noted m p) h = h
+noting_gives n (Broken f r) h = tt
 
 after : {A : Type 0} (c : Checked A) (f : A → Checked Program) → ((x : A) → Gives (f x)) → Gives (c >>= f)
 after (Fine x) f h = h x
-after (Large x) f h = large_gives (f x) (h x)
+after (Noted n x) f h = noting_gives n (f x) (h x)
 after (Broken a b) f h = tt
 
 next : {A : Type 0} (c : Checked A) (d : Checked Program) → Gives d → Gives (c >> d)
 next (Fine x) d h = h
-next (Large x) d h = large_gives d h
+next (Noted n x) d h = noting_gives n d h
 next (Broken a b) d h = tt
 
 with_program : (c : Checked Program) (f : Program → Checked Program) → Gives c → ((p : Program) → AreFunctionTypes p.functions → Gives (f p)) → Gives (c >>= f)
 with_program (Fine p) f h k = k p h
-with_program (Large p) f h k = large_gives (f p) (k p h)
+with_program (Noted n p) f h k = noting_gives n (f p) (k p h)
 with_program (Broken a b) f h k = tt
 
 with_both : (c : Checked (ℕ × Program)) (f : ℕ × Program → Checked Program) → GivesBoth c → ((a : ℕ × Program) → AreFunctionTypes a.1.functions → Gives (f a)) → Gives (c >>= f)
 with_both (Fine a) f h k = k a h
-with_both (Large a) f h k = large_gives (f a) (k a h)
+with_both (Noted n a) f h k = noting_gives n (f a) (k a h)
 with_both (Broken a b) f h k = tt
 
 both_next : {A : Type 0} (c : Checked A) (d : Checked (ℕ × Program)) → GivesBoth d → GivesBoth (c >> d)
 both_next (Fine x) d h = h
-both_next (Large x) (Fine a) h = h
-both_next (Large x) (Large a) h = h
-both_next (Large x) (Broken a b) h = tt
+both_next (Noted n x) (Fine a) h = h
+both_next (Noted n x) (Noted m a) h = h
+both_next (Noted n x) (Broken a b) h = tt
 both_next (Broken a b) d h = tt
 
 -- ---- functions
@@ -101,8 +101,8 @@ module _ (tags : List (List ℕ)) where
   of_global : (p : Program) (from : ℕ) (name : List ℕ) (t : CType) (r : Rest) → AreFunctionTypes p.functions → Gives (global tags p from name t r)
   of_global p from name t r h =
       let named : Program = record p { names = (name, GlobalNamed (length p.globals) t) ∷ p.names } in
-      let with_value : Option initials.Initial → Checked Program = λ x. Fine (record named { globals = p.globals ++ record { name = name; type = t; value = x } ∷ [] }) in
-      let value = global_value tags named from t r in
+      let with_value : Option initials.Initial × List typed.Typed → Checked Program = λ x. Fine (record named { globals = p.globals ++ record { name = name; type = t; value = x.0; unevaluated = x.1 } ∷ [] }) in
+      let value = heard (global_value tags named from t r) in
       let free = declarable (at_file tags p) from name in
       next (complete (extents (at_file tags p)) from t) (free >> (value >>= with_value)) (next free (value >>= with_value) (after value with_value (λ x. h)))
 
@@ -163,7 +163,7 @@ by_limits p q objects h e =
 
 by_outcome : (p : Program) (c : Checked Program) → Gives c → decided c ≡ Typed p → AreTyped p
 by_outcome p (Fine q) h e = by_limits p q true h e
-by_outcome p (Large q) h e = by_limits p q false h e
+by_outcome p (Noted n q) h e = by_limits p q (not n.large) h e
 by_outcome p (Broken f r) h e = absurd cc
 
 pub typed_functions : (ds : Decls) (p : Program) → outcome ds ≡ Typed p → AreTyped p

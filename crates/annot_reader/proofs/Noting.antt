@@ -4,7 +4,7 @@ use Rattle.std.specs.Result.{IsErrAnd}
 use Rattle.std.proofs.lemmas.Bool.{le-ltb, lt-ltb}
 use Rattle.c_syntax.specs.Syntax.{Decl}
 use Rattle.c_types_model.specs.Types.{CType, CTypes, FunctionOf}
-use Rattle.c_types_rules.specs.Checked.{Checked, Fine, Large, Broken, ◌>>=◌, ◌>>◌}
+use Rattle.c_types_rules.specs.Checked.{Checked, Fine, Noted, Broken, ◌>>=◌, ◌>>◌}
 use Rattle.c_types_rules.specs.Environment.{Environment}
 use Rattle.c_types_rules.specs.Sources.{Function}
 use Rattle.annot_reader_rules.specs.Cuts.{function_at, kind_of, noted_as, noted_function}
@@ -54,9 +54,9 @@ module _ (cut : List ℕ) (r : Reading) where
   as_before (Fine u) a (Ok y) h k = k
   as_before (Fine u) a (Err Memory) h k = tt
   as_before (Fine u) a (Err (Rule f n)) h k = absurd h
-  as_before (Large u) a (Ok y) h k = k
-  as_before (Large u) a (Err Memory) h k = tt
-  as_before (Large u) a (Err (Rule f n)) h k = absurd h
+  as_before (Noted n u) a (Ok y) h k = k
+  as_before (Noted n u) a (Err Memory) h k = tt
+  as_before (Noted m u) a (Err (Rule f n)) h k = absurd h
   as_before (Broken f n) a (Ok y) h k = absurd h
   as_before (Broken f n) a (Err Memory) h k = tt
   as_before (Broken f n) a (Err (Rule g m)) h k = h

@@ -2,7 +2,7 @@
 use Rattle.std.specs.Prelude.{◌≡◌, ◌-◌, ℕ, ℤ, Bool, true, false, nat_lt, if◌then◌else◌, List, [], Option, Some, None, Result, Ok, Err, slice_get, option_and_then}
 use Rattle.std.specs.Option.{option_map_or}
 use Rattle.c_builtins.specs.Table.{first_source_function, in_interface}
-use Rattle.c_types_rules.specs.Checked.{Checked, Fine, Large, Broken}
+use Rattle.c_types_rules.specs.Checked.{Checked, Fine, Noted, Broken}
 use Rattle.annot_reader_rules.specs.Cuts.{in_cut, is_named}
 use Rattle.annot_reader_rules.specs.Notes.{Annotated, Notes}
 use Rattle.annot_reader_words.specs.declared.notes.Annots.{Annots}
@@ -71,8 +71,8 @@ pub record IsRead (cut : List ℕ) (a : Annotated) (i : Interface) : Type 0 wher
 abbrev pub IsInterface : (cut : List ℕ) → Checked Annotated → Result Interface InterfaceError → Type 0
 IsInterface cut c (Err Memory) = Unit {0}
 IsInterface cut (Fine a) (Ok i) = IsRead cut a i × (is_named cut a ≡ true)
-IsInterface cut (Large a) (Ok i) = IsRead cut a i × (is_named cut a ≡ true)
+IsInterface cut (Noted n a) (Ok i) = IsRead cut a i × (is_named cut a ≡ true)
 IsInterface cut (Fine a) (Err NoSuchCut) = is_named cut a ≡ false
-IsInterface cut (Large a) (Err NoSuchCut) = is_named cut a ≡ false
+IsInterface cut (Noted n a) (Err NoSuchCut) = is_named cut a ≡ false
 IsInterface cut (Broken from rule) (Err (Rule f r)) = (f ≡ from) × (r ≡ rule)
 IsInterface cut _ _ = ⊥

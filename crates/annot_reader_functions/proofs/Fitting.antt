@@ -6,7 +6,7 @@ use Rattle.c_syntax.specs.Nodes.{Nodes}
 use Rattle.c_syntax.specs.Syntax.{Decl, Declare, Annots, Annotate, NoAnnots, MoreAnnots, Item, Items, NoItems, MoreItems}
 use Rattle.c_syntax.specs.Stands.{StandAnnots, StandsDecl}
 use Rattle.c_syntax_laws.specs.Numbers.{FitsAnnots, FitsItem, FitsItems}
-use Rattle.c_types_rules.specs.Checked.{Checked, Fine, Large, Broken, ◌>>=◌, ◌>>◌}
+use Rattle.c_types_rules.specs.Checked.{Checked, Fine, Noted, Broken, ◌>>=◌, ◌>>◌}
 use Rattle.annot_reader_rules.specs.Regions.{Marked, all_marked, alone, marked, unmarked, with_one}
 use Rattle.annot_reader_words.specs.Answers.{Tells}
 use Rattle.annot_reader_words.specs.declared.word.ParameterWord.{ParameterWord}
@@ -22,22 +22,22 @@ use Rattle.annot_reader_functions.proofs.Marking.{marked_is}
 -- it holds of what is found
 abbrev pub Every : {A : Type 0} → (A → Type 0) → Checked A → Type 0
 Every P (Fine x) = P x
-Every P (Large x) = P x
+Every P (Noted n x) = P x
 Every P (Broken f r) = Unit {0}
 
 every_then : {A B : Type 0} (P : A → Type 0) (Q : B → Type 0) (c : Checked A) (f : A → Checked B) → Every P c → ((x : A) → P x → Every Q (f x)) → Every Q (c >>= f)
 every_then P Q (Fine x) f h k = k x h
-every_then P Q (Large x) f h k = turned (f x) (k x h)
+every_then P Q (Noted n x) f h k = turned (f x) (k x h)
   where
-    turned : (d : Checked _) → Every Q d → Every Q (Large x >>= λ y. d)
+    turned : (d : Checked _) → Every Q d → Every Q (Noted n x >>= λ y. d)
     turned (Fine y) h = h
-    turned (Large y) h = h
+    turned (Noted m y) h = h
     turned (Broken a b) h = h
 every_then P Q (Broken a b) f h k = tt
 
 every_after : {A B : Type 0} (Q : B → Type 0) (c : Checked A) (y : B) → Q y → Every Q (c >> Fine y)
 every_after Q (Fine x) y h = h
-every_after Q (Large x) y h = h
+every_after Q (Noted n x) y h = h
 every_after Q (Broken a b) y h = tt
 
 item_fits : (from : ℕ) (is : Items) (before : Option Item) → FitsItems is → Every FitsItem (with_one from is before)
@@ -64,7 +64,7 @@ all_fit (MoreAnnots (Annotate from word is) xs) m h k =
 
 there : (N : Nodes) (c : Checked Marked) (k : Marks) → Every FitsMarked c → Tells (AreMarks N) c (Ok k) → HasItems N k
 there N (Fine m) k h t = (m, t, h)
-there N (Large m) k h t = (m, t, h)
+there N (Noted n m) k h t = (m, t, h)
 there N (Broken a b) k h t = absurd t
 
 has_items : (N : Nodes) (an : Annots) (k : Marks) → FitsAnnots an → Tells (AreMarks N) (all_marked an unmarked) (Ok k) → HasItems N k

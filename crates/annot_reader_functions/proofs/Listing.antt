@@ -10,7 +10,7 @@ use Rattle.c_syntax_laws.specs.Numbers.{FitsDecls}
 use Rattle.c_types_model.specs.Types.{CType, CTypes, MoreTypes}
 use Rattle.c_types_table.specs.declared.ids.TypeId.{TypeId}
 use Rattle.c_types_table.specs.Tables.{all_at, at}
-use Rattle.c_types_rules.specs.Checked.{Checked, Fine, Large, Broken, ◌>>=◌, ◌>>◌}
+use Rattle.c_types_rules.specs.Checked.{Checked, Fine, Noted, Broken, ◌>>=◌, ◌>>◌}
 use Rattle.c_types_rules.specs.Environment.{Environment}
 use Rattle.c_types_rules.specs.Expressions.{parameter_scope}
 use Rattle.annot_reader_rules.specs.Functions.{all_parameters, bare_within}
@@ -61,9 +61,9 @@ one_more : (done : List Param) (v : Param) (p : Parameter) (c : Checked (List Pa
 one_more done v p (Fine ps) (Ok w) e h = h ∙ last_in done v p ps e
 one_more done v p (Fine ps) (Err Memory) e h = tt
 one_more done v p (Fine ps) (Err (Rule a b)) e h = absurd h
-one_more done v p (Large ps) (Ok w) e h = h ∙ last_in done v p ps e
-one_more done v p (Large ps) (Err Memory) e h = tt
-one_more done v p (Large ps) (Err (Rule a b)) e h = absurd h
+one_more done v p (Noted n ps) (Ok w) e h = h ∙ last_in done v p ps e
+one_more done v p (Noted n ps) (Err Memory) e h = tt
+one_more done v p (Noted n ps) (Err (Rule a b)) e h = absurd h
 one_more done v p (Broken a b) (Ok w) e h = absurd h
 one_more done v p (Broken a b) (Err Memory) e h = tt
 one_more done v p (Broken a b) (Err (Rule f g)) e h = h

@@ -5,7 +5,7 @@ use Rattle.c_syntax.specs.Syntax.{Decl, Declare}
 use Rattle.c_types_model.specs.Types.{CType}
 use Rattle.c_types_table.specs.declared.ids.TypeId.{TypeId}
 use Rattle.c_types_table.specs.Tables.{at}
-use Rattle.c_types_rules.specs.Checked.{Checked, Fine, Large, Broken, ◌>>=◌, ◌>>◌}
+use Rattle.c_types_rules.specs.Checked.{Checked, Fine, Noted, Broken, ◌>>=◌, ◌>>◌}
 use Rattle.c_types_rules.specs.Environment.{Environment, Meaning, LocalNamed, declarable, with_name}
 use Rattle.c_types_rules.specs.Expressions.{parameter_scope}
 use Rattle.annot_reader_rules.specs.Misplaced.{bare_annots, bare_parts, bare_rest}
@@ -47,7 +47,7 @@ name_around env name m = record { tags = refl; structs = refl; depth = as_deep n
 module _ {B : Type 0} (is : Environment → B → Type 0) (y : B) where
   after_test : (env : Environment) (name : List ℕ) (m : Meaning) (c : Checked (Unit {0})) → Tells is (c >> Fine (with_name env name m)) (Ok y) → (e : Environment) × is e y × IsAround env e
   after_test env name m (Fine x) h = (with_name env name m, h, name_around env name m)
-  after_test env name m (Large x) h = (with_name env name m, h, name_around env name m)
+  after_test env name m (Noted n x) h = (with_name env name m, h, name_around env name m)
   after_test env name m (Broken a b) h = absurd h
 
   scope_found : (d : Decl) (env : Environment) (place : ℕ) (t : CType) → Tells is (parameter_scope d env place t) (Ok y) → (e : Environment) × is e y × IsAround env e

@@ -7,7 +7,7 @@ use Rattle.c_syntax.specs.declared.declaration.Item.{Item}
 use Rattle.c_syntax.specs.Nodes.{Nodes}
 use Rattle.c_syntax.specs.Syntax.{Annots, Annotate, NoAnnots, MoreAnnots, Item as Factors, Items, MoreItems, OneFactor, TwoFactors, NameAtom, NumberAtom, ReturnAtom, SizeofAtom}
 use Rattle.c_syntax.specs.Stands.{StandsItem}
-use Rattle.c_types_rules.specs.Checked.{Checked, Fine, Large, Broken, keep, need, ◌>>=◌, ◌>>◌}
+use Rattle.c_types_rules.specs.Checked.{Checked, Fine, Noted, Broken, keep, need, ◌>>=◌, ◌>>◌}
 use Rattle.annot_reader_rules.specs.Functions.{FunctionKind, all_noted, among, commit_word, cut_word, holds_word, is_empty, is_filled, mutex, names_in, noted, sync_word, two_items}
 use Rattle.annot_reader_rules.specs.Notes.{Notes, Parameter}
 use Rattle.annot_reader_rules.specs.Regions.{Signature, alone, key_parameter, one_item, size}
@@ -84,7 +84,7 @@ every_filled from (OneFactor at (NameAtom name)) xs is y h = more (names_in from
   where
     more : (c : Checked (List (List ℕ))) → Tells is (c >>= λ ns. Fine (name ∷ ns)) (Ok y) → (ns : List (List ℕ)) × is ns y × (is_empty ns ≡ false)
     more (Fine ns) g = (name ∷ ns, g, refl)
-    more (Large ns) g = (name ∷ ns, g, refl)
+    more (Noted n ns) g = (name ∷ ns, g, refl)
     more (Broken a b) g = absurd g
 every_filled from (OneFactor at (NumberAtom n)) xs is y h = absurd h
 every_filled from (OneFactor at ReturnAtom) xs is y h = absurd h

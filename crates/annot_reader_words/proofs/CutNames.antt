@@ -6,7 +6,7 @@ use Rattle.c_syntax.specs.declared.declaration.Item.{Item}
 use Rattle.c_syntax.specs.Nodes.{Nodes}
 use Rattle.c_syntax.specs.Syntax.{Item as Factors, Items, NoItems, MoreItems, OneFactor, TwoFactors, NameAtom, NumberAtom, ReturnAtom, SizeofAtom}
 use Rattle.c_syntax.specs.Stands.{StandsItem, StandItems}
-use Rattle.c_types_rules.specs.Checked.{Checked, Fine, Large, Broken, ◌>>=◌}
+use Rattle.c_types_rules.specs.Checked.{Checked, Fine, Noted, Broken, ◌>>=◌}
 use Rattle.annot_reader_rules.specs.Cuts.{named}
 use Rattle.annot_reader_rules.specs.Functions.{names_in}
 use Rattle.annot_reader_words.specs.declared.error.AnnotationError.{AnnotationError}
@@ -72,9 +72,9 @@ one_more : (cut name : List ℕ) (found b : Bool) (c : Checked (List (List ℕ))
 one_more cut name found b (Fine ns) (Ok z) e h = h ∙ (turned b found (named cut ns) ∙ ap (λ x. found || (x || named cut ns)) e)
 one_more cut name found b (Fine ns) (Err Memory) e h = tt
 one_more cut name found b (Fine ns) (Err (Rule f n)) e h = absurd h
-one_more cut name found b (Large ns) (Ok z) e h = h ∙ (turned b found (named cut ns) ∙ ap (λ x. found || (x || named cut ns)) e)
-one_more cut name found b (Large ns) (Err Memory) e h = tt
-one_more cut name found b (Large ns) (Err (Rule f n)) e h = absurd h
+one_more cut name found b (Noted n ns) (Ok z) e h = h ∙ (turned b found (named cut ns) ∙ ap (λ x. found || (x || named cut ns)) e)
+one_more cut name found b (Noted n ns) (Err Memory) e h = tt
+one_more cut name found b (Noted m ns) (Err (Rule f n)) e h = absurd h
 one_more cut name found b (Broken f n) (Ok z) e h = absurd h
 one_more cut name found b (Broken f n) (Err (Rule g m)) e h = h
 one_more cut name found b (Broken f n) (Err Memory) e h = tt

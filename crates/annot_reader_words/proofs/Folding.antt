@@ -1,10 +1,10 @@
 -- Loops over lists that stand for parts of a source, where each step may break a rule.
 use Rattle.std.proofs.Common.{◌≡◌, ℕ, ◌+◌, ◌<◌, ◌≤◌, List, [], ◌∷◌, length, get_or, drop, Result, Ok, Err, refl, ap, subst, add-one, drop-cons}
 use Rattle.std.proofs.Math.ListN.{drop_of_length-le}
-use Rattle.c_types_rules.specs.Checked.{Checked, Fine, Large, Broken, ◌>>=◌, large}
+use Rattle.c_types_rules.specs.Checked.{Checked, Fine, Noted, Broken, ◌>>=◌, noting}
 use Rattle.annot_reader_words.specs.declared.error.AnnotationError.{AnnotationError}
 use Rattle.annot_reader_words.specs.Answers.{Tells}
-use Rattle.annot_reader_words.proofs.Composing.{large_tells, stops}
+use Rattle.annot_reader_words.proofs.Composing.{noting_tells, stops}
 
 -- each stands for the one at its place
 abbrev pub AllStand : {V X : Type 0} → (V → X → Type 0) → List V → List X → Type 0
@@ -19,7 +19,7 @@ fold step (x ∷ xs) s = step x s >>= fold step xs
 
 pub same_after : {A B : Type 0} (c : Checked A) (f g : A → Checked B) → ((x : A) → f x ≡ g x) → (c >>= f) ≡ (c >>= g)
 same_after (Fine x) f g h = h x
-same_after (Large x) f g h = ap large (h x)
+same_after (Noted n x) f g h = ap (noting n) (h x)
 same_after (Broken a b) f g h = refl
 
 -- what is left decides
@@ -58,7 +58,7 @@ module _ {V X S Y Z : Type 0} (Stands : V → X → Type 0) (step : X → S → 
 
   passed : (c : Checked S) (x : Checked S) (xs : List X) (y : Y) → Tells is x (Ok y) → ((r : Result Z AnnotationError) → Tells js (x >>= fold step xs) r → Tells js c r) → (s : S) × is s y × ((r : Result Z AnnotationError) → Tells js (fold step xs s) r → Tells js c r)
   passed c (Fine s) xs y h f = (s, h, f)
-  passed c (Large s) xs y h f = (s, h, λ r k. f r (large_tells js (fold step xs s) r k))
+  passed c (Noted n s) xs y h f = (s, h, λ r k. f r (noting_tells js n (fold step xs s) r k))
   passed c (Broken a b) xs y h f = absurd h
 
   -- past a step that breaks no rule

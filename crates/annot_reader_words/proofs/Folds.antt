@@ -1,7 +1,7 @@
 -- What lists say, as steps one after another.
 use Rattle.std.proofs.Common.{◌≡◌, ℕ, Option, refl, ap}
 use Rattle.c_syntax.specs.Syntax.{Decl, Decls, Annots, NoDecls, MoreDecls, Declare, NoAnnots, MoreAnnots, Annotate}
-use Rattle.c_types_rules.specs.Checked.{Checked, Fine, Large, Broken, large, ◌>>=◌, ◌>>◌}
+use Rattle.c_types_rules.specs.Checked.{Checked, Fine, Noted, Broken, noting, ◌>>=◌, ◌>>◌}
 use Rattle.annot_reader_rules.specs.Functions.{guards, guard_word, none_again}
 use Rattle.annot_reader_words.specs.Steps.{again, guard_step}
 use Rattle.annot_reader_words.proofs.Folding.{fold, same_after}
@@ -17,7 +17,7 @@ again_step d s = again d
 
 then_is : {A : Type 0} (c : Checked (Unit {0})) (d : Checked A) (f : Unit {0} → Checked A) → d ≡ f tt → (c >> d) ≡ (c >>= f)
 then_is (Fine x) d f e = e
-then_is (Large x) d f e = ap large e
+then_is (Noted n x) d f e = ap (noting n) e
 then_is (Broken a b) d f e = refl
 
 pub again_fold : (ds : Decls) → none_again ds ≡ fold again_step (decls_in ds) tt

@@ -1,6 +1,6 @@
 -- How answers agree with what the rules of annotations say.
 use Rattle.std.specs.Prelude.{◌≡◌, Result, Ok, Err}
-use Rattle.c_types_rules.specs.Checked.{Checked, Fine, Large, Broken}
+use Rattle.c_types_rules.specs.Checked.{Checked, Fine, Noted, Broken}
 use Rattle.annot_reader_words.specs.declared.error.AnnotationError.{AnnotationError}
 use Rattle.annot_reader_words.specs.declared.error.AnnotationError.TheVariants.{Rule, Memory}
 
@@ -9,7 +9,7 @@ use Rattle.annot_reader_words.specs.declared.error.AnnotationError.TheVariants.{
 abbrev pub Tells : {A B : Type 0} → (A → B → Type 0) → Checked A → Result B AnnotationError → Type 0
 Tells is c (Err Memory) = Unit {0}
 Tells is (Fine x) (Ok y) = is x y
-Tells is (Large x) (Ok y) = is x y
+Tells is (Noted n x) (Ok y) = is x y
 Tells is (Broken from rule) (Err (Rule f r)) = (f ≡ from) × (r ≡ rule)
 Tells is _ _ = ⊥
 

@@ -9,7 +9,7 @@ use Rattle.memory_map.specs.declared.placed.Placed.{Placed}
 use Rattle.c_builtins.specs.Table.{first_source_function}
 use Rattle.c_scopes.specs.Scopes.{same_name, meaning_in}
 use Rattle.c_types_model.specs.Types.{CType, Void, Integer, PointerTo, ArrayOf, StructOf, UndefinedStruct, FunctionOf}
-use Rattle.c_types_rules.specs.Checked.{Checked, Fine, Large, Broken, keep, ◌>>=◌, ◌>>◌}
+use Rattle.c_types_rules.specs.Checked.{Checked, Fine, Noted, Broken, keep, ◌>>=◌, ◌>>◌}
 use Rattle.c_types_rules.specs.Expressions.{annotation_types, declared_name, declared_type}
 use Rattle.c_types_rules.specs.Environment.{Struct, Meaning, FunctionNamed, GlobalNamed, LocalNamed, is_reserved}
 use Rattle.c_types_rules.specs.Limits.{Which, Outcome, Typed, Limit, Rule, first_limit, outcome}
@@ -235,7 +235,7 @@ unless p None = Typed p
 
 abbrev decided : Checked Program → Outcome
 decided (Fine p) = unless p (first_limit true p)
-decided (Large p) = unless p (first_limit false p)
+decided (Noted n p) = unless p (first_limit (not n.large) p)
 decided (Broken from rule) = Rule from rule
 
 unless_typed : (q p : Program) (w : Option Which) → Good q → unless q w ≡ Typed p → Good p
@@ -244,7 +244,7 @@ unless_typed q p (Some w) g e = absurd cc
 
 decided_good : (c : Checked Program) (p : Program) → Holds Good c → decided c ≡ Typed p → Good p
 decided_good (Fine q) p g e = unless_typed q p (first_limit true q) g e
-decided_good (Large q) p g e = unless_typed q p (first_limit false q) g e
+decided_good (Noted n q) p g e = unless_typed q p (first_limit (not n.large) q) g e
 decided_good (Broken from rule) p g e = absurd cc
 
 within : (p : Program) (f : ℕ) (b : Bool) (x : Function) → cond b None (slice_get p.functions (f - builtin_count)) ≡ Some x → slice_get p.functions (f - builtin_count) ≡ Some x

@@ -2,42 +2,47 @@
 use Rattle.std.proofs.Common.{◌≡◌, ℕ, Bool, true, false, List, refl}
 use Rattle.c_syntax.specs.Syntax.{Expr, MaybeExpr, Decl, Decls, Parts, Rest, Stmt, Entries, Entry, First, NoExpr, OneExpr, Declare, NoDecls, MoreDecls, Plain, Braces, NoRest, Initial, Body, Members, Block, Expression, If, IfElse, While, Do, For, Break, Continue, Return, NoEntries, MoreEntries, LocalEntry, StmtEntry, NoFirst, LocalFirst, ExprFirst}
 use Rattle.c_types_model.specs.Types.{CType, Void, Integer, PointerTo, ArrayOf, StructOf, UndefinedStruct, FunctionOf}
-use Rattle.c_types_rules.specs.Checked.{Checked, Fine, Large, Broken, keep, large, ◌>>=◌, ◌>>◌}
+use Rattle.c_types_rules.specs.Checked.{Checked, Fine, Noted, Notes, Broken, heard, keep, noting, ◌>>=◌, ◌>>◌}
 use Rattle.c_types_rules.specs.Environment.{Environment, inner}
 use Rattle.c_types_rules.specs.Operators.{assigned, fits}
 use Rattle.c_types_rules.specs.TypedTree.{Value, MaybeValue, Statements, Convert, joined, value_type}
 use Rattle.c_types_rules.specs.TypedTree as typed
-use Rattle.c_types_rules.specs.Expressions.{start_of}
+use Rattle.c_types_rules.specs.Expressions.{start_of, parameter_types}
 use Rattle.c_types_rules.specs.Statements.{Declared, Surroundings, condition_in, entries, entry, first, first_value, local, locals_of, looping, maybe_condition, maybe_in, outside, returned, start_of_stmt, statement, value_in}
-use Rattle.c_types_rules.specs.Sources.{block_of, body_of, result_of}
+use Rattle.c_types_rules.specs.Sources.{block_of, body_of, result_of, block_body, nearest}
 use Rattle.c_semantics.specs.Returned.{IsConverted, Converts, AllConvert}
 use Rattle.c_semantics.specs.Values.{is_read}
 
 -- what holds of what is found, where something is
 abbrev pub Holds : {A : Type 0} → (A → Type 0) → Checked A → Type 0
 Holds P (Fine x) = P x
-Holds P (Large x) = P x
+Holds P (Noted n x) = P x
 Holds P (Broken from rule) = Unit {0}
 
-pub holds_large : {A : Type 0} (P : A → Type 0) (c : Checked A) → Holds P c → Holds P (large c)
-holds_large P (Fine x) h = h
-holds_large P (Large x) h = h
-holds_large P (Broken from rule) h = h
+pub holds_noting : {A : Type 0} (P : A → Type 0) (n : Notes) (c : Checked A) → Holds P c → Holds P (noting n c)
+holds_noting P n (Fine x) h = h
+holds_noting P n (Noted m x) h = h
+holds_noting P n (Broken from rule) h = h
+
+pub holds_heard : {A : Type 0} (P : A → Type 0) (c : Checked A) → Holds P c → Holds (λ a. P a.0) (heard c)
+holds_heard P (Fine x) h = h
+holds_heard P (Noted n x) h = h
+holds_heard P (Broken from rule) h = h
 
 pub holds_then : {A B : Type 0} (P : A → Type 0) (Q : B → Type 0) (c : Checked A) (f : A → Checked B) → Holds P c → ((x : A) → P x → Holds Q (f x)) → Holds Q (c >>= f)
 holds_then P Q (Fine x) f h g = g x h
-holds_then P Q (Large x) f h g = holds_large Q (f x) (g x h)
+holds_then P Q (Noted n x) f h g = holds_noting Q n (f x) (g x h)
 holds_then P Q (Broken from rule) f h g = tt
 
 -- whatever is found first
 pub holds_on : {A B : Type 0} (Q : B → Type 0) (c : Checked A) (f : A → Checked B) → ((x : A) → Holds Q (f x)) → Holds Q (c >>= f)
 holds_on Q (Fine x) f g = g x
-holds_on Q (Large x) f g = holds_large Q (f x) (g x)
+holds_on Q (Noted n x) f g = holds_noting Q n (f x) (g x)
 holds_on Q (Broken from rule) f g = tt
 
 pub holds_after : {A B : Type 0} (Q : B → Type 0) (c : Checked A) (y : Checked B) → Holds Q y → Holds Q (c >> y)
 holds_after Q (Fine x) y h = h
-holds_after Q (Large x) y h = holds_large Q y h
+holds_after Q (Noted n x) y h = holds_noting Q n y h
 holds_after Q (Broken from rule) y h = tt
 
 pub holds_kept : {B : Type 0} (Q : B → Type 0) (from rule : ℕ) (b : Bool) (y : Checked B) → (b ≡ true → Holds Q y) → Holds Q (keep from rule b >> y)
@@ -177,8 +182,11 @@ block_converts s p d = statement_converts s p d
 abbrev pub Gives : CType → typed.Body → Type 0
 Gives t b = Converts (result_of t) b.statements
 
-pub body_gives : (env : Environment) (t : CType) (ps : Parts) (s : Stmt) → Holds (Gives t) (body_of env t ps s)
-body_gives env t ps s = search (holds_on, then_block)
+block_gives : (env : Environment) (t : CType) (ps : Parts) (s : Stmt) → Holds (Gives t) (block_body env t ps s)
+block_gives env t ps s = search (holds_on, then_block)
   where
-    then_block : (d : Declared) → Holds (Gives t) (block_of s (record { result = result_of t; in_loop = false }) d >>= (λ a. Fine (record { from = start_of_stmt s; locals = a.0; statements = a.1 })))
-    then_block d = holds_then (Made (result_of t)) (Gives t) (block_of s (record { result = result_of t; in_loop = false }) d) (λ a. Fine (record { from = start_of_stmt s; locals = a.0; statements = a.1 })) (block_converts s (record { result = result_of t; in_loop = false }) d) (λ a h. h)
+    then_block : (d : Declared) → Holds (Gives t) (heard (block_of s (record { result = result_of t; in_loop = false }) d) >>= (λ a. Fine (record { from = start_of_stmt s; locals = a.0.0; statements = a.0.1; unevaluated = a.1 })))
+    then_block d = holds_then (λ a. Made (result_of t) a.0) (Gives t) (heard (block_of s (record { result = result_of t; in_loop = false }) d)) (λ a. Fine (record { from = start_of_stmt s; locals = a.0.0; statements = a.0.1; unevaluated = a.1 })) (holds_heard (Made (result_of t)) (block_of s (record { result = result_of t; in_loop = false }) d) (block_converts s (record { result = result_of t; in_loop = false }) d)) (λ a h. h)
+
+pub body_gives : (env : Environment) (t : CType) (ps : Parts) (s : Stmt) → Holds (Gives t) (body_of env t ps s)
+body_gives env t ps s = holds_on (Gives t) (heard (parameter_types (nearest ps) (inner env) 0)) _ (λ us. holds_then (Gives t) (Gives t) (block_body env t ps s) _ (block_gives env t ps s) (λ b h. h))

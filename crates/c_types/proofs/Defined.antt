@@ -11,7 +11,7 @@ use Rattle.c_types_model.specs.Layouts.{greatest_align}
 use Rattle.c_types_model.specs.Limits.{greatest_object, most_members}
 use Rattle.c_types_table.specs.Tables.{at, types_of}
 use Rattle.c_types_model.specs.declared.extent.Extent.{Extent}
-use Rattle.c_types_rules.specs.Checked.{Checked, Fine, small, ◌>>◌}
+use Rattle.c_types_rules.specs.Checked.{Checked, Fine, small, ◌>>◌, Notes}
 use Rattle.c_types_rules.specs.Environment as environment
 use Rattle.c_types_rules.specs.Environment.{Environment, extents}
 use Rattle.c_types_rules.specs.Limits.{all_keep, few_members}
@@ -23,7 +23,7 @@ use Rattle.c_types_nodes.specs.Tables.{Keeps}
 use Rattle.c_types_program.specs.Declarations.{IsFunction, IsGlobal, function_in, global_in}
 use Rattle.c_types_structs.specs.Members.{MemberList}
 use Rattle.c_types_environment.specs.Reading.{struct_with}
-use Rattle.c_types_environment.specs.States.{State, is_small_struct, with_struct}
+use Rattle.c_types_environment.specs.States.{State, is_small_struct, with_struct, notes_of}
 use Rattle.c_types_expressions.specs.Found.{Found}
 use Rattle.c_types_expressions.proofs.Kept.{same_table}
 use Rattle.c_types.specs.declared.declarations.Declarations.{Declarations}
@@ -40,12 +40,12 @@ greatest_some [] = omega arith
 greatest_some (e ∷ es) = let h = greatest_some es in omega arith
 
 -- a struct that is small, where nothing is noted
-small_struct : (f g : Bool) (n : ℕ) → Found {A = Unit {0}} {B = Unit {0}} f g IsNothing (small (nat_le n greatest_object)) (Ok tt) → g ≡ false → (f ≡ false) × (n ≤ greatest_object)
+small_struct : (f g : Notes) (n : ℕ) → Found {A = Unit {0}} {B = Unit {0}} f g IsNothing (small (nat_le n greatest_object)) (Ok tt) → g.large ≡ false → (f.large ≡ false) × (n ≤ greatest_object)
 small_struct f g n p e = by (nat_le n greatest_object) refl p
   where
-    by : (b : Bool) → nat_le n greatest_object ≡ b → Found {A = Unit {0}} {B = Unit {0}} f g IsNothing (small b) (Ok tt) → (f ≡ false) × (n ≤ greatest_object)
-    by true h q = (sym q.1 ∙ e, leb-true n greatest_object h)
-    by false h q = absurd cc
+    by : (b : Bool) → nat_le n greatest_object ≡ b → Found {A = Unit {0}} {B = Unit {0}} f g IsNothing (small b) (Ok tt) → (f.large ≡ false) × (n ≤ greatest_object)
+    by true h q = (sym (ap (λ m. m.large) q.1) ∙ e, leb-true n greatest_object h)
+    by false h q = let large : g.large ≡ true = ap (λ m. m.large) q.1 in absurd cc
 
 -- one struct more
 one_more : (P : environment.Struct → Bool) (ss : List environment.Struct) (s : environment.Struct) → all_keep P (ss ++ s ∷ []) ≡ (all_keep P ss && P s)
@@ -62,7 +62,7 @@ one_more P (x ∷ ss) s = ap (λ b. P x && b) (one_more P ss s) ∙ by (P x) (al
 
 module _ (d : Declarations) (s : State) (m : MemberList) (n : Declarations)
     (h : IsSound d) (table : s.table ≡ d.env.table) (env : s.env ≡ with_struct d.env.env (members_in d.env.table m))
-    (f : Found {A = Unit {0}} {B = Unit {0}} d.env.found_large s.found_large IsNothing (small (is_small_struct d.env.env (members_in d.env.table m))) (Ok tt))
+    (f : Found {A = Unit {0}} {B = Unit {0}} (notes_of d.env) (notes_of s) IsNothing (small (is_small_struct d.env.env (members_in d.env.table m))) (Ok tt))
     (same : n ≡ record d { env = s; members_are_few = n.members_are_few }) (few : n.members_are_few ≡ (d.members_are_few && nat_le (length m) most_members)) where
   abbrev ms : List (List ℕ × CType)
   ms = members_in d.env.table m
@@ -85,7 +85,7 @@ module _ (d : Declarations) (s : State) (m : MemberList) (n : Declarations)
     functions = subst (λ t. All (IsFunction t) d.functions.items) (sym table) h.functions;
     globals = subst (λ t. All (IsGlobal t) d.globals.items) (sym table) h.globals;
     members = few_are;
-    small = λ e. let p = small_struct d.env.found_large s.found_large one.extent.size f e in
+    small = λ e. let p = small_struct (notes_of d.env) (notes_of s) one.extent.size f e in
         subst (All IsSmall) (sym structs_are) (All-append IsSmall d.env.env.structs (one ∷ []) (h.small p.0) (All-cons IsSmall one [] p.1 (All-nil IsSmall)));
     aligned = subst (All IsAligned) (sym structs_are) (All-append IsAligned d.env.env.structs (one ∷ []) h.aligned (All-cons IsAligned one [] (greatest_some (extents_of (extents d.env.env) ms)) (All-nil IsAligned)));
     outermost = ap (λ e. e.scopes) env ∙ (h.outermost ∙ ap (λ e. innermost e.scopes ∷ []) (sym env));
@@ -97,26 +97,26 @@ module _ (d : Declarations) (s : State) (m : MemberList) (n : Declarations)
   struct_program : program_of n ≡ record (program_of d) { structs = (program_of d).structs ++ one ∷ [] }
   struct_program =
       ap program_of same
-      ∙ (ap (λ e. record { structs = e.structs; functions = map (function_in s.table) d.functions.items; globals = map (global_in s.table.types) d.globals.items; names = innermost e.scopes }) env
-      ∙ ap (λ t. record { structs = d.env.env.structs ++ one ∷ []; functions = map (function_in t) d.functions.items; globals = map (global_in t.types) d.globals.items; names = innermost d.env.env.scopes }) table)
+      ∙ (ap (λ e. record { structs = e.structs; functions = map (function_in s.table) d.functions.items; globals = map (global_in s.table) d.globals.items; names = innermost e.scopes }) env
+      ∙ ap (λ t. record { structs = d.env.env.structs ++ one ∷ []; functions = map (function_in t) d.functions.items; globals = map (global_in t) d.globals.items; names = innermost d.env.env.scopes }) table)
 
   pub struct_follows : Steps {B = Unit {0}} d n (λ p _. program_of n ≡ p) (one_struct d.env.env (program_of d) ms) (Ok tt)
   struct_follows = record { agrees = by (is_small_struct d.env.env ms) f; kept = struct_goes }
     where
-      large_is : n.env.found_large ≡ s.found_large
-      large_is = ap (λ x. x.env.found_large) same
+      large_is : (notes_of n.env) ≡ (notes_of s)
+      large_is = ap (λ x. notes_of x.env) same
 
-      by : (b : Bool) → Found {A = Unit {0}} {B = Unit {0}} d.env.found_large s.found_large IsNothing (small b) (Ok tt)
-          → Found {B = Unit {0}} d.env.found_large n.env.found_large (λ p _. program_of n ≡ p) (small b >> Fine (record (program_of d) { structs = (program_of d).structs ++ one ∷ [] })) (Ok tt)
+      by : (b : Bool) → Found {A = Unit {0}} {B = Unit {0}} (notes_of d.env) (notes_of s) IsNothing (small b) (Ok tt)
+          → Found {B = Unit {0}} (notes_of d.env) (notes_of n.env) (λ p _. program_of n ≡ p) (small b >> Fine (record (program_of d) { structs = (program_of d).structs ++ one ∷ [] })) (Ok tt)
       by true q = (struct_program, large_is ∙ q.1)
       by false q = (struct_program, large_is ∙ q.1)
 
 -- where no struct is defined the answer is out of memory
-pub struct_stops : (d n : Declarations) (m : MemberList) (s : State) (e : TypeError) → Found {A = Unit {0}} {B = Unit {0}} d.env.found_large s.found_large IsNothing (small (is_small_struct d.env.env (members_in d.env.table m))) (Err e)
+pub struct_stops : (d n : Declarations) (m : MemberList) (s : State) (e : TypeError) → Found {A = Unit {0}} {B = Unit {0}} (notes_of d.env) (notes_of s) IsNothing (small (is_small_struct d.env.env (members_in d.env.table m))) (Err e)
     → Steps {B = Unit {0}} d n (λ p _. program_of n ≡ p) (one_struct d.env.env (program_of d) (members_in d.env.table m)) (Err e)
 struct_stops d n m s e h = by (is_small_struct d.env.env (members_in d.env.table m)) e h
   where
-    by : (b : Bool) (e : TypeError) → Found {A = Unit {0}} {B = Unit {0}} d.env.found_large s.found_large IsNothing (small b) (Err e)
+    by : (b : Bool) (e : TypeError) → Found {A = Unit {0}} {B = Unit {0}} (notes_of d.env) (notes_of s) IsNothing (small b) (Err e)
         → Steps {B = Unit {0}} d n (λ p _. program_of n ≡ p) (small b >> Fine (record (program_of d) { structs = (program_of d).structs ++ struct_with (extents d.env.env) (members_in d.env.table m) ∷ [] })) (Err e)
     by b Memory h = record { agrees = tt; kept = tt }
     by true (Rule from rule) h = absurd h

@@ -1,4 +1,5 @@
 -- Whole sources: their functions named main, and what they are in the end.
+use Rattle.c_types_environment.specs.States.{notes_of}
 use Rattle.std.proofs.Common.{◌≡◌, ℕ, suc, ◌≤◌, Bool, true, false, not, ◌&&◌, ◌||◌, is_some, List, [], ◌∷◌, length, map, drop, Option, Some, None, Result, Ok, Err, refl, sym, ap, ◌∙◌, subst}
 use Rattle.std.specs.Option.{option_map}
 use Rattle.std.proofs.lemmas.List.{drop_all}
@@ -7,7 +8,7 @@ use Rattle.c_syntax.specs.declared.id.DeclId.{DeclId}
 use Rattle.c_syntax.specs.Nodes.{Nodes}
 use Rattle.c_syntax.specs.Syntax.{Decl, Decls, NoDecls, MoreDecls}
 use Rattle.c_syntax.specs.Stands.{StandsDecl, StandDecls}
-use Rattle.c_types_rules.specs.Checked.{Checked, Fine, Large, Broken, keep, large, ◌>>=◌, ◌>>◌}
+use Rattle.c_types_rules.specs.Checked.{Checked, Fine, Noted, Broken, keep, noting, ◌>>=◌, ◌>>◌, Notes}
 use Rattle.c_types_rules.specs.Sources as sources
 use Rattle.c_types_rules.specs.Sources.{Program, declaration, declarations, has_main, main, nothing, program, tags_of}
 use Rattle.c_types_rules.specs.Limits as limits
@@ -26,7 +27,7 @@ use Rattle.c_types.specs.declared.source.TypedSource.{TypedSource}
 use Rattle.c_types.specs.Answers.{IsCheckedSource}
 use Rattle.c_types.specs.States.{DeclaresNothing, Ends, Follows, GoesOn, program_of}
 use Rattle.c_types.specs.Errors.{by_type_error}
-use Rattle.c_types.specs.Pieces.{finished, noted}
+use Rattle.c_types.specs.Pieces.{finished}
 use Rattle.c_types.proofs.Stepping.{error_seen}
 use Rattle.c_types.proofs.Limited.{large_is_limited}
 
@@ -60,8 +61,8 @@ other_item t f name text r n m e w = ap (λ b. b && is_some (option_map (body_in
 pub record RestOfAll (N : Nodes) (old now : Declarations) (is : List DeclId) (ds : Decls) : Type 0 where
   pub rest : Decls
   pub stand : StandDecls N is rest
-  pub go_on : (h : Bool) (p : Program) → Found {B = Program} now.env.found_large h (λ x y. y ≡ x) (declarations old.env.env.tags (program_of now) rest) (Ok p) → Found {B = Program} old.env.found_large h (λ x y. y ≡ x) (declarations old.env.env.tags (program_of old) ds) (Ok p)
-  pub stop : (h : Bool) (e : TypeError) → Found {B = Program} now.env.found_large h (λ x y. y ≡ x) (declarations old.env.env.tags (program_of now) rest) (Err e) → Found {B = Program} old.env.found_large h (λ x y. y ≡ x) (declarations old.env.env.tags (program_of old) ds) (Err e)
+  pub go_on : (h : Notes) (p : Program) → Found {B = Program} (notes_of now.env) h (λ x y. y ≡ x) (declarations old.env.env.tags (program_of now) rest) (Ok p) → Found {B = Program} (notes_of old.env) h (λ x y. y ≡ x) (declarations old.env.env.tags (program_of old) ds) (Ok p)
+  pub stop : (h : Notes) (e : TypeError) → Found {B = Program} (notes_of now.env) h (λ x y. y ≡ x) (declarations old.env.env.tags (program_of now) rest) (Err e) → Found {B = Program} (notes_of old.env) h (λ x y. y ≡ x) (declarations old.env.env.tags (program_of old) ds) (Err e)
 
 pub all_left : (N : Nodes) (d : Declarations) (is : List DeclId) (ds : Decls) → StandDecls N is ds → RestOfAll N d d is ds
 all_left N d is ds s = record { rest = ds; stand = s; go_on = λ h p q. q; stop = λ h e q. q }
@@ -74,48 +75,48 @@ module _ (N : Nodes) (old now new : Declarations) (i : DeclId) (is : List DeclId
   one_done p = by r.rest r.stand r.go_on r.stop
     where
       by : (rest : Decls) → StandDecls N (i ∷ is) rest
-          → ((k : Bool) (q : Program) → Found {B = Program} now.env.found_large k (λ x y. y ≡ x) (declarations old.env.env.tags (program_of now) rest) (Ok q) → Found {B = Program} old.env.found_large k (λ x y. y ≡ x) (declarations old.env.env.tags (program_of old) ds) (Ok q))
-          → ((k : Bool) (e : TypeError) → Found {B = Program} now.env.found_large k (λ x y. y ≡ x) (declarations old.env.env.tags (program_of now) rest) (Err e) → Found {B = Program} old.env.found_large k (λ x y. y ≡ x) (declarations old.env.env.tags (program_of old) ds) (Err e))
+          → ((k : Notes) (q : Program) → Found {B = Program} (notes_of now.env) k (λ x y. y ≡ x) (declarations old.env.env.tags (program_of now) rest) (Ok q) → Found {B = Program} (notes_of old.env) k (λ x y. y ≡ x) (declarations old.env.env.tags (program_of old) ds) (Ok q))
+          → ((k : Notes) (e : TypeError) → Found {B = Program} (notes_of now.env) k (λ x y. y ≡ x) (declarations old.env.env.tags (program_of now) rest) (Err e) → Found {B = Program} (notes_of old.env) k (λ x y. y ≡ x) (declarations old.env.env.tags (program_of old) ds) (Err e))
           → RestOfAll N old new is ds
       by NoDecls s go stop = absurd cc
       by (MoreDecls x xs) (j, js, e, s, t) go stop =
           let first : StandsDecl N i x = (let same : j ≡ i = cc in subst (λ z. StandsDecl N z x) same s) in
           let others : StandDecls N is xs = (let same : js ≡ is = cc in subst (λ z. StandDecls N z xs) same t) in
-          let here : Found {B = Unit {0}} now.env.found_large new.env.found_large (λ q _. program_of new ≡ q) (step x) (Ok tt) =
-          subst (λ g. Found {B = Unit {0}} now.env.found_large new.env.found_large (λ q _. program_of new ≡ q) (declaration g (program_of now) x) (Ok tt)) tags (p x first).agrees in
+          let here : Found {B = Unit {0}} (notes_of now.env) (notes_of new.env) (λ q _. program_of new ≡ q) (step x) (Ok tt) =
+          subst (λ g. Found {B = Unit {0}} (notes_of now.env) (notes_of new.env) (λ q _. program_of new ≡ q) (declaration g (program_of now) x) (Ok tt)) tags (p x first).agrees in
           record {
             rest = xs;
             stand = others;
-            go_on = λ k q u. go k q (gone_on now.env.found_large new.env.found_large k (λ q _. program_of new ≡ q) (λ y z. z ≡ y) (step x) (λ q. declarations old.env.env.tags q xs) tt (Ok q) here (λ z m. subst (λ w. Found new.env.found_large k (λ y z. z ≡ y) (declarations old.env.env.tags w xs) (Ok q)) m u));
-            stop = λ k e u. stop k e (gone_on now.env.found_large new.env.found_large k (λ q _. program_of new ≡ q) (λ y z. z ≡ y) (step x) (λ q. declarations old.env.env.tags q xs) tt (Err e) here (λ z m. subst (λ w. Found new.env.found_large k (λ y z. z ≡ y) (declarations old.env.env.tags w xs) (Err e)) m u));
+            go_on = λ k q u. go k q (gone_on (notes_of now.env) (notes_of new.env) k (λ q _. program_of new ≡ q) (λ y z. z ≡ y) (step x) (λ q. declarations old.env.env.tags q xs) tt (Ok q) here (λ z m. subst (λ w. Found (notes_of new.env) k (λ y z. z ≡ y) (declarations old.env.env.tags w xs) (Ok q)) m u));
+            stop = λ k e u. stop k e (gone_on (notes_of now.env) (notes_of new.env) k (λ q _. program_of new ≡ q) (λ y z. z ≡ y) (step x) (λ q. declarations old.env.env.tags q xs) tt (Err e) here (λ z m. subst (λ w. Found (notes_of new.env) k (λ y z. z ≡ y) (declarations old.env.env.tags w xs) (Err e)) m u));
           }
 
   pub one_stops : (e : TypeError) → ((d : Decl) → StandsDecl N i d → Follows now new (declaration now.env.env.tags (program_of now) d) (Err e)) → Ends old (declarations old.env.env.tags (program_of old) ds) (Err e)
   one_stops e p = by r.rest r.stand r.stop
     where
       by : (rest : Decls) → StandDecls N (i ∷ is) rest
-          → ((k : Bool) (e : TypeError) → Found {B = Program} now.env.found_large k (λ x y. y ≡ x) (declarations old.env.env.tags (program_of now) rest) (Err e) → Found {B = Program} old.env.found_large k (λ x y. y ≡ x) (declarations old.env.env.tags (program_of old) ds) (Err e))
+          → ((k : Notes) (e : TypeError) → Found {B = Program} (notes_of now.env) k (λ x y. y ≡ x) (declarations old.env.env.tags (program_of now) rest) (Err e) → Found {B = Program} (notes_of old.env) k (λ x y. y ≡ x) (declarations old.env.env.tags (program_of old) ds) (Err e))
           → Ends old (declarations old.env.env.tags (program_of old) ds) (Err e)
       by NoDecls s stop = absurd cc
       by (MoreDecls x xs) (j, js, q, s, t) stop =
           let first : StandsDecl N i x = (let same : j ≡ i = cc in subst (λ z. StandsDecl N z x) same s) in
-          let here : Found {B = Unit {0}} now.env.found_large new.env.found_large (λ q _. program_of new ≡ q) (step x) (Err e) =
-          subst (λ g. Found {B = Unit {0}} now.env.found_large new.env.found_large (λ q _. program_of new ≡ q) (declaration g (program_of now) x) (Err e)) tags (p x first).agrees in
-          error_seen {B = Program} {C = Unit {0}} old.env.found_large new.env.found_large old.env.found_large (λ x y. y ≡ x) (λ _ _. Unit {0}) (declarations old.env.env.tags (program_of old) ds) e
-          (stop new.env.found_large e (stopped_in {B = Unit {0}} now.env.found_large new.env.found_large new.env.found_large (λ q _. program_of new ≡ q) (λ y z. z ≡ y) (step x) (λ q. declarations old.env.env.tags q xs) e here))
+          let here : Found {B = Unit {0}} (notes_of now.env) (notes_of new.env) (λ q _. program_of new ≡ q) (step x) (Err e) =
+          subst (λ g. Found {B = Unit {0}} (notes_of now.env) (notes_of new.env) (λ q _. program_of new ≡ q) (declaration g (program_of now) x) (Err e)) tags (p x first).agrees in
+          error_seen {B = Program} {C = Unit {0}} (notes_of old.env) (notes_of new.env) (notes_of old.env) (λ x y. y ≡ x) (λ _ _. Unit {0}) (declarations old.env.env.tags (program_of old) ds) e
+          (stop (notes_of new.env) e (stopped_in {B = Unit {0}} (notes_of now.env) (notes_of new.env) (notes_of new.env) (λ q _. program_of new ≡ q) (λ y z. z ≡ y) (step x) (λ q. declarations old.env.env.tags q xs) e here))
 
 pub none_left : (N : Nodes) (old now : Declarations) (ds : Decls) → GoesOn old now → RestOfAll N old now [] ds → Ends old (declarations old.env.env.tags (program_of old) ds) (Ok now)
 none_left N old now ds g r = record { agrees = by r.rest r.stand r.go_on; kept = g }
   where
-    seen : (c : Checked Program) → Found {B = Program} old.env.found_large now.env.found_large (λ x y. y ≡ x) c (Ok (program_of now)) → Found {B = Unit {0}} old.env.found_large now.env.found_large (λ p _. program_of now ≡ p) c (Ok tt)
+    seen : (c : Checked Program) → Found {B = Program} (notes_of old.env) (notes_of now.env) (λ x y. y ≡ x) c (Ok (program_of now)) → Found {B = Unit {0}} (notes_of old.env) (notes_of now.env) (λ p _. program_of now ≡ p) c (Ok tt)
     seen (Fine x) q = q
-    seen (Large x) q = q
+    seen (Noted n x) q = q
     seen (Broken from rule) q = absurd q
 
     by : (rest : Decls) → StandDecls N [] rest
-        → ((k : Bool) (q : Program) → Found {B = Program} now.env.found_large k (λ x y. y ≡ x) (declarations old.env.env.tags (program_of now) rest) (Ok q) → Found {B = Program} old.env.found_large k (λ x y. y ≡ x) (declarations old.env.env.tags (program_of old) ds) (Ok q))
-        → Found {B = Unit {0}} old.env.found_large now.env.found_large (λ p _. program_of now ≡ p) (declarations old.env.env.tags (program_of old) ds) (Ok tt)
-    by NoDecls s go = seen (declarations old.env.env.tags (program_of old) ds) (go now.env.found_large (program_of now) (refl, refl))
+        → ((k : Notes) (q : Program) → Found {B = Program} (notes_of now.env) k (λ x y. y ≡ x) (declarations old.env.env.tags (program_of now) rest) (Ok q) → Found {B = Program} (notes_of old.env) k (λ x y. y ≡ x) (declarations old.env.env.tags (program_of old) ds) (Ok q))
+        → Found {B = Unit {0}} (notes_of old.env) (notes_of now.env) (λ p _. program_of now ≡ p) (declarations old.env.env.tags (program_of old) ds) (Ok tt)
+    by NoDecls s go = seen (declarations old.env.env.tags (program_of old) ds) (go (notes_of now.env) (program_of now) (refl, refl))
     by (MoreDecls x xs) (j, js, e, s, t) go = absurd cc
 
 pub ends_failed : (old : Declarations) (c : Checked Program) (r : Result Declarations TypeError) (e : TypeError) → r ≡ Err e → Ends old c (Err e) → Ends old c r
@@ -124,22 +125,19 @@ ends_failed old c r e same h = subst (λ x. Ends old c x) (sym same) h
 -- ---- the end
 
 whole : (found_large : Bool) → Program → Bool → Outcome
-whole l p b = decided (noted l (keep 0 18 b >> Fine p))
+whole l p b = decided (noting (record { large = l; unevaluated = [] }) (keep 0 18 b >> Fine p))
 
 pub without_main : (l : Bool) (p : Program) → has_main p.functions ≡ false → finished l p ≡ limits.Rule 0 18
 unfolding whole
-without_main true p e = ap (whole true p) e
-without_main false p e = ap (whole false p) e
+without_main l p e = ap (whole l p) e
 
 pub with_limit : (l : Bool) (p : Program) (w : Which) → has_main p.functions ≡ true → first_limit (not l) p ≡ Some w → finished l p ≡ limits.Limit w
 unfolding whole
-with_limit true p w e h = ap (whole true p) e ∙ ap (unless p) h
-with_limit false p w e h = ap (whole false p) e ∙ ap (unless p) h
+with_limit l p w e h = ap (whole l p) e ∙ ap (unless p) h
 
 pub within_limits : (l : Bool) (p : Program) → has_main p.functions ≡ true → first_limit (not l) p ≡ None → finished l p ≡ limits.Typed p
 unfolding whole
-within_limits true p e h = absurd (large_is_limited p h)
-within_limits false p e h = ap (whole false p) e ∙ ap (unless p) h
+within_limits l p e h = ap (whole l p) e ∙ ap (unless p) h
 
 pub small_within : (l : Bool) (p : Program) → first_limit (not l) p ≡ None → l ≡ false
 small_within true p h = absurd (large_is_limited p h)
@@ -152,16 +150,34 @@ checked_as texts tags o p r e h = subst (λ x. IsCheckedSource texts tags x r) (
 
 from_nothing : (tags : List (List ℕ)) (d : Declarations) → DeclaresNothing tags d → program_of d ≡ nothing
 from_nothing tags d h =
-    ap (λ e. record { structs = e.structs; functions = map (function_in d.env.table) d.functions.items; globals = map (global_in d.env.table.types) d.globals.items; names = innermost e.scopes }) h.env
-    ∙ (ap (λ fs. record { structs = []; functions = map (function_in d.env.table) fs; globals = map (global_in d.env.table.types) d.globals.items; names = [] }) h.functions
-    ∙ ap (λ gs. record { structs = []; functions = []; globals = map (global_in d.env.table.types) gs; names = [] }) h.globals)
+    ap (λ e. record { structs = e.structs; functions = map (function_in d.env.table) d.functions.items; globals = map (global_in d.env.table) d.globals.items; names = innermost e.scopes }) h.env
+    ∙ (ap (λ fs. record { structs = []; functions = map (function_in d.env.table) fs; globals = map (global_in d.env.table) d.globals.items; names = [] }) h.functions
+    ∙ ap (λ gs. record { structs = []; functions = []; globals = map (global_in d.env.table) gs; names = [] }) h.globals)
 
 last : Program → Checked Program
 last p = keep 0 18 (has_main p.functions) >> Fine p
 
-noted_on : (old new : Bool) (n : Declarations) (c : Checked Program) → old ≡ false → Found {B = Unit {0}} old new (λ p _. program_of n ≡ p) c (Ok tt) → (c >>= last) ≡ noted new (last (program_of n))
-noted_on old new n (Fine p) e h = ap last (sym h.0) ∙ ap (λ b. noted b (last (program_of n))) (sym (h.1 ∙ e))
-noted_on old new n (Large p) e h = ap (λ q. large (last q)) (sym h.0) ∙ ap (λ b. noted b (last (program_of n))) (sym h.1)
+-- of what is noted the outcome shows only whether an object is too large
+shown : (m : Notes) (l : Bool) (p : Program) (b : Bool) → m.large ≡ l → decided (noting m (keep 0 18 b >> Fine p)) ≡ whole l p b
+unfolding whole
+shown m l p true e = ap (λ x. unless p (first_limit (not x) p)) e
+shown m l p false e = refl
+
+none_shown : (l : Bool) (p : Program) (b : Bool) → l ≡ false → decided (keep 0 18 b >> Fine p) ≡ whole l p b
+unfolding whole
+none_shown l p true e = ap (λ x. unless p (first_limit (not x) p)) (sym e)
+none_shown l p false e = refl
+
+noted_on : (old new : Notes) (n : Declarations) (c : Checked Program) → old.large ≡ false → Found {B = Unit {0}} old new (λ p _. program_of n ≡ p) c (Ok tt) → decided (c >>= last) ≡ finished new.large (program_of n)
+unfolding last whole
+noted_on old new n (Fine p) e h = ap (λ q. decided (last q)) (sym h.0) ∙ none_shown new.large (program_of n) (has_main (program_of n).functions) (ap (λ m. m.large) h.1 ∙ e)
+noted_on old new n (Noted m p) e h =
+    let large : m.large ≡ new.large = sym (ap (λ k. k.large) h.1 ∙ either m.large old.large e) in
+    ap (λ q. decided (noting m (last q))) (sym h.0) ∙ shown m new.large (program_of n) (has_main (program_of n).functions) large
+  where
+    either : (a b : Bool) → b ≡ false → (a || b) ≡ a
+    either true b w = refl
+    either false b w = w
 noted_on old new n (Broken from rule) e h = absurd h
 
 -- the outcome of a source is that of what it declares in the end
@@ -170,7 +186,7 @@ unfolding last
 outcome_is ds d n tags t h e =
     let file : d.env.env.tags ≡ tags_of ds = ap (λ x. x.tags) h.env ∙ t in
     let begun : declarations (tags_of ds) nothing ds ≡ declarations d.env.env.tags (program_of d) ds = ap (λ g. declarations g nothing ds) (sym file) ∙ ap (λ p. declarations d.env.env.tags p ds) (sym (from_nothing tags d h)) in
-    ap (λ c. decided (c >>= last)) begun ∙ ap decided (noted_on d.env.found_large n.env.found_large n (declarations d.env.env.tags (program_of d) ds) h.small e.agrees)
+    ap (λ c. decided (c >>= last)) begun ∙ noted_on (notes_of d.env) (notes_of n.env) n (declarations d.env.env.tags (program_of d) ds) h.small e.agrees
 
 pub outcome_stops : (ds : Decls) (d : Declarations) (tags : List (List ℕ)) (texts : List TextLiteral) (x : TypeError) → tags ≡ tags_of ds → DeclaresNothing tags d → Ends d (declarations d.env.env.tags (program_of d) ds) (Err x) → IsCheckedSource texts (tags_of ds) (outcome ds) (Err (by_type_error x))
 unfolding last
@@ -179,8 +195,8 @@ outcome_stops ds d tags texts x t h e =
     let begun : declarations (tags_of ds) nothing ds ≡ declarations d.env.env.tags (program_of d) ds = ap (λ g. declarations g nothing ds) (sym file) ∙ ap (λ p. declarations d.env.env.tags p ds) (sym (from_nothing tags d h)) in
     checked_as texts (tags_of ds) (outcome ds) (decided (declarations d.env.env.tags (program_of d) ds >>= last)) (Err (by_type_error x)) (ap (λ c. decided (c >>= last)) begun) (by (declarations d.env.env.tags (program_of d) ds) x e)
   where
-    by : (c : Checked Program) (x : TypeError) → Found {B = Unit {0}} d.env.found_large d.env.found_large (λ _ _. Unit {0}) c (Err x) → IsCheckedSource texts (tags_of ds) (decided (c >>= last)) (Err (by_type_error x))
+    by : (c : Checked Program) (x : TypeError) → Found {B = Unit {0}} (notes_of d.env) (notes_of d.env) (λ _ _. Unit {0}) c (Err x) → IsCheckedSource texts (tags_of ds) (decided (c >>= last)) (Err (by_type_error x))
     by c operators.Memory p = tt
     by (Fine q) (operators.Rule a b) p = absurd p
-    by (Large q) (operators.Rule a b) p = absurd p
+    by (Noted n q) (operators.Rule a b) p = absurd p
     by (Broken from rule) (operators.Rule a b) p = p

@@ -36,7 +36,7 @@ use Rattle.c_types_program.specs.Declarations.{IsBody, IsFunction, body_in, func
 use Rattle.c_types_environment.specs.declared.meaning.Meaning.{Meaning as Known}
 use Rattle.c_types_environment.specs.declared.meaning.Meaning.TheVariants as knowns
 use Rattle.c_types_environment.specs.Reading.{meaning_by}
-use Rattle.c_types_environment.specs.States.{State}
+use Rattle.c_types_environment.specs.States.{State, notes_of}
 use Rattle.c_types_expressions.specs.Found.{Finds, Found, Stays}
 use Rattle.c_types_expressions.proofs.Kept.{same_table}
 use Rattle.c_types_statements.specs.Typed.{BodyStands}
@@ -46,7 +46,7 @@ use Rattle.c_types.specs.Pieces.{defined_of, function_of}
 use Rattle.c_types.proofs.Followed.{at_file_is, going_on, program_on, small_before, sound_on}
 use Rattle.c_types.proofs.Naming.{IsProgramOf}
 use Rattle.c_types.proofs.Parts.{IsNode, node_is}
-use Rattle.c_types.proofs.Pushed.{function_goes, function_program, named_goes, named_large, named_program, named_sound, with_one}
+use Rattle.c_types.proofs.Pushed.{function_goes, function_program, named_goes, named_notes, named_program, named_sound, with_one}
 use Rattle.c_types.proofs.Stepping.{breaks, goes_through, goes_to, is_broken, is_kept, stands_still, steps_as, stopped, then_steps, then_stops}
 use Rattle.c_types.proofs.Stepping as stepping
 
@@ -197,7 +197,7 @@ module _ (d : Declarations) (s : State) (n : Declarations) (name : List ℕ) (ty
 
   pub function_new : (from place : ℕ) → place ≡ length d.functions.items → Steps d n (IsFunctionPlace n) (declared_again (program_of d) from t None name) (Ok place)
   function_new from place at =
-      let large : n.env.found_large ≡ d.env.found_large = ap (λ x. x.env.found_large) same ∙ named_large d s name (FunctionNamed number t) h e in
+      let large : (notes_of n.env) ≡ (notes_of d.env) = ap (λ x. notes_of x.env) same ∙ named_notes d s name (FunctionNamed number t) h e in
       let l = length-map d.functions.items (function_in d.env.table) in
       let where_it_is : place ≡ length (program_of d).functions + first_source_function - first_source_function = omega arith in
       stepping.there d n (IsFunctionPlace n) _ place large (program_is ∙ ap (λ k. grown k d.env.table (program_of d)) length_is, where_it_is) goes
@@ -275,8 +275,8 @@ module _ (N : Nodes) (i : DeclId) (e : DeclNode) (there : decl_at N i ≡ Some e
       abbrev BodyFound : Result TypedBody TypeError → Type 0
       BodyFound r = (ps : Parts) (x : Stmt) → StandParts N e.parts ps → StandsStmt N j x → Finds d.env s (BodyStands s.table) (body_of d.env.env t ps x) r
 
-      body_here : (r : Result TypedBody TypeError) → BodyFound r → (from : ℕ) (an : Annots) (b : Base) (ps : Parts) (n : Option (List ℕ)) (q : Rest) (x : Stmt) → IsNode N e from an b ps n q → StandsStmt N j x → Found d.env.found_large s.found_large (BodyStands s.table) (body_of (at_file d.env.env.tags p) t ps x) r
-      body_here r f from an b ps n q x k o = subst (λ v. Found d.env.found_large s.found_large (BodyStands s.table) (body_of v t ps x) r) (sym (at_file_is d h)) (f ps x k.parts o)
+      body_here : (r : Result TypedBody TypeError) → BodyFound r → (from : ℕ) (an : Annots) (b : Base) (ps : Parts) (n : Option (List ℕ)) (q : Rest) (x : Stmt) → IsNode N e from an b ps n q → StandsStmt N j x → Found (notes_of d.env) (notes_of s) (BodyStands s.table) (body_of (at_file d.env.env.tags p) t ps x) r
+      body_here r f from an b ps n q x k o = subst (λ v. Found (notes_of d.env) (notes_of s) (BodyStands s.table) (body_of v t ps x) r) (sym (at_file_is d h)) (f ps x k.parts o)
 
       -- what follows the tests
       tested : (new : Declarations) (r : Result (Unit {0}) TypeError) (from : ℕ) (an : Annots) (b : Base) (ps : Parts) (n : Option (List ℕ)) (q : Rest) (x : Stmt) → IsNode N e from an b ps n q
@@ -300,11 +300,11 @@ module _ (N : Nodes) (i : DeclId) (e : DeclNode) (there : decl_at N i ≡ Some e
         body_given (Declare from an b ps n q) c z o =
             let k = node_is N i e from an b ps n q z there in
             let found = body_here (Ok body) f from an b ps n q c k o in
-            let sound : IsSound (going_on d s) = sound_on d s l h (small_before d.env.found_large s.found_large (BodyStands s.table) (body_of (at_file d.env.env.tags p) t ps c) body found) in
+            let sound : IsSound (going_on d s) = sound_on d s l h (small_before (notes_of d.env) (notes_of s) (BodyStands s.table) (body_of (at_file d.env.env.tags p) t ps c) body found) in
             tested new (Ok tt) from an b ps n q c k
             (then_steps d (going_on d s) new (BodyStands s.table) (IsProgramOf new) (body_of (at_file d.env.env.tags p) t ps c) (λ b. Fine (record p { functions = with_body p.functions place b })) body (Ok tt)
             (record { agrees = found; kept = goes_to d s l sound })
-            (λ x w. stepping.there (going_on d s) new (IsProgramOf new) (record p { functions = with_body p.functions place x }) tt (ap (λ v. v.env.found_large) same) (program_is sound x w) (goes sound x w)))
+            (λ x w. stepping.there (going_on d s) new (IsProgramOf new) (record p { functions = with_body p.functions place x }) tt (ap (λ v. notes_of v.env) same) (program_is sound x w) (goes sound x w)))
           where
             goes : IsSound (going_on d s) → (x : typed.Body) → BodyStands s.table x body → GoesOn (going_on d s) new
             goes sound x w = subst (GoesOn (going_on d s)) (sym same) (record {

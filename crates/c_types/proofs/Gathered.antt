@@ -12,7 +12,7 @@ use Rattle.c_syntax.specs.declared.declaration.Decl.{Decl as DeclNode}
 use Rattle.c_syntax.specs.Nodes.{Nodes, decl_at}
 use Rattle.c_syntax.specs.Syntax.{Decl, Decls, Declare, NoDecls, MoreDecls}
 use Rattle.c_syntax.specs.Stands.{StandsDecl, StandDecls}
-use Rattle.c_types_rules.specs.Checked.{Checked, Fine, Large, Broken, keep, ◌>>◌}
+use Rattle.c_types_rules.specs.Checked.{Checked, Fine, Noted, Broken, keep, ◌>>◌, Notes}
 use Rattle.c_types_rules.specs.Environment.{Environment, extents, is_reserved}
 use Rattle.c_types_rules.specs.Expressions.{complete, declared_name, declared_type}
 use Rattle.c_types_rules.specs.Sources.{member_of, members_from}
@@ -23,7 +23,7 @@ use Rattle.c_types_environment.specs.Reading.{IsMemberBelow, members_by}
 use Rattle.c_types_environment.proofs.Kept.{members_below, members_same}
 use Rattle.c_types_operators.specs.declared.error.TypeError.{TypeError}
 use Rattle.c_types_operators.specs.Answers.{Agrees, IsNothing}
-use Rattle.c_types_environment.specs.States.{State}
+use Rattle.c_types_environment.specs.States.{State, notes_of}
 use Rattle.c_types_expressions.specs.Found.{Finds, Found, IsType, Stays}
 use Rattle.c_types_expressions.proofs.Sequences.{gone_on, gone_on_after, noted_nothing, stopped_before, stopped_in}
 use Rattle.c_types.specs.Members.{AreBelow, members_in}
@@ -95,24 +95,24 @@ module _ (N : Nodes) (i : DeclId) (e : DeclNode) (there : decl_at N i ≡ Some e
   whole = complete (extents b.env) e.from (type_at b.table.types ty)
 
   -- the type, and what follows it
-  typed_then : (is : List ℕ × CType → Unit {0} → Type 0) (r : Result (Unit {0}) TypeError) → ((name : List ℕ) → declared_name e.name ≡ name → Found b.found_large b.found_large is (whole >> named_member e.from before name (type_at b.table.types ty)) r)
+  typed_then : (is : List ℕ × CType → Unit {0} → Type 0) (r : Result (Unit {0}) TypeError) → ((name : List ℕ) → declared_name e.name ≡ name → Found (notes_of b) (notes_of b) is (whole >> named_member e.from before name (type_at b.table.types ty)) r)
       → (d : Decl) → StandsDecl N i d → Finds a b is (member_of a.env before d) r
   typed_then is r f (Declare from an base ps n q) z =
       let p = node_is N i e from an base ps n q z there in
-      gone_on a.found_large b.found_large b.found_large (IsType b.table) is (declared_type (Declare from an base ps n q) a.env)
+      gone_on (notes_of a) (notes_of b) (notes_of b) (IsType b.table) is (declared_type (Declare from an base ps n q) a.env)
       (λ c. complete (extents a.env) from c >> named_member from before (declared_name n) c) ty r (t (Declare from an base ps n q) z)
-      (λ c w. subst (λ v. Found b.found_large b.found_large is (complete (extents a.env) from v >> named_member from before (declared_name n) v) r) w.is
-      (subst (λ v. Found b.found_large b.found_large is (complete (extents v) from (type_at b.table.types ty) >> named_member from before (declared_name n) (type_at b.table.types ty)) r) k.env
-      (subst (λ v. Found b.found_large b.found_large is (complete (extents b.env) v (type_at b.table.types ty) >> named_member v before (declared_name n) (type_at b.table.types ty)) r) p.offset (f (declared_name n) (ap declared_name p.name)))))
+      (λ c w. subst (λ v. Found (notes_of b) (notes_of b) is (complete (extents a.env) from v >> named_member from before (declared_name n) v) r) w.is
+      (subst (λ v. Found (notes_of b) (notes_of b) is (complete (extents v) from (type_at b.table.types ty) >> named_member from before (declared_name n) (type_at b.table.types ty)) r) k.env
+      (subst (λ v. Found (notes_of b) (notes_of b) is (complete (extents b.env) v (type_at b.table.types ty) >> named_member v before (declared_name n) (type_at b.table.types ty)) r) p.offset (f (declared_name n) (ap declared_name p.name)))))
 
   pub member_incomplete : (is : List ℕ × CType → Unit {0} → Type 0) (x : TypeError) → Agrees IsNothing whole (Err x) → (d : Decl) → StandsDecl N i d → Finds a b is (member_of a.env before d) (Err x)
-  member_incomplete is x f = typed_then is (Err x) (λ name n. stopped_before b.found_large b.found_large b.found_large IsNothing is whole (named_member e.from before name (type_at b.table.types ty)) x
-      (noted_nothing b.found_large b.found_large IsNothing whole (Err x) refl f))
+  member_incomplete is x f = typed_then is (Err x) (λ name n. stopped_before (notes_of b) (notes_of b) (notes_of b) IsNothing is whole (named_member e.from before name (type_at b.table.types ty)) x
+      (noted_nothing (notes_of b) (notes_of b) IsNothing whole (Err x) refl f))
 
   pub member_named : (is : List ℕ × CType → Unit {0} → Type 0) (r : Result (Unit {0}) TypeError) → Agrees IsNothing whole (Ok tt) → ((name : List ℕ) → declared_name e.name ≡ name → Agrees is (named_member e.from before name (type_at b.table.types ty)) r)
       → (d : Decl) → StandsDecl N i d → Finds a b is (member_of a.env before d) r
-  member_named is r f g = typed_then is r (λ name n. gone_on_after b.found_large b.found_large b.found_large IsNothing is whole (named_member e.from before name (type_at b.table.types ty)) tt r
-      (noted_nothing b.found_large b.found_large IsNothing whole (Ok tt) refl f) (noted_nothing b.found_large b.found_large is (named_member e.from before name (type_at b.table.types ty)) r refl (g name n)))
+  member_named is r f g = typed_then is r (λ name n. gone_on_after (notes_of b) (notes_of b) (notes_of b) IsNothing is whole (named_member e.from before name (type_at b.table.types ty)) tt r
+      (noted_nothing (notes_of b) (notes_of b) IsNothing whole (Ok tt) refl f) (noted_nothing (notes_of b) (notes_of b) is (named_member e.from before name (type_at b.table.types ty)) r refl (g name n)))
 
 -- ---- all members
 
@@ -120,23 +120,23 @@ abbrev pub AreMembers : Table → List (List ℕ × CType) → MemberList → Ty
 AreMembers t ms m = (members_in t m ≡ ms) × AreBelow t m
 
 -- what agrees with the members that are left agrees with all, where those before are these
-pub record RestOfMembers (N : Nodes) (env : Environment) (f g : Bool) (is : List DeclId) (ds : Decls) (before : List (List ℕ × CType)) : Type 0 where
+pub record RestOfMembers (N : Nodes) (env : Environment) (f g : Notes) (is : List DeclId) (ds : Decls) (before : List (List ℕ × CType)) : Type 0 where
   pub rest : Decls
   pub stand : StandDecls N is rest
-  pub go_on : (h : Bool) (ms : List (List ℕ × CType)) → Found {B = List (List ℕ × CType)} g h (λ x y. y ≡ x) (members_from env before rest) (Ok ms) → Found {B = List (List ℕ × CType)} f h (λ x y. y ≡ x) (members_from env [] ds) (Ok ms)
-  pub stop : (h : Bool) (e : TypeError) → Found {B = List (List ℕ × CType)} g h (λ x y. y ≡ x) (members_from env before rest) (Err e) → Found {B = List (List ℕ × CType)} f h (λ x y. y ≡ x) (members_from env [] ds) (Err e)
+  pub go_on : (h : Notes) (ms : List (List ℕ × CType)) → Found {B = List (List ℕ × CType)} g h (λ x y. y ≡ x) (members_from env before rest) (Ok ms) → Found {B = List (List ℕ × CType)} f h (λ x y. y ≡ x) (members_from env [] ds) (Ok ms)
+  pub stop : (h : Notes) (e : TypeError) → Found {B = List (List ℕ × CType)} g h (λ x y. y ≡ x) (members_from env before rest) (Err e) → Found {B = List (List ℕ × CType)} f h (λ x y. y ≡ x) (members_from env [] ds) (Err e)
 
-pub all_members_left : (N : Nodes) (env : Environment) (f : Bool) (is : List DeclId) (ds : Decls) (before : List (List ℕ × CType)) → before ≡ [] → StandDecls N is ds → RestOfMembers N env f f is ds before
+pub all_members_left : (N : Nodes) (env : Environment) (f : Notes) (is : List DeclId) (ds : Decls) (before : List (List ℕ × CType)) → before ≡ [] → StandDecls N is ds → RestOfMembers N env f f is ds before
 all_members_left N env f is ds before e s =
     subst (λ b. RestOfMembers N env f f is ds b) (sym e) (record { rest = ds; stand = s; go_on = λ h ms p. p; stop = λ h x p. p })
 
-module _ (N : Nodes) (env : Environment) (f g h : Bool) (i : DeclId) (is : List DeclId) (ds : Decls) (before : List (List ℕ × CType)) (r : RestOfMembers N env f g (i ∷ is) ds before) where
+module _ (N : Nodes) (env : Environment) (f g h : Notes) (i : DeclId) (is : List DeclId) (ds : Decls) (before : List (List ℕ × CType)) (r : RestOfMembers N env f g (i ∷ is) ds before) where
   pub one_member : (now : List (List ℕ × CType)) → ((d : Decl) → StandsDecl N i d → Found {B = Unit {0}} g h (λ m _. now ≡ before ++ m ∷ []) (member_of env before d) (Ok tt)) → RestOfMembers N env f h is ds now
   one_member now p = by r.rest r.stand r.go_on r.stop
     where
       by : (rest : Decls) → StandDecls N (i ∷ is) rest
-          → ((k : Bool) (ms : List (List ℕ × CType)) → Found {B = List (List ℕ × CType)} g k (λ x y. y ≡ x) (members_from env before rest) (Ok ms) → Found {B = List (List ℕ × CType)} f k (λ x y. y ≡ x) (members_from env [] ds) (Ok ms))
-          → ((k : Bool) (e : TypeError) → Found {B = List (List ℕ × CType)} g k (λ x y. y ≡ x) (members_from env before rest) (Err e) → Found {B = List (List ℕ × CType)} f k (λ x y. y ≡ x) (members_from env [] ds) (Err e))
+          → ((k : Notes) (ms : List (List ℕ × CType)) → Found {B = List (List ℕ × CType)} g k (λ x y. y ≡ x) (members_from env before rest) (Ok ms) → Found {B = List (List ℕ × CType)} f k (λ x y. y ≡ x) (members_from env [] ds) (Ok ms))
+          → ((k : Notes) (e : TypeError) → Found {B = List (List ℕ × CType)} g k (λ x y. y ≡ x) (members_from env before rest) (Err e) → Found {B = List (List ℕ × CType)} f k (λ x y. y ≡ x) (members_from env [] ds) (Err e))
           → RestOfMembers N env f h is ds now
       by NoDecls s go stop = absurd cc
       by (MoreDecls x xs) (j, js, e, s, t) go stop =
@@ -156,23 +156,23 @@ module _ (N : Nodes) (env : Environment) (f g h : Bool) (i : DeclId) (is : List 
       as_error c q = error_seen f h h (λ x y. y ≡ x) js c e q
 
       by : (rest : Decls) → StandDecls N (i ∷ is) rest
-          → ((k : Bool) (e : TypeError) → Found {B = List (List ℕ × CType)} g k (λ x y. y ≡ x) (members_from env before rest) (Err e) → Found {B = List (List ℕ × CType)} f k (λ x y. y ≡ x) (members_from env [] ds) (Err e))
+          → ((k : Notes) (e : TypeError) → Found {B = List (List ℕ × CType)} g k (λ x y. y ≡ x) (members_from env before rest) (Err e) → Found {B = List (List ℕ × CType)} f k (λ x y. y ≡ x) (members_from env [] ds) (Err e))
           → Found f h js (members_from env [] ds) (Err e)
       by NoDecls s stop = absurd cc
       by (MoreDecls x xs) (j, ks, q, s, t) stop =
           let first : StandsDecl N i x = (let same : j ≡ i = cc in subst (λ z. StandsDecl N z x) same s) in
           as_error (members_from env [] ds) (stop h e (stopped_in {B = Unit {0}} g h h (λ m _. Unit {0}) (λ y z. z ≡ y) (member_of env before x) (λ m. members_from env (before ++ m ∷ []) xs) e (p x first)))
 
-pub no_member_left : {B : Type 0} (N : Nodes) (env : Environment) (f g : Bool) (ds : Decls) (before : List (List ℕ × CType)) (is : List (List ℕ × CType) → B → Type 0) (y : B) → is before y → RestOfMembers N env f g [] ds before → Found f g is (members_from env [] ds) (Ok y)
+pub no_member_left : {B : Type 0} (N : Nodes) (env : Environment) (f g : Notes) (ds : Decls) (before : List (List ℕ × CType)) (is : List (List ℕ × CType) → B → Type 0) (y : B) → is before y → RestOfMembers N env f g [] ds before → Found f g is (members_from env [] ds) (Ok y)
 no_member_left N env f g ds before is y i r = by r.rest r.stand r.go_on
   where
     seen : (c : Checked (List (List ℕ × CType))) → Found {B = List (List ℕ × CType)} f g (λ a b. b ≡ a) c (Ok before) → Found f g is c (Ok y)
     seen (Fine x) q = (subst (λ z. is z y) q.0 i, q.1)
-    seen (Large x) q = (subst (λ z. is z y) q.0 i, q.1)
+    seen (Noted n x) q = (subst (λ z. is z y) q.0 i, q.1)
     seen (Broken from rule) q = absurd q
 
     by : (rest : Decls) → StandDecls N [] rest
-        → ((k : Bool) (ms : List (List ℕ × CType)) → Found {B = List (List ℕ × CType)} g k (λ a b. b ≡ a) (members_from env before rest) (Ok ms) → Found {B = List (List ℕ × CType)} f k (λ a b. b ≡ a) (members_from env [] ds) (Ok ms))
+        → ((k : Notes) (ms : List (List ℕ × CType)) → Found {B = List (List ℕ × CType)} g k (λ a b. b ≡ a) (members_from env before rest) (Ok ms) → Found {B = List (List ℕ × CType)} f k (λ a b. b ≡ a) (members_from env [] ds) (Ok ms))
         → Found f g is (members_from env [] ds) (Ok y)
     by NoDecls s go = seen (members_from env [] ds) (go g before (refl, refl))
     by (MoreDecls x xs) (j, js, e, s, t) go = absurd cc

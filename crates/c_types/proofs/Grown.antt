@@ -1,4 +1,6 @@
 -- What is declared stands for what it did while the table grows.
+use Rattle.c_types_nodes.proofs.Lists.{nodes_kept, are_nodes_kept}
+use Rattle.c_types_nodes.specs.Lists.{nodes_at}
 use Rattle.std.proofs.Common.{◌≡◌, List, [], ◌∷◌, length, map, Option, None, Some, refl, ap, ◌∙◌}
 use Rattle.std.specs.Option.{option_map}
 use Rattle.std.specs.List.{All}
@@ -22,11 +24,14 @@ module _ (t u : Table) (k : Keeps t u) where
       ap (λ c. c ∷ types_in u.types ids) first ∙ ap (λ cs. type_at t.types id ∷ cs) rest
 
   pub body_kept : (b : Body) → IsBody t (Some b) → body_in u b ≡ body_in t b
-  body_kept b h = ap (λ cs. record { from = b.from; locals = cs; statements = statement_in u b.statements }) (types_kept b.locals h.0) ∙ ap (λ s. record { from = b.from; locals = types_in t.types b.locals; statements = s }) (statement_kept t u k b.statements h.1)
+  body_kept b h =
+      ap (λ cs. record { from = b.from; locals = cs; statements = statement_in u b.statements; unevaluated = nodes_at u b.unevaluated }) (types_kept b.locals h.0)
+      ∙ (ap (λ s. record { from = b.from; locals = types_in t.types b.locals; statements = s; unevaluated = nodes_at u b.unevaluated }) (statement_kept t u k b.statements h.1)
+      ∙ ap (λ xs. record { from = b.from; locals = types_in t.types b.locals; statements = statement_in t b.statements; unevaluated = xs }) (nodes_kept t u k b.unevaluated h.2))
 
   pub is_body_kept : (b : Option Body) → IsBody t b → IsBody u b
   is_body_kept None h = tt
-  is_body_kept (Some b) h = (All-weaker (IsBelow (length t.types)) (IsBelow (length u.types)) (λ id lt. is_type_kept t u k id lt) b.locals h.0, is_statement_kept t u k b.statements h.1)
+  is_body_kept (Some b) h = (All-weaker (IsBelow (length t.types)) (IsBelow (length u.types)) (λ id lt. is_type_kept t u k id lt) b.locals h.0, is_statement_kept t u k b.statements h.1, are_nodes_kept t u k b.unevaluated h.2)
 
   maybe_body_kept : (b : Option Body) → IsBody t b → option_map (body_in u) b ≡ option_map (body_in t) b
   maybe_body_kept None h = refl
@@ -50,15 +55,20 @@ module _ (t u : Table) (k : Keeps t u) where
   pub are_functions_kept : (fs : List Function) → All (IsFunction t) fs → All (IsFunction u) fs
   are_functions_kept fs h = All-weaker (IsFunction t) (IsFunction u) is_function_kept fs h
 
-  global_kept : (g : Global) → IsGlobal t g → global_in u.types g ≡ global_in t.types g
-  global_kept g h = ap (λ c. record { name = g.name; type = c; value = option_map initial_in g.value }) (type_kept t u k g.ty h)
+  global_kept : (g : Global) → IsGlobal t g → global_in u g ≡ global_in t g
+  global_kept g h =
+      ap (λ c. record { name = g.name; type = c; value = option_map initial_in g.value; unevaluated = nodes_at u g.unevaluated }) (type_kept t u k g.ty h.type)
+      ∙ ap (λ xs. record { name = g.name; type = type_at t.types g.ty; value = option_map initial_in g.value; unevaluated = xs }) (nodes_kept t u k g.unevaluated h.unevaluated)
 
-  pub globals_kept : (gs : List Global) → All (IsGlobal t) gs → map (global_in u.types) gs ≡ map (global_in t.types) gs
+  is_global_kept : (g : Global) → IsGlobal t g → IsGlobal u g
+  is_global_kept g h = record { type = is_type_kept t u k g.ty h.type; unevaluated = are_nodes_kept t u k g.unevaluated h.unevaluated }
+
+  pub globals_kept : (gs : List Global) → All (IsGlobal t) gs → map (global_in u) gs ≡ map (global_in t) gs
   globals_kept [] h = refl
   globals_kept (g ∷ gs) h =
       let first = global_kept g (All-head (IsGlobal t) g gs h) in
       let rest = globals_kept gs (All-tail (IsGlobal t) g gs h) in
-      ap (λ x. x ∷ map (global_in u.types) gs) first ∙ ap (λ xs. global_in t.types g ∷ xs) rest
+      ap (λ x. x ∷ map (global_in u) gs) first ∙ ap (λ xs. global_in t g ∷ xs) rest
 
   pub are_globals_kept : (gs : List Global) → All (IsGlobal t) gs → All (IsGlobal u) gs
-  are_globals_kept gs h = All-weaker (IsGlobal t) (IsGlobal u) (λ g b. is_type_kept t u k g.ty b) gs h
+  are_globals_kept gs h = All-weaker (IsGlobal t) (IsGlobal u) is_global_kept gs h

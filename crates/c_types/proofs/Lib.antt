@@ -12,4 +12,5 @@ mod Sourced
 mod Naming
 mod FunctionSteps
 mod GlobalSteps
+mod Valued
 mod StructSteps

@@ -22,6 +22,7 @@ use Rattle.c_types_rules.specs.Sources.{Program, extent_or, extents_in}
 use Rattle.c_types_rules.specs.Limits as limits
 use Rattle.c_types_rules.specs.Limits.{Which, all_keep, count, few_members, few_params, first_limit, frame_size, globals_end, most_functions, greatest_frame, small_frame, type_of}
 use Rattle.c_types_program.specs.declared.global.Global.{Global}
+use Rattle.c_types_nodes.specs.Tables.{Table}
 use Rattle.c_types_program.specs.Declarations.{global_in, types_in}
 use Rattle.c_types.specs.States.{IsAligned}
 
@@ -97,9 +98,9 @@ one_end es i n e d x y lt same h p =
 pub all_ended : (es : List Extent) (i n y : ℕ) → length es ≤ i → capped (end_from n (drop i es)) ≡ y → capped n ≡ y
 all_ended es i n y le h = end_of_all es i n y le h
 
-pub types_seen : (types : List Ty) (gs : List Global) → map type_of (map (global_in types) gs) ≡ types_of_globals types gs
-types_seen types [] = refl
-types_seen types (g ∷ gs) = ap (λ ts. type_at types g.ty ∷ ts) (types_seen types gs)
+pub types_seen : (t : Table) (gs : List Global) → map type_of (map (global_in t) gs) ≡ types_of_globals t.types gs
+types_seen t [] = refl
+types_seen t (g ∷ gs) = ap (λ ts. type_at t.types g.ty ∷ ts) (types_seen t gs)
 
 -- the extent of an object, among those of all
 pub extent_at : (es : List Extent) (ts : List CType) (i : ℕ) (t : CType) (d : Extent) → i < length ts → t ≡ get_or ts i t → extent_or (extent_of es t) ≡ get_or (extents_by es ts) i d

@@ -19,7 +19,7 @@ use Rattle.c_types_rules.specs.Expressions.{annotation_types, declared_name, dec
 use Rattle.c_types_rules.specs.Sources.{Program, at_file, declaration, function_or_global, struct_defined}
 use Rattle.c_types_operators.specs.declared.error.TypeError.{TypeError}
 use Rattle.c_types_operators.specs.Answers.{IsNothing}
-use Rattle.c_types_environment.specs.States.{State}
+use Rattle.c_types_environment.specs.States.{State, notes_of}
 use Rattle.c_types_expressions.specs.Found.{Finds, Found, IsType, Stays}
 use Rattle.c_types_expressions.proofs.Kept.{then_stay}
 use Rattle.c_types_expressions.proofs.Sequences.{stopped_before}
@@ -47,24 +47,24 @@ module _ (N : Nodes) (i : DeclId) (e : DeclNode) (there : decl_at N i ≡ Some e
   abbrev file : Environment
   file = at_file tags (program_of d)
 
-  annotations_here : (s : State) (r : Result (Unit {0}) TypeError) → ((xs : Annots) → StandAnnots N e.annots xs → Finds d.env s IsNothing (annotation_types xs d.env.env) r) → (from : ℕ) (an : Annots) (b : Base) (ps : Parts) (n : Option (List ℕ)) (q : Rest) → StandsDecl N i (Declare from an b ps n q) → Found d.env.found_large s.found_large IsNothing (annotation_types an file) r
+  annotations_here : (s : State) (r : Result (Unit {0}) TypeError) → ((xs : Annots) → StandAnnots N e.annots xs → Finds d.env s IsNothing (annotation_types xs d.env.env) r) → (from : ℕ) (an : Annots) (b : Base) (ps : Parts) (n : Option (List ℕ)) (q : Rest) → StandsDecl N i (Declare from an b ps n q) → Found (notes_of d.env) (notes_of s) IsNothing (annotation_types an file) r
   annotations_here s r p from an b ps n q z =
-      subst (λ v. Found d.env.found_large s.found_large IsNothing (annotation_types an v) r) (sym (at_file_is d h)) (p an (node_is N i e from an b ps n q z there).annots)
+      subst (λ v. Found (notes_of d.env) (notes_of s) IsNothing (annotation_types an v) r) (sym (at_file_is d h)) (p an (node_is N i e from an b ps n q z there).annots)
 
   pub annotations_stop : (s : State) (x : TypeError) → ((xs : Annots) → StandAnnots N e.annots xs → Finds d.env s IsNothing (annotation_types xs d.env.env) (Err x)) → (y : Decl) → StandsDecl N i y → Follows d (going_on d s) (named tags (program_of d) y) (Err x)
   annotations_stop s x p (Declare from an b ps n q) z =
       stopped d (going_on d s) (IsProgramOf (going_on d s)) _ x
-      (stopped_before d.env.found_large s.found_large s.found_large IsNothing (IsProgramOf (going_on d s)) (annotation_types an file) (by_type tags (program_of d) (Declare from an b ps n q)) x (annotations_here s (Err x) p from an b ps n q z))
+      (stopped_before (notes_of d.env) (notes_of s) (notes_of s) IsNothing (IsProgramOf (going_on d s)) (annotation_types an file) (by_type tags (program_of d) (Declare from an b ps n q)) x (annotations_here s (Err x) p from an b ps n q z))
 
   module _ (s : State) (p : (xs : Annots) → StandAnnots N e.annots xs → Finds d.env s IsNothing (annotation_types xs d.env.env) (Ok tt)) (k : Stays d.env s) where
     sound_one : (from : ℕ) (an : Annots) (b : Base) (ps : Parts) (n : Option (List ℕ)) (q : Rest) → StandsDecl N i (Declare from an b ps n q) → IsSound (going_on d s)
-    sound_one from an b ps n q z = sound_on d s k h (small_before d.env.found_large s.found_large IsNothing (annotation_types an file) tt (annotations_here s (Ok tt) p from an b ps n q z))
+    sound_one from an b ps n q z = sound_on d s k h (small_before (notes_of d.env) (notes_of s) IsNothing (annotation_types an file) tt (annotations_here s (Ok tt) p from an b ps n q z))
 
     one_step : (from : ℕ) (an : Annots) (b : Base) (ps : Parts) (n : Option (List ℕ)) (q : Rest) → StandsDecl N i (Declare from an b ps n q) → Steps d (going_on d s) IsNothing (annotation_types an file) (Ok tt)
     one_step from an b ps n q z = record { agrees = annotations_here s (Ok tt) p from an b ps n q z; kept = goes_to d s k (sound_one from an b ps n q z) }
 
-    type_here : (u : State) (r : Result TypeId TypeError) → ((y : Decl) → StandsDecl N i y → Finds s u (IsType u.table) (declared_type y s.env) r) → (y : Decl) → StandsDecl N i y → Found s.found_large u.found_large (IsType u.table) (declared_type y file) r
-    type_here u r t y z = subst (λ v. Found s.found_large u.found_large (IsType u.table) (declared_type y v) r) (k.env ∙ sym (at_file_is d h)) (t y z)
+    type_here : (u : State) (r : Result TypeId TypeError) → ((y : Decl) → StandsDecl N i y → Finds s u (IsType u.table) (declared_type y s.env) r) → (y : Decl) → StandsDecl N i y → Found (notes_of s) (notes_of u) (IsType u.table) (declared_type y file) r
+    type_here u r t y z = subst (λ v. Found (notes_of s) (notes_of u) (IsType u.table) (declared_type y v) r) (k.env ∙ sym (at_file_is d h)) (t y z)
 
     pub type_stops : (u : State) (x : TypeError) → ((y : Decl) → StandsDecl N i y → Finds s u (IsType u.table) (declared_type y s.env) (Err x)) → (y : Decl) → StandsDecl N i y → Follows d (going_on d u) (named tags (program_of d) y) (Err x)
     type_stops u x t (Declare from an b ps n q) z =
@@ -76,7 +76,7 @@ module _ (N : Nodes) (i : DeclId) (e : DeclNode) (there : decl_at N i ≡ Some e
     module _ (u : State) (ty : TypeId) (t : (y : Decl) → StandsDecl N i y → Finds s u (IsType u.table) (declared_type y s.env) (Ok ty)) (l : Stays s u) where
       pub sound_two : (y : Decl) → StandsDecl N i y → IsSound (going_on d u)
       sound_two (Declare from an b ps n q) z =
-          sound_on (going_on d s) u l (sound_one from an b ps n q z) (small_before s.found_large u.found_large (IsType u.table) (declared_type (Declare from an b ps n q) file) ty (type_here u (Ok ty) t (Declare from an b ps n q) z))
+          sound_on (going_on d s) u l (sound_one from an b ps n q z) (small_before (notes_of s) (notes_of u) (IsType u.table) (declared_type (Declare from an b ps n q) file) ty (type_here u (Ok ty) t (Declare from an b ps n q) z))
 
       pub type_goes_on : (new : Declarations) (r : Result (Unit {0}) TypeError) → ((y : Decl) → StandsDecl N i y → Follows (going_on d u) new (typed u.env.tags (program_of (going_on d u)) (type_at u.table.types ty) y) r) → (y : Decl) → StandsDecl N i y → Follows d new (named tags (program_of d) y) r
       type_goes_on new r f (Declare from an b ps n q) z =

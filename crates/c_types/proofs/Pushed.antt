@@ -4,7 +4,7 @@ use Rattle.std.proofs.lemmas.List.{map-append}
 use Rattle.std.specs.List.{All}
 use Rattle.std.proofs.lemmas.List.Elements.{All-nil, All-cons, All-append}
 use Rattle.c_scopes.specs.Scopes.{Scope, declared, innermost, meaning_in}
-use Rattle.c_types_rules.specs.Checked.{Checked, Fine, Large, Broken, keep, ◌>>◌}
+use Rattle.c_types_rules.specs.Checked.{Checked, Fine, Noted, Broken, keep, ◌>>◌}
 use Rattle.c_types_rules.specs.Environment.{Environment, Meaning, declarable, is_reserved, with_name}
 use Rattle.c_types_rules.specs.Sources.{at_file}
 use Rattle.c_types_operators.specs.declared.error.TypeError.{TypeError}
@@ -13,7 +13,7 @@ use Rattle.c_types_operators.specs.Answers.{Agrees}
 use Rattle.c_types_program.specs.declared.function.Function.{Function}
 use Rattle.c_types_program.specs.declared.global.Global.{Global}
 use Rattle.c_types_program.specs.Declarations.{IsFunction, IsGlobal, function_in, global_in}
-use Rattle.c_types_environment.specs.States.{State}
+use Rattle.c_types_environment.specs.States.{State, notes_of}
 use Rattle.c_types.specs.declared.declarations.Declarations.{Declarations}
 use Rattle.c_types.specs.States.{GoesOn, IsSound, program_of}
 use Rattle.c_types_expressions.proofs.Kept.{same_table}
@@ -53,8 +53,8 @@ module _ (d : Declarations) (s : State) (name : List ℕ) (m : Meaning) (h : IsS
   pub named_goes : GoesOn d (going_on d s)
   named_goes = subst (λ x. GoesOn d (going_on d x)) (sym e) (record { tags = refl; numbers = same_table d.env.table; sound = named_here })
 
-  pub named_large : s.found_large ≡ d.env.found_large
-  named_large = ap (λ x. x.found_large) e
+  pub named_notes : notes_of s ≡ notes_of d.env
+  named_notes = ap notes_of e
 
   -- what is declared at file scope
   pub named_file : at_file d.env.env.tags (record (program_of d) { names = (name, m) ∷ (program_of d).names }) ≡ s.env
@@ -72,14 +72,14 @@ may_be_declared env from name e h =
 -- what a step says that breaks nothing
 pub agreed : {P : Type 0} → (c : Checked (Unit {0})) → Agrees {A = Unit {0}} {B = Unit {0}} (λ _ _. P) c (Ok tt) → P
 agreed (Fine x) h = h
-agreed (Large x) h = absurd h
+agreed (Noted n x) h = absurd h
 agreed (Broken from rule) h = absurd h
 
 -- where nothing is broken the answer is out of memory
 pub only_memory : {A B : Type 0} (is : A → B → Type 0) (c : Checked A) (x : A) (e : TypeError) → c ≡ Fine x → Agrees is c (Err e) → e ≡ Memory
 only_memory is c x Memory h p = refl
 only_memory is (Fine y) x (Rule a b) h p = absurd p
-only_memory is (Large y) x (Rule a b) h p = absurd p
+only_memory is (Noted n y) x (Rule a b) h p = absurd p
 only_memory is (Broken from rule) x (Rule a b) h p = absurd cc
 
 pub no_rule_here : (s t : State) (c : Checked (Unit {0})) (x : TypeError) → c ≡ Fine tt → Agrees {A = Unit {0}} {B = Unit {0}} (λ _ _. s ≡ t) c (Err x) → x ≡ Memory
@@ -122,7 +122,7 @@ module _ (d : Declarations) (g : Global) (n : Declarations) (h : IsSound d) (b :
   pub global_goes : GoesOn d n
   global_goes = subst (GoesOn d) (sym same) (record { tags = refl; numbers = same_table d.env.table; sound = global_pushed_sound })
 
-  pub global_program : program_of n ≡ record (program_of d) { globals = (program_of d).globals ++ global_in d.env.table.types g ∷ [] }
+  pub global_program : program_of n ≡ record (program_of d) { globals = (program_of d).globals ++ global_in d.env.table g ∷ [] }
   global_program =
       ap program_of same
-      ∙ ap (λ gs. record (program_of d) { globals = gs }) (ap (map (global_in d.env.table.types)) e ∙ map-append (global_in d.env.table.types) d.globals.items (g ∷ []))
+      ∙ ap (λ gs. record (program_of d) { globals = gs }) (ap (map (global_in d.env.table)) e ∙ map-append (global_in d.env.table) d.globals.items (g ∷ []))

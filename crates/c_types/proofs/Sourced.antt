@@ -81,8 +81,8 @@ is_program tags p s table structs h same read sizes =
     ap (structs_from types structs.members 0) (sizes ∙ ap (λ ss. map capped_extent (map (λ x. x.extent) ss)) (sym read))
     ∙ (stored_so types [] structs.members [] ∙ (ap (map as_stored) (read ∙ there) ∙ as_they_are p.structs h.small)) in
     subst P (sym same)
-    (ap (λ ss. record { structs = ss; functions = map (function_in s.env.table) s.functions; globals = map (global_in types) s.globals; names = p.names }) stored
-    ∙ (ap (λ fs. record { structs = p.structs; functions = fs; globals = map (global_in types) s.globals; names = p.names }) h.functions
+    (ap (λ ss. record { structs = ss; functions = map (function_in s.env.table) s.functions; globals = map (global_in s.env.table) s.globals; names = p.names }) stored
+    ∙ (ap (λ fs. record { structs = p.structs; functions = fs; globals = map (global_in s.env.table) s.globals; names = p.names }) h.functions
     ∙ ap (λ gs. record { structs = p.structs; functions = p.functions; globals = gs; names = p.names }) h.globals))
 
 -- ---- sources

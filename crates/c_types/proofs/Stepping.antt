@@ -1,10 +1,10 @@
 -- How steps go on one from another.
 use Rattle.std.proofs.Common.{◌≡◌, ℕ, ◌<◌, Bool, length, true, false, Result, Ok, Err, refl, sym, ap, ◌∙◌, subst}
-use Rattle.c_types_rules.specs.Checked.{Checked, Fine, Large, Broken, keep, ◌>>=◌, ◌>>◌}
+use Rattle.c_types_rules.specs.Checked.{Checked, Fine, Noted, Broken, keep, ◌>>=◌, ◌>>◌, Notes}
 use Rattle.c_types_operators.specs.declared.error.TypeError.{TypeError}
 use Rattle.c_types_operators.specs.declared.error.TypeError.TheVariants.{Rule, Memory}
 use Rattle.c_types_nodes.specs.Tables.{Table}
-use Rattle.c_types_environment.specs.States.{State}
+use Rattle.c_types_environment.specs.States.{State, notes_of}
 use Rattle.c_types_model.specs.Types.{CType}
 use Rattle.c_types_table.specs.declared.ids.TypeId.{TypeId}
 use Rattle.c_types_expressions.specs.Found.{Found, IsType, Stays}
@@ -15,23 +15,23 @@ use Rattle.c_types.specs.States.{GoesOn, IsSound, Steps}
 use Rattle.c_types.proofs.Followed.{going_on}
 
 -- what is found, where something is
-pub found_one : {A B : Type 0} (f g : Bool) (is : A → B → Type 0) (c : Checked A) (y : B) → Found f g is c (Ok y) → (x : A) × is x y
+pub found_one : {A B : Type 0} (f g : Notes) (is : A → B → Type 0) (c : Checked A) (y : B) → Found f g is c (Ok y) → (x : A) × is x y
 found_one f g is (Fine x) y h = (x, h.0)
-found_one f g is (Large x) y h = (x, h.0)
+found_one f g is (Noted n x) y h = (x, h.0)
 found_one f g is (Broken from rule) y h = absurd h
 
 -- a rule that is broken is broken whatever would be found
-pub error_seen : {A B C : Type 0} (f g h : Bool) (is : A → B → Type 0) (js : A → C → Type 0) (c : Checked A) (e : TypeError) → Found f g is c (Err e) → Found f h js c (Err e)
+pub error_seen : {A B C : Type 0} (f g h : Notes) (is : A → B → Type 0) (js : A → C → Type 0) (c : Checked A) (e : TypeError) → Found f g is c (Err e) → Found f h js c (Err e)
 error_seen f g h is js c Memory q = tt
 error_seen f g h is js (Fine x) (Rule a b) q = absurd q
-error_seen f g h is js (Large x) (Rule a b) q = absurd q
+error_seen f g h is js (Noted n x) (Rule a b) q = absurd q
 error_seen f g h is js (Broken from rule) (Rule a b) q = q
 
-pub found_failed : {A B : Type 0} (f g : Bool) (is : A → B → Type 0) (c : Checked A) (r : Result B TypeError) (e : TypeError) → r ≡ Err e → Found f g is c (Err e) → Found f g is c r
+pub found_failed : {A B : Type 0} (f g : Notes) (is : A → B → Type 0) (c : Checked A) (r : Result B TypeError) (e : TypeError) → r ≡ Err e → Found f g is c (Err e) → Found f g is c r
 found_failed f g is c r e same h = subst (λ x. Found f g is c x) (sym same) h
 
 -- the type that is found is in the table
-pub type_there : (f g : Bool) (t : Table) (c : Checked CType) (id : TypeId) → Found f g (IsType t) c (Ok id) → id.0 < length t.types
+pub type_there : (f g : Notes) (t : Table) (c : Checked CType) (id : TypeId) → Found f g (IsType t) c (Ok id) → id.0 < length t.types
 type_there f g t c id h = (found_one f g (IsType t) c id h).1.inside
 
 pub stands_still : (d : Declarations) → IsSound d → GoesOn d d
@@ -51,10 +51,10 @@ module _ {A B : Type 0} where
   -- what is there may be looked at in another way
   pub steps_seen : (old new : Declarations) (is js : A → B → Type 0) (c : Checked A) (y : B) → ((x : A) → is x y → js x y) → Steps old new is c (Ok y) → Steps old new js c (Ok y)
   steps_seen old new is js (Fine x) y m h = record { agrees = (m x h.agrees.0, h.agrees.1); kept = h.kept }
-  steps_seen old new is js (Large x) y m h = record { agrees = (m x h.agrees.0, h.agrees.1); kept = h.kept }
+  steps_seen old new is js (Noted n x) y m h = record { agrees = (m x h.agrees.0, h.agrees.1); kept = h.kept }
   steps_seen old new is js (Broken from rule) y m h = absurd h.agrees
 
-  pub stopped : (old new : Declarations) (is : A → B → Type 0) (c : Checked A) (e : TypeError) → Found old.env.found_large new.env.found_large is c (Err e) → Steps old new is c (Err e)
+  pub stopped : (old new : Declarations) (is : A → B → Type 0) (c : Checked A) (e : TypeError) → Found (notes_of old.env) (notes_of new.env) is c (Err e) → Steps old new is c (Err e)
   stopped old new is c e h = record { agrees = h; kept = tt }
 
   pub failed_so : (old new : Declarations) (is : A → B → Type 0) (c : Checked A) (r : Result B TypeError) (e : TypeError) → r ≡ Err e → Steps old new is c (Err e) → Steps old new is c r
@@ -66,27 +66,27 @@ module _ {A B : Type 0} where
   pub breaks : (old new : Declarations) (is : A → B → Type 0) (c : Checked A) (from rule : ℕ) → c ≡ Broken from rule → Steps old new is c (Err (Rule from rule))
   breaks old new is c from rule e = steps_as old new is c (Broken from rule) (Err (Rule from rule)) e (record { agrees = (refl, refl); kept = tt })
 
-  pub there : (old new : Declarations) (is : A → B → Type 0) (x : A) (y : B) → new.env.found_large ≡ old.env.found_large → is x y → GoesOn old new → Steps old new is (Fine x) (Ok y)
+  pub there : (old new : Declarations) (is : A → B → Type 0) (x : A) (y : B) → (notes_of new.env) ≡ (notes_of old.env) → is x y → GoesOn old new → Steps old new is (Fine x) (Ok y)
   there old new is x y e h k = record { agrees = (h, e); kept = k }
 
 -- the second step, where the first has an answer
 pub then_steps : {A B C D : Type 0} (a b c : Declarations) (is : A → B → Type 0) (js : C → D → Type 0) (x : Checked A) (k : A → Checked C) (y : B) (r : Result D TypeError) →
     Steps a b is x (Ok y) → ((z : A) → is z y → Steps b c js (k z) r) → Steps a c js (x >>= k) r
 then_steps a b c is js x k y (Ok w) p q =
-    let one = found_one a.env.found_large b.env.found_large is x y p.agrees in
+    let one = found_one (notes_of a.env) (notes_of b.env) is x y p.agrees in
     record {
-      agrees = gone_on a.env.found_large b.env.found_large c.env.found_large is js x k y (Ok w) p.agrees (λ z i. (q z i).agrees);
+      agrees = gone_on (notes_of a.env) (notes_of b.env) (notes_of c.env) is js x k y (Ok w) p.agrees (λ z i. (q z i).agrees);
       kept = goes_through a b c p.kept (q one.0 one.1).kept;
     }
 then_steps a b c is js x k y (Err e) p q =
-    record { agrees = gone_on a.env.found_large b.env.found_large c.env.found_large is js x k y (Err e) p.agrees (λ z i. (q z i).agrees); kept = tt }
+    record { agrees = gone_on (notes_of a.env) (notes_of b.env) (notes_of c.env) is js x k y (Err e) p.agrees (λ z i. (q z i).agrees); kept = tt }
 
-pub then_stops : {A B C D : Type 0} (a b c : Declarations) (is : A → B → Type 0) (js : C → D → Type 0) (x : Checked A) (k : A → Checked C) (e : TypeError) → Found a.env.found_large b.env.found_large is x (Err e) → Steps a c js (x >>= k) (Err e)
-then_stops a b c is js x k e p = record { agrees = stopped_in a.env.found_large b.env.found_large c.env.found_large is js x k e p; kept = tt }
+pub then_stops : {A B C D : Type 0} (a b c : Declarations) (is : A → B → Type 0) (js : C → D → Type 0) (x : Checked A) (k : A → Checked C) (e : TypeError) → Found (notes_of a.env) (notes_of b.env) is x (Err e) → Steps a c js (x >>= k) (Err e)
+then_stops a b c is js x k e p = record { agrees = stopped_in (notes_of a.env) (notes_of b.env) (notes_of c.env) is js x k e p; kept = tt }
 
 -- the same of a step in the environment
 pub then_steps_on : {A B C D : Type 0} (d : Declarations) (s : State) (new : Declarations) (is : A → B → Type 0) (js : C → D → Type 0) (x : Checked A) (k : A → Checked C) (y : B) (r : Result D TypeError) →
-    GoesOn d (going_on d s) → Found d.env.found_large s.found_large is x (Ok y) → ((z : A) → is z y → Steps (going_on d s) new js (k z) r) → Steps d new js (x >>= k) r
+    GoesOn d (going_on d s) → Found (notes_of d.env) (notes_of s) is x (Ok y) → ((z : A) → is z y → Steps (going_on d s) new js (k z) r) → Steps d new js (x >>= k) r
 then_steps_on d s new is js x k y r g p q = then_steps d (going_on d s) new is js x k y r (record { agrees = p; kept = g }) q
 
 -- ---- steps that give nothing
@@ -95,13 +95,13 @@ pub then_steps_after : {A B C D : Type 0} (a b c : Declarations) (is : A → B �
     Steps a b is x (Ok y) → Steps b c js z r → Steps a c js (x >> z) r
 then_steps_after a b c is js x z y (Ok w) p q =
     record {
-      agrees = gone_on_after a.env.found_large b.env.found_large c.env.found_large is js x z y (Ok w) p.agrees q.agrees;
+      agrees = gone_on_after (notes_of a.env) (notes_of b.env) (notes_of c.env) is js x z y (Ok w) p.agrees q.agrees;
       kept = goes_through a b c p.kept q.kept;
     }
-then_steps_after a b c is js x z y (Err e) p q = record { agrees = gone_on_after a.env.found_large b.env.found_large c.env.found_large is js x z y (Err e) p.agrees q.agrees; kept = tt }
+then_steps_after a b c is js x z y (Err e) p q = record { agrees = gone_on_after (notes_of a.env) (notes_of b.env) (notes_of c.env) is js x z y (Err e) p.agrees q.agrees; kept = tt }
 
-pub then_stops_before : {A B C D : Type 0} (a b c : Declarations) (is : A → B → Type 0) (js : C → D → Type 0) (x : Checked A) (z : Checked C) (e : TypeError) → Found a.env.found_large b.env.found_large is x (Err e) → Steps a c js (x >> z) (Err e)
-then_stops_before a b c is js x z e p = record { agrees = stopped_before a.env.found_large b.env.found_large c.env.found_large is js x z e p; kept = tt }
+pub then_stops_before : {A B C D : Type 0} (a b c : Declarations) (is : A → B → Type 0) (js : C → D → Type 0) (x : Checked A) (z : Checked C) (e : TypeError) → Found (notes_of a.env) (notes_of b.env) is x (Err e) → Steps a c js (x >> z) (Err e)
+then_stops_before a b c is js x z e p = record { agrees = stopped_before (notes_of a.env) (notes_of b.env) (notes_of c.env) is js x z e p; kept = tt }
 
 -- ---- tests
 

@@ -8,14 +8,14 @@ use Rattle.c_types_model.specs.Types.{CType}
 use Rattle.c_types_table.specs.declared.ty.Ty.{Ty}
 use Rattle.c_types_table.specs.declared.ty.Ty.TheVariants as nodes
 use Rattle.c_types_table.specs.Tables.{made}
-use Rattle.c_types_rules.specs.Checked.{Checked, Fine, Large, Broken}
+use Rattle.c_types_rules.specs.Checked.{Checked, Fine, Noted, Broken}
 use Rattle.c_types_rules.specs.Environment.{Environment, is_reserved, place_in, struct_type}
 use Rattle.c_types_rules.specs.Sources.{Program, at_file, is_next, members_from, struct_defined}
 use Rattle.c_types_operators.specs.declared.error.TypeError.{TypeError}
 use Rattle.c_types_operators.specs.declared.error.TypeError.TheVariants as operators
 use Rattle.c_types_operators.specs.Answers.{IsNothing}
 use Rattle.c_types_structs.specs.Members.{MemberList}
-use Rattle.c_types_environment.specs.States.{KeepsAll, State}
+use Rattle.c_types_environment.specs.States.{KeepsAll, State, notes_of}
 use Rattle.c_types_expressions.specs.Found.{Finds, Found, Stays}
 use Rattle.c_types_expressions.proofs.Kept.{all_stay}
 use Rattle.c_types.specs.declared.declarations.Declarations.{Declarations}
@@ -76,7 +76,7 @@ module _ (d : Declarations) (from : ℕ) (tag : List ℕ) (ds : Decls) where
 
   module _ (s : State) (k : KeepsAll d.env s) (h : IsSound d) where
     pub sound_next : IsSound (going_on d s)
-    sound_next = sound_on d s (all_stay d.env s k) h (λ e. sym k.large ∙ e)
+    sound_next = sound_on d s (all_stay d.env s k) h (λ e. sym (ap (λ n. n.large) k.notes) ∙ e)
 
     pub struct_next : (new : Declarations) (r : Result (Unit {0}) TypeError) → is_reserved tag ≡ false → next ≡ true → Follows (going_on d s) new (defined_struct s.env.tags (program_of (going_on d s)) ds) r → Follows d new (struct_defined tags p from tag ds) r
     struct_next new r w z f =
@@ -87,7 +87,7 @@ module _ (d : Declarations) (from : ℕ) (tag : List ℕ) (ds : Decls) where
         (subst (λ v. Follows (going_on d s) new (defined_struct s.env.tags v ds) r) (program_on d s (all_stay d.env s k) h) f))))
       where
         begun : (r : Result (Unit {0}) TypeError) → Steps (going_on d s) new (IsProgramOf new) (defined_struct tags p ds) r → Steps d new (IsProgramOf new) (defined_struct tags p ds) r
-        begun r g = then_steps d (going_on d s) new IsNothing (IsProgramOf new) (Fine tt) (λ x. defined_struct tags p ds) tt r (record { agrees = (tt, k.large); kept = goes_to d s (all_stay d.env s k) sound_next }) (λ x w. g)
+        begun r g = then_steps d (going_on d s) new IsNothing (IsProgramOf new) (Fine tt) (λ x. defined_struct tags p ds) tt r (record { agrees = (tt, k.notes); kept = goes_to d s (all_stay d.env s k) sound_next }) (λ x w. g)
 
 -- ---- its members
 
@@ -98,8 +98,8 @@ module _ (N : Nodes) (is : List DeclId) (d : Declarations) (h : IsSound d) (s : 
   abbrev MembersFound : Result MemberList TypeError → Type 0
   MembersFound r = (ds : Decls) → StandDecls N is ds → Finds d.env s (AreMembers s.table) (members_from d.env.env [] ds) r
 
-  members_here : (r : Result MemberList TypeError) → MembersFound r → (ds : Decls) → StandDecls N is ds → Found d.env.found_large s.found_large (AreMembers s.table) (members_from file [] ds) r
-  members_here r f ds o = subst (λ v. Found d.env.found_large s.found_large (AreMembers s.table) (members_from v [] ds) r) (sym (at_file_is d h)) (f ds o)
+  members_here : (r : Result MemberList TypeError) → MembersFound r → (ds : Decls) → StandDecls N is ds → Found (notes_of d.env) (notes_of s) (AreMembers s.table) (members_from file [] ds) r
+  members_here r f ds o = subst (λ v. Found (notes_of d.env) (notes_of s) (AreMembers s.table) (members_from v [] ds) r) (sym (at_file_is d h)) (f ds o)
 
   pub members_stop : (x : TypeError) → MembersFound (Err x) → (ds : Decls) → StandDecls N is ds → Follows d (going_on d s) (defined_struct d.env.env.tags (program_of d) ds) (Err x)
   members_stop x f ds o = then_stops d (going_on d s) (going_on d s) (AreMembers s.table) (IsProgramOf (going_on d s)) (members_from file [] ds) (one_struct file (program_of d)) x (members_here (Err x) f ds o)
@@ -109,13 +109,13 @@ module _ (N : Nodes) (is : List DeclId) (d : Declarations) (h : IsSound d) (s : 
     pub members_below : (ds : Decls) → StandDecls N is ds → AreBelow s.table m
     members_below ds o = by (members_from file [] ds) (members_here (Ok m) f ds o)
       where
-        by : (c : Checked (List (List ℕ × CType))) → Found d.env.found_large s.found_large (AreMembers s.table) c (Ok m) → AreBelow s.table m
+        by : (c : Checked (List (List ℕ × CType))) → Found (notes_of d.env) (notes_of s) (AreMembers s.table) c (Ok m) → AreBelow s.table m
         by (Fine x) q = q.0.1
-        by (Large x) q = q.0.1
+        by (Noted n x) q = q.0.1
         by (Broken a b) q = absurd q
 
     sound_here : (ds : Decls) → StandDecls N is ds → IsSound (going_on d s)
-    sound_here ds o = sound_on d s k h (small_before d.env.found_large s.found_large (AreMembers s.table) (members_from file [] ds) m (members_here (Ok m) f ds o))
+    sound_here ds o = sound_on d s k h (small_before (notes_of d.env) (notes_of s) (AreMembers s.table) (members_from file [] ds) m (members_here (Ok m) f ds o))
 
     -- one more struct
     pub struct_added : (u : State) (n : Declarations) (r : Result (Unit {0}) TypeError) → (IsSound (going_on d s) → Follows (going_on d s) n (one_struct s.env (program_of (going_on d s)) (members_in s.table m)) r) → (ds : Decls) → StandDecls N is ds → Follows d n (defined_struct d.env.env.tags (program_of d) ds) r

@@ -8,7 +8,7 @@ use Rattle.c_syntax.specs.Syntax.{Decl, Decls, Declare, Stmt}
 use Rattle.c_types_model.specs.Types.{CType}
 use Rattle.c_types_model.specs.Limits.{greatest_object}
 use Rattle.c_scopes.specs.Scopes.{meaning_in}
-use Rattle.c_types_rules.specs.Checked.{Checked, Fine, keep, large, small, ◌>>=◌, ◌>>◌}
+use Rattle.c_types_rules.specs.Checked.{Checked, Fine, keep, small, ◌>>=◌, ◌>>◌, noting, Notes}
 use Rattle.c_types_rules.specs.Environment.{extents, is_reserved}
 use Rattle.c_types_rules.specs.Expressions.{annotation_types, declared_name, declared_type}
 use Rattle.c_types_rules.specs.Sources.{Program, at_file, function, function_defined, function_or_global, global, has_main, members_from}
@@ -57,14 +57,11 @@ defined_struct tags p ds = do
   small (nat_le s.extent.size greatest_object)
   Fine (record p { structs = p.structs ++ s ∷ [] })
 
--- what is found, where it may be noted already that an object is too large
-abbrev pub noted : {A : Type 0} → Bool → Checked A → Checked A
-noted true c = large c
-noted false c = c
-
 -- what a source is whose declarations declare this program
 abbrev pub finished : (found_large : Bool) → Program → Outcome
-finished found_large p = decided (noted found_large (keep 0 18 (has_main p.functions) >> Fine p))
+finished found_large p =
+    let n : Notes = record { large = found_large; unevaluated = [] } in
+    decided (noting n (keep 0 18 (has_main p.functions) >> Fine p))
 
 -- the tag of a declaration that defines a struct, by its type words and what follows them
 abbrev pub defined_tag : Base → After → Option (List ℕ)

@@ -15,7 +15,7 @@ IsSmall s = s.extent.size ≤ greatest_object
 pub record IsTypedAs (tags : List (List ℕ)) (p : Program) (s : TypedSource) : Type 0 where
   pub env : s.env.env ≡ at_file tags p
   pub functions : map (function_in s.env.table) s.functions ≡ p.functions
-  pub globals : map (global_in s.env.table.types) s.globals ≡ p.globals
+  pub globals : map (global_in s.env.table) s.globals ≡ p.globals
   -- all numbers are those of the table
   pub are_functions : All (IsFunction s.env.table) s.functions
   pub are_globals : All (IsGlobal s.env.table) s.globals

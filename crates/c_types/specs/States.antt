@@ -1,4 +1,5 @@
 -- What a source declares so far, and what that stands for.
+use Rattle.c_types_environment.specs.States.{notes_of}
 use Rattle.std.specs.Prelude.{◌≡◌, ℕ, ◌-◌, ◌<◌, true, false, List, [], ◌∷◌, map, Result, Ok, Err, OnOk}
 use Rattle.std.specs.List.{All}
 use Rattle.c_builtins.specs.Table.{first_source_function}
@@ -19,7 +20,7 @@ abbrev pub program_of : Declarations → Program
 program_of d = record {
   structs = d.env.env.structs;
   functions = map (function_in d.env.table) d.functions.items;
-  globals = map (global_in d.env.table.types) d.globals.items;
+  globals = map (global_in d.env.table) d.globals.items;
   names = innermost d.env.env.scopes;
 }
 
@@ -68,5 +69,5 @@ IsFunctionPlace new a place = (program_of new ≡ a.1) × (place ≡ a.0 - first
 -- the program that the rules find is declared in the end, or the rule that is broken is named
 abbrev pub Ends : (old : Declarations) → Checked Program → Result Declarations TypeError → Type 0
 Ends old c (Ok new) = Steps {B = Unit {0}} old new (λ p _. program_of new ≡ p) c (Ok tt)
-Ends old c (Err e) = Found {A = Program} {B = Unit {0}} old.env.found_large old.env.found_large (λ _ _.
+Ends old c (Err e) = Found {A = Program} {B = Unit {0}} (notes_of old.env) (notes_of old.env) (λ _ _.
     Unit {0}) c (Err e)

@@ -47,7 +47,7 @@ fn globals_end(env: &Environment, globals: &[Global]) -> u64
     requires aligned { All IsAligned env.now.env.structs }
     requires globals { All (IsGlobal env.now.table) globals.now }
     ensures { (p : Program) → p.structs ≡ env.now.env.structs →
-        p.globals ≡ map (global_in env.now.table.types) globals.now →
+        p.globals ≡ map (global_in env.now.table) globals.now →
         result ≡ capped (globals_end_by_rules p) }
 {
     let mut end: u64 = 0;

@@ -12,7 +12,7 @@ use Rattle.c_types_model.specs.Layouts.{capped, capped_extent, extent_of}
 use Rattle.c_types_model.specs.declared.extent.Extent.{Extent}
 use Rattle.c_types_table.proofs.Extents.{extents_capped}
 use Rattle.c_types_operators.specs.Answers.{IsSizeOf}
-use Rattle.c_types_rules.specs.Checked.{Checked, Fine, Large, Broken, keep, large, ◌>>=◌, ◌>>◌}
+use Rattle.c_types_rules.specs.Checked.{Checked, Fine, Noted, Broken, keep, noting, ◌>>=◌, ◌>>◌}
 use Rattle.c_types_rules.specs.TypeTests.{is_complete, is_integer, same_type}
 use Rattle.c_types_rules.specs.Operators.{assignment, assignment_of, binary, compound_of, difference, difference_is_integer, difference_of, is_unfit, left_object, moved, operator_in, pointer_difference, pointer_sum, rule_of_right, size_in, step, step_of, sum, sum_is_pointer, sum_of, to_kind}
 use Rattle.c_types_rules.specs.Expressions.{a_value, complete, element, is_small, pointed, pointed_of, postfixed, prefixed, rule_of_incomplete, subscript, subscript_of}
@@ -135,7 +135,7 @@ assignment_of_capped es from (Some op) o b =
 
 assigned_left : (es : List Extent) (from : ℕ) (op : Option Op) (b : Value) (c : Checked Object) → (c >>= (λ o. assignment_of (cap_all es) from op o b)) ≡ (c >>= (λ o. assignment_of es from op o b))
 assigned_left es from op b (Fine o) = assignment_of_capped es from op o b
-assigned_left es from op b (Large o) = ap large (assignment_of_capped es from op o b)
+assigned_left es from op b (Noted n o) = ap (noting n) (assignment_of_capped es from op o b)
 assigned_left es from op b (Broken f r) = refl
 
 pub assignment_capped : (es : List Extent) (from : ℕ) (s : Sign) (a : Typed) (b : Value) → assignment (cap_all es) from s a b ≡ assignment es from s a b

@@ -14,6 +14,7 @@ use Rattle.c_types_table.specs.declared.ids.TypeId.{TypeId}
 use Rattle.c_types_table.specs.declared.ty.Ty.{Ty}
 use Rattle.c_types_table.specs.Tables.{at, types_of}
 use Rattle.c_scopes.specs.Scopes.{Scope}
+use Rattle.c_types_nodes.specs.declared.ids.NodeId.{NodeId}
 use Rattle.c_types_nodes.specs.Tables.{Table}
 use Rattle.c_types_table.proofs.Extents.{extents_capped}
 use Rattle.c_types_rules.specs.Environment.{Struct}
@@ -65,13 +66,13 @@ defined_sound types structs more scopes ms e h below size members extents =
       scoped = h.scoped;
     }
 
-pub defined_state : (t : Table) (tags : List (List ℕ)) (structs more : Definitions) (scopes : List (Scope Meaning)) (large : Bool) (now : State) (ms : MemberList) → state_by t tags structs scopes large ≡ now → more.members ≡ structs.members ++ ms ∷ []
-    → state_by t tags more scopes large ≡ record now { env = with_struct now.env (members_by (types_of now.table.types) ms) }
-defined_state t tags structs more scopes large now ms same members =
+pub defined_state : (t : Table) (tags : List (List ℕ)) (structs more : Definitions) (scopes : List (Scope Meaning)) (large : Bool) (ids : List NodeId) (now : State) (ms : MemberList) → state_by t tags structs scopes large ids ≡ now → more.members ≡ structs.members ++ ms ∷ []
+    → state_by t tags more scopes large ids ≡ record now { env = with_struct now.env (members_by (types_of now.table.types) ms) }
+defined_state t tags structs more scopes large ids now ms same members =
     let ts = types_of t.types in
-    let there : State → Type 0 = λ s. state_by t tags more scopes large ≡ record s { env = with_struct s.env (members_by (types_of s.table.types) ms) } in
+    let there : State → Type 0 = λ s. state_by t tags more scopes large ids ≡ record s { env = with_struct s.env (members_by (types_of s.table.types) ms) } in
     subst there same
-    (ap (λ ss. record { table = t; env = record { tags = tags; structs = ss; scopes = scopes_by ts scopes }; found_large = large })
+    (ap (λ ss. record { table = t; env = record { tags = tags; structs = ss; scopes = scopes_by ts scopes }; found_large = large; unevaluated = ids })
     (ap (structs_by ts []) members ∙ struct_pushed ts structs.members ms))
 
 -- ---- what is aligned

@@ -11,7 +11,10 @@ use Rattle.c_types_table.specs.Tables.{IsBelow, at, types_of}
 use Rattle.c_scopes.specs.Scopes.{Scope}
 use Rattle.c_types_rules.specs.Environment as typing
 use Rattle.c_types_rules.specs.Environment.{Environment, Struct}
+use Rattle.c_types_nodes.specs.declared.ids.NodeId.{NodeId}
 use Rattle.c_types_nodes.specs.Tables.{Table, Keeps, KeepsTypes}
+use Rattle.c_types_nodes.specs.Lists.{AreNodes}
+use Rattle.c_types_nodes.proofs.Lists.{nodes_kept}
 use Rattle.c_types_nodes.proofs.Kept.{SameTypes}
 use Rattle.c_types_nodes.proofs.Growing.{itself, same_types, through}
 use Rattle.c_types_structs.specs.Members.{Definitions, MemberList}
@@ -89,15 +92,15 @@ env_kept a b tags structs scopes k h =
 -- ---- one after another
 
 pub keeps_itself : (s : State) → KeepsAll s s
-keeps_itself s = record { numbers = itself s.table; env = refl; large = refl }
+keeps_itself s = record { numbers = itself s.table; env = refl; notes = refl }
 
 pub keeps_through : (s t u : State) → KeepsAll s t → KeepsAll t u → KeepsAll s u
-keeps_through s t u a b = record { numbers = through s.table t.table u.table a.numbers b.numbers; env = b.env ∙ a.env; large = b.large ∙ a.large }
+keeps_through s t u a b = record { numbers = through s.table t.table u.table a.numbers b.numbers; env = b.env ∙ a.env; notes = b.notes ∙ a.notes }
 
 -- ---- a state as its fields
 
-pub table_grown : (t u : Table) (tags : List (List ℕ)) (structs : Definitions) (scopes : List (Scope Meaning)) (large : Bool) (now : State) → state_by t tags structs scopes large ≡ now → IsSound t.types structs scopes → Keeps t u
-    → KeepsAll now (state_by u tags structs scopes large)
-table_grown t u tags structs scopes large now same h k =
-    let from : State → Type 0 = λ s. KeepsAll s (state_by u tags structs scopes large) in
-    subst from same (record { numbers = k; env = env_kept t.types u.types tags structs scopes k.types h; large = refl })
+pub table_grown : (t u : Table) (tags : List (List ℕ)) (structs : Definitions) (scopes : List (Scope Meaning)) (large : Bool) (ids : List NodeId) (now : State) → state_by t tags structs scopes large ids ≡ now → IsSound t.types structs scopes → AreNodes t ids → Keeps t u
+    → KeepsAll now (state_by u tags structs scopes large ids)
+table_grown t u tags structs scopes large ids now same h all k =
+    let from : State → Type 0 = λ s. KeepsAll s (state_by u tags structs scopes large ids) in
+    subst from same (record { numbers = k; env = env_kept t.types u.types tags structs scopes k.types h; notes = ap (λ xs. record { large = large; unevaluated = xs }) (nodes_kept t u k ids all) })

@@ -7,6 +7,7 @@ use Rattle.c_types_rules.specs.Environment.{Environment, declarable, is_reserved
 use Rattle.c_types_rules.specs.Expressions.{member_in, member_of}
 use Rattle.c_types_rules.specs.TypedTree.{Object, AnObject, MemberOf}
 use Rattle.c_types_table.specs.Tables.{types_of}
+use Rattle.c_types_nodes.specs.declared.ids.NodeId.{NodeId}
 use Rattle.c_types_nodes.specs.Tables.{Table}
 use Rattle.c_types_operators.specs.Answers.{Agrees}
 use Rattle.c_types_operators.specs.declared.error.TypeError.{TypeError}
@@ -59,11 +60,11 @@ pub free_here : (R : Unit {0} → Unit {0} → Type 0) (from : ℕ) (name : List
     → Agrees R (declarable env from name) (Ok tt)
 free_here R from name ts scopes env same h k r = passed R (declarable env from name) (Fine tt) (Ok tt) (name_free env from name h (here ts scopes env name false same k)) r
 
-pub declared_state : (t : Table) (tags : List (List ℕ)) (structs : Definitions) (scopes more : List (Scope Meaning)) (large : Bool) (now : State) (name : List ℕ) (m : Meaning) → state_by t tags structs scopes large ≡ now → more ≡ declared name m scopes
-    → state_by t tags structs more large ≡ record now { env = with_name now.env name (meaning_by (types_of now.table.types) m) }
-declared_state t tags structs scopes more large now name m same h =
+pub declared_state : (t : Table) (tags : List (List ℕ)) (structs : Definitions) (scopes more : List (Scope Meaning)) (large : Bool) (ids : List NodeId) (now : State) (name : List ℕ) (m : Meaning) → state_by t tags structs scopes large ids ≡ now → more ≡ declared name m scopes
+    → state_by t tags structs more large ids ≡ record now { env = with_name now.env name (meaning_by (types_of now.table.types) m) }
+declared_state t tags structs scopes more large ids now name m same h =
     let ts = types_of t.types in
-    let there : State → Type 0 = λ s. state_by t tags structs more large ≡ record s { env = with_name s.env name (meaning_by (types_of s.table.types) m) } in
+    let there : State → Type 0 = λ s. state_by t tags structs more large ids ≡ record s { env = with_name s.env name (meaning_by (types_of s.table.types) m) } in
     subst there same
-    (ap (λ x. state_by t tags structs x large) h
-    ∙ ap (λ ns. record { table = t; env = record { tags = tags; structs = structs_by ts [] structs.members; scopes = ns }; found_large = large }) (declared_by ts name m scopes))
+    (ap (λ x. state_by t tags structs x large ids) h
+    ∙ ap (λ ns. record { table = t; env = record { tags = tags; structs = structs_by ts [] structs.members; scopes = ns }; found_large = large; unevaluated = ids }) (declared_by ts name m scopes))

@@ -9,7 +9,10 @@ use Rattle.c_types_table.specs.declared.ty.Ty.{Ty}
 use Rattle.c_types_table.specs.Tables.{types_of}
 use Rattle.c_scopes.specs.Scopes.{Scope}
 use Rattle.c_types_rules.specs.Environment.{Environment, Struct, extents}
+use Rattle.c_types_rules.specs.Checked.{Notes}
+use Rattle.c_types_nodes.specs.declared.ids.NodeId.{NodeId}
 use Rattle.c_types_nodes.specs.Tables.{Table, Keeps}
+use Rattle.c_types_nodes.specs.Lists.{nodes_at}
 use Rattle.c_types_structs.specs.Members.{Definitions}
 use Rattle.c_types_environment.specs.declared.meaning.Meaning.{Meaning}
 use Rattle.c_types_environment.specs.Reading.{scopes_by, structs_by, struct_with, IsNameBelow, IsMemberBelow}
@@ -21,12 +24,18 @@ pub record State : Type 0 where
   pub env : Environment
   -- an object was found that is too large
   pub found_large : Bool
+  -- the nodes that stand unevaluated
+  pub unevaluated : List NodeId
+
+-- what is noted
+abbrev pub notes_of : State → Notes
+notes_of s = record { large = s.found_large; unevaluated = nodes_at s.table s.unevaluated }
 
 -- all numbers stand for what they did, and everything else is as it was
 pub record KeepsAll (old new : State) : Type 0 where
   pub numbers : Keeps old.table new.table
   pub env : new.env ≡ old.env
-  pub large : new.found_large ≡ old.found_large
+  pub notes : notes_of new ≡ notes_of old
 
 -- what the tags, structs and names stand for where types go by the numbers of a table
 abbrev pub env_by : List CType → List (List ℕ) → Definitions → List (Scope Meaning) → Environment
@@ -39,12 +48,13 @@ env_by ts tags structs scopes = record {
 
 -- what a table and all that is declared stand for
 abbrev pub state_by : Table → List (List ℕ) → Definitions → List (Scope Meaning) → (found_large : Bool) →
-    State
-state_by t tags structs scopes large = record {
+    List NodeId → State
+state_by t tags structs scopes large ids = record {
   table = t;
   env =
       env_by (types_of t.types) tags structs scopes;
   found_large = large;
+  unevaluated = ids;
 }
 
 -- the sizes and alignments of structs as they are stored

@@ -2,7 +2,7 @@
 use Rattle.std.specs.Prelude.{ℕ, zero, suc, List, [], ◌∷◌, ◌++◌, codes, Option, Some, None}
 use Rattle.c_syntax.specs.declared.declaration.Base.{Base}
 use Rattle.c_syntax.specs.Syntax.{Annot, Annots, Atom, Decl, Decls, Item, Items, Parts, Declare, Annotate, MoreAnnots, MoreItems, NameAtom, NoAnnots, NoItems, NoParts, NoRest, OneFactor, Params, Pointer}
-use Rattle.c_types_rules.specs.Checked.{Checked, Fine, Large, Broken}
+use Rattle.c_types_rules.specs.Checked.{Checked, Fine, Noted, Broken}
 use Rattle.c_types_rules.specs.Sources.{Program, program}
 use Rattle.annot_reader_rules.specs.Notes.{Annotated, Notes, Parameter}
 use Rattle.annot_reader_rules.specs.Cuts.{annotations}
@@ -29,7 +29,7 @@ annotated f p b =
 
 abbrev read : Decls → Checked Program → Checked Annotated
 read ds (Fine p) = annotations ds p
-read ds (Large p) = annotations ds p
+read ds (Noted n p) = annotations ds p
 read ds (Broken from rule) = Broken 0 0
 
 abbrev found : Decls → Checked Annotated
@@ -56,7 +56,7 @@ first_parameter (n ∷ ns) = first n.params
 
 abbrev parameter_in : Checked Annotated → Option Parameter
 parameter_in (Fine a) = first_parameter a.functions
-parameter_in (Large a) = first_parameter a.functions
+parameter_in (Noted n a) = first_parameter a.functions
 parameter_in (Broken from rule) = None
 
 -- what is said of its first parameter

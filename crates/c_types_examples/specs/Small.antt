@@ -9,7 +9,7 @@ use Rattle.c_syntax.specs.declared.declaration.Base.TheVariants as bases
 use Rattle.c_syntax.specs.Syntax.{Expr, Exprs, Decl, Decls, Parts, Rest, Stmt, Entries, Name, Number, Char, Binary, Cond, Prefix, Cast, Call, SizeofExpr, NoExprs, MoreExprs, Declare, NoDecls, MoreDecls, NoAnnots, NoParts, Pointer, Array, Params, NoRest, Initial, Plain, Body, Members, Block, Return, NoEntries, MoreEntries, LocalEntry, StmtEntry, OneExpr, decls_then}
 use Rattle.c_types_model.specs.Types.{CType}
 use Rattle.c_types_model.specs.declared.extent.Extent.{Extent}
-use Rattle.c_types_rules.specs.Checked.{Checked, Fine, Large, Broken}
+use Rattle.c_types_rules.specs.Checked.{Checked, Fine, Noted, Broken}
 use Rattle.c_types_rules.specs.TypedTree.{Typed, AValue, BuiltinFunction, CallOf, typed_type, value_of}
 use Rattle.c_types_rules.specs.Constants.{integer_constant}
 use Rattle.c_types_rules.specs.Environment.{Environment}
@@ -68,12 +68,12 @@ nowhere = record { tags = []; structs = []; scopes = [] }
 
 abbrev type_found : Checked Typed → Option CType
 type_found (Fine x) = Some (typed_type x)
-type_found (Large x) = Some (typed_type x)
+type_found (Noted n x) = Some (typed_type x)
 type_found (Broken from rule) = None
 
 abbrev constant_found : Checked Typed → Option ℤ
 constant_found (Fine x) = integer_constant (value_of x)
-constant_found (Large x) = integer_constant (value_of x)
+constant_found (Noted n x) = integer_constant (value_of x)
 constant_found (Broken from rule) = None
 
 -- the type of an expression

@@ -12,7 +12,7 @@ use Rattle.c_types_rules.specs.Environment.{Environment}
 use Rattle.c_types_rules.specs.Expressions.{atom_type, item_type}
 use Rattle.c_types_operators.specs.declared.error.TypeError.{TypeError}
 use Rattle.c_types_operators.specs.Answers.{IsNothing}
-use Rattle.c_types_environment.specs.States.{State}
+use Rattle.c_types_environment.specs.States.{notes_of, State}
 use Rattle.c_syntax_laws.specs.Numbers.{FitsAtom}
 use Rattle.c_types_expressions.specs.Found.{Finds}
 use Rattle.c_types_expressions.specs.Walks.{IsAtom, IsDecl, IsItem}
@@ -48,13 +48,13 @@ second_factor N v w e (TwoFactors f a b, (i, from, first, is, second), fits) = l
 
 module _ (N : Nodes) (v : ItemNode) (old : State) where
   pub factor_stops : (new : State) (x : Item) (e : TypeError) → ((a : Atom) → StandsAtom N v.a a → Finds old new IsNothing (atom_type a old.env v.from) (Err e)) → StandsItem N v x → Finds old new IsNothing (item_type x old.env) (Err e)
-  factor_stops new (OneFactor f a) e h s = passed old.found_large new.found_large IsNothing _ _ (Err e) (ap (atom_type a old.env) (sym s.0)) (h a s.1)
+  factor_stops new (OneFactor f a) e h s = passed (notes_of old) (notes_of new) IsNothing _ _ (Err e) (ap (atom_type a old.env) (sym s.0)) (h a s.1)
   factor_stops new (TwoFactors f a b) e h (i, from, first, is, second) =
-      stopped_before old.found_large new.found_large new.found_large IsNothing IsNothing (atom_type a old.env f) (atom_type b old.env f) e
-      (passed old.found_large new.found_large IsNothing _ _ (Err e) (ap (atom_type a old.env) (sym from)) (h a first))
+      stopped_before (notes_of old) (notes_of new) (notes_of new) IsNothing IsNothing (atom_type a old.env f) (atom_type b old.env f) e
+      (passed (notes_of old) (notes_of new) IsNothing _ _ (Err e) (ap (atom_type a old.env) (sym from)) (h a first))
 
   pub one_factor : (new : State) (x : Item) → v.b ≡ None → ((a : Atom) → StandsAtom N v.a a → Finds old new IsNothing (atom_type a old.env v.from) (Ok tt)) → StandsItem N v x → Finds old new IsNothing (item_type x old.env) (Ok tt)
-  one_factor new (OneFactor f a) none h s = passed old.found_large new.found_large IsNothing _ _ (Ok tt) (ap (atom_type a old.env) (sym s.0)) (h a s.1)
+  one_factor new (OneFactor f a) none h s = passed (notes_of old) (notes_of new) IsNothing _ _ (Ok tt) (ap (atom_type a old.env) (sym s.0)) (h a s.1)
   one_factor new (TwoFactors f a b) none h (i, from, first, is, second) = absurd cc
 
   pub two_factors : (mid new : State) (x : Item) (w : Factor) (r : Result (Unit {0}) TypeError) → v.b ≡ Some w → mid.env ≡ old.env → ((a : Atom) → StandsAtom N v.a a → Finds old mid IsNothing (atom_type a old.env v.from) (Ok tt)) →
@@ -62,6 +62,6 @@ module _ (N : Nodes) (v : ItemNode) (old : State) where
   two_factors mid new (OneFactor f a) w r two e h k s = absurd cc
   two_factors mid new (TwoFactors f a b) w r two e h k (i, from, first, is, second) =
       let one : i ≡ w = cc in
-      gone_on_after old.found_large mid.found_large new.found_large IsNothing IsNothing (atom_type a old.env f) (atom_type b old.env f) tt r
-      (passed old.found_large mid.found_large IsNothing _ _ (Ok tt) (ap (atom_type a old.env) (sym from)) (h a first))
-      (passed mid.found_large new.found_large IsNothing _ _ r (ap (atom_type b old.env) (sym from) ∙ ap (λ F. atom_type b F v.from) (sym e)) (k b (subst (λ u. StandsAtom N u b) one second)))
+      gone_on_after (notes_of old) (notes_of mid) (notes_of new) IsNothing IsNothing (atom_type a old.env f) (atom_type b old.env f) tt r
+      (passed (notes_of old) (notes_of mid) IsNothing _ _ (Ok tt) (ap (atom_type a old.env) (sym from)) (h a first))
+      (passed (notes_of mid) (notes_of new) IsNothing _ _ r (ap (atom_type b old.env) (sym from) ∙ ap (λ F. atom_type b F v.from) (sym e)) (k b (subst (λ u. StandsAtom N u b) one second)))

@@ -5,7 +5,7 @@ use Rattle.c_syntax.specs.Nodes.{Nodes}
 use Rattle.c_syntax.specs.Syntax.{Expr, Exprs, NoExprs, MoreExprs}
 use Rattle.c_syntax.specs.Stands.{Stands, StandExprs}
 use Rattle.c_types_model.specs.Types.{CType, CTypes, NoTypes, MoreTypes}
-use Rattle.c_types_rules.specs.Checked.{Checked, Fine, Large, Broken, ◌>>=◌}
+use Rattle.c_types_rules.specs.Checked.{Checked, Fine, Noted, Broken, ◌>>=◌, Notes}
 use Rattle.c_types_rules.specs.Environment.{Environment}
 use Rattle.c_types_rules.specs.Expressions.{arguments, expression, start_of}
 use Rattle.c_types_rules.specs.Operators.{assigned}
@@ -16,7 +16,7 @@ use Rattle.c_types_operators.specs.declared.error.TypeError.{TypeError}
 use Rattle.c_types_operators.specs.declared.error.TypeError.TheVariants.{Rule}
 use Rattle.c_types_operators.specs.Answers.{IsAt}
 use Rattle.c_types_operators.specs.Calls.{types_after}
-use Rattle.c_types_environment.specs.States.{State}
+use Rattle.c_types_environment.specs.States.{notes_of, State}
 use Rattle.c_types_expressions.specs.Found.{Found, Finds, AreValues}
 use Rattle.c_types_expressions.specs.Pieces.{argument, argument_of}
 use Rattle.c_types_expressions.proofs.Sequences.{passed, gone_on, stopped_in, in_turn, same_steps}
@@ -42,7 +42,7 @@ one_value_more table (MoreValues w vs) (i ∷ ids) v id h p = (h.0, one_value_mo
 
 nothing_before : (c : Checked Values) → (c >>= (λ vs. Fine (values_joined NoValues vs))) ≡ c
 nothing_before (Fine x) = refl
-nothing_before (Large x) = refl
+nothing_before (Noted n x) = refl
 nothing_before (Broken from rule) = refl
 
 -- ---- parameters that are left
@@ -72,12 +72,12 @@ rest_is x xs E from (MoreTypes t ts) K =
     ∙ sym (in_turn (expression x E) (λ a. argument (start_of x) t a) (λ v. arguments xs E from ts >>= (λ vs. K (MoreValues v vs)))))
 
 -- a value that is found is there
-there_now : (t : Table) (id : NodeId) (c : Checked Value) (f g : Bool) → Found f g (IsAt t) c (Ok id) → IsAt t (value_at t id) id
+there_now : (t : Table) (id : NodeId) (c : Checked Value) (f g : Notes) → Found f g (IsAt t) c (Ok id) → IsAt t (value_at t id) id
 there_now t id (Fine v) f g h = subst (λ w. IsAt t w id) (sym (value_is t id v h.0)) h.0
-there_now t id (Large v) f g h = subst (λ w. IsAt t w id) (sym (value_is t id v h.0)) h.0
+there_now t id (Noted n v) f g h = subst (λ w. IsAt t w id) (sym (value_is t id v h.0)) h.0
 there_now t id (Broken from rule) f g h = absurd h
 
-pub arguments_begin : (N : Nodes) (E : Environment) (from : ℕ) (f : Bool) (t : Table) (vs : List ExprId) (xs : Exprs) (ts : CTypes) → StandExprs N vs xs → RestOfArguments N E from f f t [] vs xs ts ts
+pub arguments_begin : (N : Nodes) (E : Environment) (from : ℕ) (f : Notes) (t : Table) (vs : List ExprId) (xs : Exprs) (ts : CTypes) → StandExprs N vs xs → RestOfArguments N E from f f t [] vs xs ts ts
 arguments_begin N E from f t vs xs ts h = record {
   rest = xs;
   stand = h;
@@ -86,52 +86,52 @@ arguments_begin N E from f t vs xs ts h = record {
   go_on = λ table h r p. passed f h (AreValues table) _ _ r (sym (nothing_before (arguments xs E from ts))) p;
 }
 
-pub arguments_next : (N : Nodes) (E : Environment) (from : ℕ) (f : Bool) (now new : State) (ids : List NodeId) (v : ExprId) (vs us : List ExprId) (xs : Exprs) (ts : CTypes) (number : ℕ) (id : NodeId) → us ≡ v ∷ vs → Keeps now.table new.table → now.env ≡ E →
-    RestOfArguments N E from f now.found_large now.table ids us xs ts (types_after number ts) →
+pub arguments_next : (N : Nodes) (E : Environment) (from : ℕ) (f : Notes) (now new : State) (ids : List NodeId) (v : ExprId) (vs us : List ExprId) (xs : Exprs) (ts : CTypes) (number : ℕ) (id : NodeId) → us ≡ v ∷ vs → Keeps now.table new.table → now.env ≡ E →
+    RestOfArguments N E from f (notes_of now) now.table ids us xs ts (types_after number ts) →
     ((x : Expr) → Stands N v x → Finds now new (IsAt new.table) (argument_of x now.env from (types_after number ts)) (Ok id)) →
-    RestOfArguments N E from f new.found_large new.table (ids ++ id ∷ []) vs xs ts (types_after (number + 1) ts)
+    RestOfArguments N E from f (notes_of new) new.table (ids ++ id ∷ []) vs xs ts (types_after (number + 1) ts)
 arguments_next N E from f now new ids v vs us xs ts number id u k e rest given =
     let one = first_expr N v vs rest.rest (subst (λ ws. StandExprs N ws rest.rest) u rest.stand) in
     let there : Finds now new (IsAt new.table) (argument_of one.first E from (types_after number ts)) (Ok id) =
-    passed now.found_large new.found_large (IsAt new.table) _ _ (Ok id) (ap (λ F. argument_of one.first F from (types_after number ts)) (sym e)) (given one.first one.on_first) in
+    passed (notes_of now) (notes_of new) (IsAt new.table) _ _ (Ok id) (ap (λ F. argument_of one.first F from (types_after number ts)) (sym e)) (given one.first one.on_first) in
     record {
       rest = one.others;
       stand = one.on_others;
       done = values_joined rest.done (MoreValues (value_at new.table id) NoValues);
       there = one_value_more new.table rest.done ids (value_at new.table id) id (values_stay now.table new.table rest.done ids k rest.there) (there_now new.table id _ _ _ there);
-      go_on = λ table h r p. rest.go_on table h r (passed now.found_large h (AreValues table) _ _ r
+      go_on = λ table h r p. rest.go_on table h r (passed (notes_of now) h (AreValues table) _ _ r
           (ap (λ ys. arguments ys E from (types_after number ts) >>= (λ ws. Fine (values_joined rest.done ws))) one.is ∙ rest_is one.first one.others E from (types_after number ts) (λ ws. Fine (values_joined rest.done ws)))
-          (gone_on now.found_large new.found_large h (IsAt new.table) (AreValues table) (argument_of one.first E from (types_after number ts)) _ id r there (λ w at.
-          passed new.found_large h (AreValues table) _ _ r
+          (gone_on (notes_of now) (notes_of new) h (IsAt new.table) (AreValues table) (argument_of one.first E from (types_after number ts)) _ id r there (λ w at.
+          passed (notes_of new) h (AreValues table) _ _ r
           (ap (λ qs. arguments one.others E from qs >>= (λ ws. Fine (values_joined rest.done (MoreValues w ws)))) (sym (after_more number ts))
           ∙ same_steps (arguments one.others E from (types_after (number + 1) ts)) _ _ (λ ws. ap Fine (ap (λ y. values_joined rest.done (MoreValues y ws)) (sym (value_is new.table id w at)) ∙ sym (joined_more rest.done (value_at new.table id) ws))))
           p)));
     }
 
-pub arguments_stop : (N : Nodes) (E : Environment) (from : ℕ) (f : Bool) (now new : State) (ids : List NodeId) (v : ExprId) (vs us : List ExprId) (xs : Exprs) (ts : CTypes) (number : ℕ) (x : TypeError) → us ≡ v ∷ vs → now.env ≡ E →
-    RestOfArguments N E from f now.found_large now.table ids us xs ts (types_after number ts) →
+pub arguments_stop : (N : Nodes) (E : Environment) (from : ℕ) (f : Notes) (now new : State) (ids : List NodeId) (v : ExprId) (vs us : List ExprId) (xs : Exprs) (ts : CTypes) (number : ℕ) (x : TypeError) → us ≡ v ∷ vs → now.env ≡ E →
+    RestOfArguments N E from f (notes_of now) now.table ids us xs ts (types_after number ts) →
     ((y : Expr) → Stands N v y → Finds now new (IsAt new.table) (argument_of y now.env from (types_after number ts)) (Err x)) →
-    Found f new.found_large (AreValues new.table) (arguments xs E from ts) (Err x)
+    Found f (notes_of new) (AreValues new.table) (arguments xs E from ts) (Err x)
 arguments_stop N E from f now new ids v vs us xs ts number x u e rest given =
     let one = first_expr N v vs rest.rest (subst (λ ws. StandExprs N ws rest.rest) u rest.stand) in
-    rest.go_on new.table new.found_large (Err x) (passed now.found_large new.found_large (AreValues new.table) _ _ (Err x)
+    rest.go_on new.table (notes_of new) (Err x) (passed (notes_of now) (notes_of new) (AreValues new.table) _ _ (Err x)
     (ap (λ ys. arguments ys E from (types_after number ts) >>= (λ ws. Fine (values_joined rest.done ws))) one.is ∙ rest_is one.first one.others E from (types_after number ts) (λ ws. Fine (values_joined rest.done ws)))
-    (stopped_in now.found_large new.found_large new.found_large (IsAt new.table) (AreValues new.table) (argument_of one.first E from (types_after number ts)) _ x
-    (passed now.found_large new.found_large (IsAt new.table) _ _ (Err x) (ap (λ F. argument_of one.first F from (types_after number ts)) (sym e)) (given one.first one.on_first))))
+    (stopped_in (notes_of now) (notes_of new) (notes_of new) (IsAt new.table) (AreValues new.table) (argument_of one.first E from (types_after number ts)) _ x
+    (passed (notes_of now) (notes_of new) (IsAt new.table) _ _ (Err x) (ap (λ F. argument_of one.first F from (types_after number ts)) (sym e)) (given one.first one.on_first))))
 
 -- fewer arguments than parameters
-pub too_few : (N : Nodes) (E : Environment) (from : ℕ) (f : Bool) (now : State) (ids : List NodeId) (us : List ExprId) (xs : Exprs) (ts : CTypes) (number : ℕ) (t : CType) (qs : CTypes) → us ≡ [] → types_after number ts ≡ MoreTypes t qs →
-    RestOfArguments N E from f now.found_large now.table ids us xs ts (types_after number ts) → Found f now.found_large (AreValues now.table) (arguments xs E from ts) (Err (Rule from 9))
+pub too_few : (N : Nodes) (E : Environment) (from : ℕ) (f : Notes) (now : State) (ids : List NodeId) (us : List ExprId) (xs : Exprs) (ts : CTypes) (number : ℕ) (t : CType) (qs : CTypes) → us ≡ [] → types_after number ts ≡ MoreTypes t qs →
+    RestOfArguments N E from f (notes_of now) now.table ids us xs ts (types_after number ts) → Found f (notes_of now) (AreValues now.table) (arguments xs E from ts) (Err (Rule from 9))
 too_few N E from f now ids us xs ts number t qs u more rest =
     let none = no_expr N rest.rest (subst (λ ws. StandExprs N ws rest.rest) u rest.stand) in
-    rest.go_on now.table now.found_large (Err (Rule from 9)) (passed now.found_large now.found_large (AreValues now.table) _ _ (Err (Rule from 9))
+    rest.go_on now.table (notes_of now) (Err (Rule from 9)) (passed (notes_of now) (notes_of now) (AreValues now.table) _ _ (Err (Rule from 9))
     (ap (λ ys. arguments ys E from (types_after number ts) >>= (λ ws. Fine (values_joined rest.done ws))) none ∙ ap (λ ps. arguments NoExprs E from ps >>= (λ ws. Fine (values_joined rest.done ws))) more)
     (refl, refl))
 
-pub arguments_end : (N : Nodes) (E : Environment) (from : ℕ) (f : Bool) (now : State) (ids : List NodeId) (us : List ExprId) (xs : Exprs) (ts : CTypes) (number : ℕ) → us ≡ [] → types_after number ts ≡ NoTypes →
-    RestOfArguments N E from f now.found_large now.table ids us xs ts (types_after number ts) → Found f now.found_large (AreValues now.table) (arguments xs E from ts) (Ok ids)
+pub arguments_end : (N : Nodes) (E : Environment) (from : ℕ) (f : Notes) (now : State) (ids : List NodeId) (us : List ExprId) (xs : Exprs) (ts : CTypes) (number : ℕ) → us ≡ [] → types_after number ts ≡ NoTypes →
+    RestOfArguments N E from f (notes_of now) now.table ids us xs ts (types_after number ts) → Found f (notes_of now) (AreValues now.table) (arguments xs E from ts) (Ok ids)
 arguments_end N E from f now ids us xs ts number u no_more rest =
     let none = no_expr N rest.rest (subst (λ ws. StandExprs N ws rest.rest) u rest.stand) in
-    rest.go_on now.table now.found_large (Ok ids) (passed now.found_large now.found_large (AreValues now.table) _ _ (Ok ids)
+    rest.go_on now.table (notes_of now) (Ok ids) (passed (notes_of now) (notes_of now) (AreValues now.table) _ _ (Ok ids)
     (ap (λ ys. arguments ys E from (types_after number ts) >>= (λ ws. Fine (values_joined rest.done ws))) none ∙ (ap (λ ps. arguments NoExprs E from ps >>= (λ ws. Fine (values_joined rest.done ws))) no_more ∙ ap Fine (joined_end rest.done)))
     (rest.there, refl))

@@ -18,7 +18,7 @@ use Rattle.c_types_rules.specs.Environment.{Environment, base_type, extents}
 use Rattle.c_types_rules.specs.Expressions.{expression, declared_type, declarator_type, annotation_types, parameter_type, parameter_scope, with_parameter, member, prefixed, postfixed}
 use Rattle.c_types_rules.specs.TypedTree.{Typed, typed_type}
 use Rattle.c_syntax_laws.specs.Numbers.{FitsExpr, FitsExprs, FitsDecl, FitsAnnots, FitsParts}
-use Rattle.c_types_expressions.specs.Pieces.{binary_of, assignment_of, choice_of, subscript_of, cast_of, arrow_from, size_constant, parameter, whole_type}
+use Rattle.c_types_expressions.specs.Pieces.{binary_of, assignment_of, choice_of, subscript_of, cast_of, arrow_from, size_constant, size_of_operand, parameter, whole_type}
 use Rattle.c_types_expressions.specs.Walks.{IsExpr, IsDecl}
 
 -- of one operand
@@ -105,7 +105,7 @@ postfix_parts N i e s a at k x h =
     let p = postfix_only N i e.from s a x (e, at, refl, k) h in
     record { operand = p.0; stand = p.2; is = λ E. ap (λ w. expression w E) p.1; fits = λ f. subst FitsExpr p.1 f }
 
-pub sizeof_expr_parts : (N : Nodes) (i : ExprId) (e : ExprNode) (a : ExprId) → expr_at N i ≡ Some e → e.kind ≡ exprs.SizeofExpr a → (x : Expr) → Stands N i x → OfOne N a x (λ E u. size_constant (extents E) e.from (typed_type u))
+pub sizeof_expr_parts : (N : Nodes) (i : ExprId) (e : ExprNode) (a : ExprId) → expr_at N i ≡ Some e → e.kind ≡ exprs.SizeofExpr a → (x : Expr) → Stands N i x → OfOne N a x (λ E u. size_of_operand (extents E) e.from u)
 sizeof_expr_parts N i e a at k x h =
     let p = sizeof_expr_only N i e.from a x (e, at, refl, k) h in
     record { operand = p.0; stand = p.2; is = λ E. ap (λ w. expression w E) p.1; fits = λ f. subst FitsExpr p.1 f }

@@ -1,7 +1,7 @@
 -- What numbers stand for after more was put into the table.
 use Rattle.std.proofs.Common.{◌≡◌, ◌<◌, ℕ, length, drop, List, [], ◌∷◌, Some, Result, Ok, Err, OnErr, refl, sym, ap, ◌∙◌, arith, subst}
 use Rattle.c_scopes.specs.Scopes.{Scope, declared}
-use Rattle.c_types_rules.specs.Checked.{Checked, Fine, Large, Broken}
+use Rattle.c_types_rules.specs.Checked.{Checked, Fine, Noted, Broken}
 use Rattle.c_types_rules.specs.Environment.{Meaning, with_name}
 use Rattle.c_types_operators.specs.declared.error.TypeError.{TypeError}
 use Rattle.c_types_model.specs.Types.{CTypes, NoTypes, MoreTypes}
@@ -36,7 +36,7 @@ pub all_stay : (a b : State) → KeepsAll a b → Stays a b
 all_stay a b k = record { numbers = k.numbers; env = k.env }
 
 pub then_all : (a b c : State) → KeepsAll a b → KeepsAll b c → KeepsAll a c
-then_all a b c p q = record { numbers = then_kept _ _ _ p.numbers q.numbers; env = q.env ∙ p.env; large = q.large ∙ p.large }
+then_all a b c p q = record { numbers = then_kept _ _ _ p.numbers q.numbers; env = q.env ∙ p.env; notes = q.notes ∙ p.notes }
 
 pub stay_around : (a b : State) → Stays a b → StaysAround a b
 stay_around a b s = record { numbers = s.numbers; tags = ap (λ e. e.tags) s.env; structs = ap (λ e. e.structs) s.env; depth = ap (λ e. length e.scopes) s.env; outer = ap (λ e. drop 1 e.scopes) s.env }
@@ -56,7 +56,7 @@ one_more a name m (s ∷ ss) e = record { numbers = same_table a.table; tags = r
 pub declared_around : (a b : State) (name : List ℕ) (m : Meaning) (c : Checked (Unit {0})) (r : Result (Unit {0}) TypeError) → Agrees (λ x y. b ≡ record a { env = with_name a.env name m }) c r → OnErr r (b ≡ a) → StaysAround a b
 declared_around a b name m c (Err e) h k = subst (StaysAround a) (sym k) (stay_around a a (stay a))
 declared_around a b name m (Fine x) (Ok y) h k = subst (StaysAround a) (sym h) (one_more a name m a.env.scopes refl)
-declared_around a b name m (Large x) (Ok y) h k = absurd h
+declared_around a b name m (Noted n x) (Ok y) h k = absurd h
 declared_around a b name m (Broken from rule) (Ok y) h k = absurd h
 
 -- ---- nodes

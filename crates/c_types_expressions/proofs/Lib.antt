@@ -1,5 +1,6 @@
 pub mod Sequences
 pub mod Kept
+pub mod Unevaluated
 pub mod Operands
 pub mod Rests
 pub mod Constructs

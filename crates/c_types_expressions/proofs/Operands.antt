@@ -2,7 +2,7 @@
 use Rattle.std.proofs.Common.{◌≡◌, ℕ, Result, Ok, Err, sym, subst}
 use Rattle.c_lexer.specs.declared.token.Sign.{Sign}
 use Rattle.c_types_model.specs.Types.{CType}
-use Rattle.c_types_rules.specs.Checked.{Checked, Fine, Large, Broken}
+use Rattle.c_types_rules.specs.Checked.{Checked, Fine, Noted, Broken}
 use Rattle.c_types_rules.specs.Environment.{Environment, extents}
 use Rattle.c_types_rules.specs.Expressions.{a_value}
 use Rattle.c_types_rules.specs.Operators.{assigned, assignment, cast, choice}
@@ -20,11 +20,11 @@ agrees_as is c d r e h = subst (λ x. Agrees is x r) (sym e) h
 pub value_agrees : (t : Table) (c : Checked Value) (r : Result NodeId TypeError) → Agrees (IsAt t) c r → Agrees (StandsAt t) (a_value c) r
 value_agrees t c (Err Memory) h = tt
 value_agrees t (Fine v) (Ok id) h = h
-value_agrees t (Large v) (Ok id) h = absurd h
+value_agrees t (Noted n v) (Ok id) h = absurd h
 value_agrees t (Broken from rule) (Ok id) h = absurd h
 value_agrees t (Broken from rule) (Err (Rule p q)) h = h
 value_agrees t (Fine v) (Err (Rule p q)) h = absurd h
-value_agrees t (Large v) (Err (Rule p q)) h = absurd h
+value_agrees t (Noted n v) (Err (Rule p q)) h = absurd h
 
 pub assignment_made : (t : Table) (E F : Environment) (from : ℕ) (s : Sign) (a b : Typed) (v w : Value) (r : Result NodeId TypeError) → E ≡ F → a ≡ b → v ≡ w →
     Agrees (IsAt t) (assignment (extents E) from s a v) r → Agrees (StandsAt t) (a_value (assignment (extents F) from s b w)) r

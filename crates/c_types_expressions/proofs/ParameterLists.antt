@@ -7,12 +7,12 @@ use Rattle.c_syntax.specs.Stands.{StandsDecl, StandDecls}
 use Rattle.c_types_model.specs.Types.{CType, CTypes, NoTypes, MoreTypes}
 use Rattle.c_types_table.specs.declared.ids.TypeId.{TypeId}
 use Rattle.c_types_table.specs.Tables.{type_at}
-use Rattle.c_types_rules.specs.Checked.{Checked, Fine, Large, Broken, ◌>>=◌}
+use Rattle.c_types_rules.specs.Checked.{Checked, Fine, Noted, Broken, ◌>>=◌, Notes}
 use Rattle.c_types_rules.specs.Environment.{Environment}
 use Rattle.c_types_rules.specs.Expressions.{parameter_scope, parameter_type, parameter_types}
 use Rattle.c_types_nodes.specs.Tables.{Table, Keeps}
 use Rattle.c_types_operators.specs.declared.error.TypeError.{TypeError}
-use Rattle.c_types_environment.specs.States.{State}
+use Rattle.c_types_environment.specs.States.{notes_of, State}
 use Rattle.c_types_expressions.specs.Found.{Found, Finds, IsType, AreTypes}
 use Rattle.c_types_expressions.proofs.Sequences.{passed, gone_on, stopped_in, in_turn, same_steps}
 use Rattle.c_types_expressions.proofs.Kept.{then_kept, types_stay}
@@ -38,9 +38,9 @@ one_type_more table (MoreTypes s ts) (i ∷ ids) t id h p = (h.0, one_type_more 
 -- ---- one parameter
 
 -- a type that is found is there
-there_now : (t : Table) (id : TypeId) (c : Checked CType) (f g : Bool) → Found f g (IsType t) c (Ok id) → IsType t (type_at t.types id) id
+there_now : (t : Table) (id : TypeId) (c : Checked CType) (f g : Notes) → Found f g (IsType t) c (Ok id) → IsType t (type_at t.types id) id
 there_now t id (Fine x) f g h = record { inside = h.0.inside; is = refl }
-there_now t id (Large x) f g h = record { inside = h.0.inside; is = refl }
+there_now t id (Noted n x) f g h = record { inside = h.0.inside; is = refl }
 there_now t id (Broken from rule) f g h = absurd h
 
 -- what the rest of the parameters is by its first
@@ -53,10 +53,10 @@ rest_is d ds E place K =
 
 nothing_before : (c : Checked CTypes) → (c >>= (λ ts. Fine (joined NoTypes ts))) ≡ c
 nothing_before (Fine x) = refl
-nothing_before (Large x) = refl
+nothing_before (Noted n x) = refl
 nothing_before (Broken from rule) = refl
 
-pub parameters_begin : (N : Nodes) (E : Environment) (f : Bool) (t : Table) (vs : List DeclId) (ds : Decls) → StandDecls N vs ds → RestOfParameters N E E f f t [] 0 vs ds
+pub parameters_begin : (N : Nodes) (E : Environment) (f : Notes) (t : Table) (vs : List DeclId) (ds : Decls) → StandDecls N vs ds → RestOfParameters N E E f f t [] 0 vs ds
 parameters_begin N E f t vs ds h = record {
   rest = ds;
   stand = h;
@@ -65,11 +65,11 @@ parameters_begin N E f t vs ds h = record {
   go_on = λ table h r p. passed f h (AreTypes table) _ _ r (sym (nothing_before (parameter_types ds E 0))) p;
 }
 
-pub parameters_next : (N : Nodes) (E : Environment) (f : Bool) (now mid new : State) (ids : List TypeId) (place : ℕ) (v : DeclId) (vs us : List DeclId) (ds : Decls) (ty : TypeId) → us ≡ v ∷ vs → Keeps now.table mid.table → Keeps mid.table new.table →
-    mid.env ≡ now.env → RestOfParameters N E now.env f now.found_large now.table ids place us ds →
+pub parameters_next : (N : Nodes) (E : Environment) (f : Notes) (now mid new : State) (ids : List TypeId) (place : ℕ) (v : DeclId) (vs us : List DeclId) (ds : Decls) (ty : TypeId) → us ≡ v ∷ vs → Keeps now.table mid.table → Keeps mid.table new.table →
+    mid.env ≡ now.env → RestOfParameters N E now.env f (notes_of now) now.table ids place us ds →
     ((d : Decl) → StandsDecl N v d → Finds now mid (IsType mid.table) (parameter_type d now.env) (Ok ty)) →
     ((d : Decl) → StandsDecl N v d → Finds mid new (λ (e : Environment) (x : Unit {0}). new.env ≡ e) (parameter_scope d mid.env place (type_at mid.table.types ty)) (Ok tt)) →
-    RestOfParameters N E new.env f new.found_large new.table (ids ++ ty ∷ []) (place + 1) vs ds
+    RestOfParameters N E new.env f (notes_of new) new.table (ids ++ ty ∷ []) (place + 1) vs ds
 parameters_next N E f now mid new ids place v vs us ds ty u k l e rest typed declared =
     let one = first_decl N v vs rest.rest (subst (λ ws. StandDecls N ws rest.rest) u rest.stand) in
     let done = joined rest.done (MoreTypes (type_at mid.table.types ty) NoTypes) in
@@ -80,42 +80,42 @@ parameters_next N E f now mid new ids place v vs us ds ty u k l e rest typed dec
       stand = one.on_others;
       done = done;
       there = one_type_more new.table rest.done ids (type_at mid.table.types ty) ty (types_stay now.table new.table rest.done ids (then_kept _ _ _ k l) rest.there) (l.types.names ty (type_at mid.table.types ty) (there_now mid.table ty (parameter_type one.first now.env) _ _ found_type));
-      go_on = λ table h r p. rest.go_on table h r (passed now.found_large h (AreTypes table) _ _ r
+      go_on = λ table h r p. rest.go_on table h r (passed (notes_of now) h (AreTypes table) _ _ r
           (ap (λ es. parameter_types es now.env place >>= (λ ts. Fine (joined rest.done ts))) one.is ∙ rest_is one.first one.others now.env place (λ ts. Fine (joined rest.done ts)))
-          (gone_on now.found_large mid.found_large h (IsType mid.table) (AreTypes table) (parameter_type one.first now.env) _ ty r found_type (λ t at.
-          gone_on mid.found_large new.found_large h (λ (w : Environment) (x : Unit {0}). new.env ≡ w) (AreTypes table) (parameter_scope one.first now.env place t) _ tt r
-          (passed mid.found_large new.found_large (λ (w : Environment) (x : Unit {0}). new.env ≡ w) _ _ (Ok tt) (ap (λ F. parameter_scope one.first F place t) (sym e) ∙ ap (parameter_scope one.first mid.env place) (sym at.is)) found_scope)
-          (λ within same. passed new.found_large h (AreTypes table) _ _ r
+          (gone_on (notes_of now) (notes_of mid) h (IsType mid.table) (AreTypes table) (parameter_type one.first now.env) _ ty r found_type (λ t at.
+          gone_on (notes_of mid) (notes_of new) h (λ (w : Environment) (x : Unit {0}). new.env ≡ w) (AreTypes table) (parameter_scope one.first now.env place t) _ tt r
+          (passed (notes_of mid) (notes_of new) (λ (w : Environment) (x : Unit {0}). new.env ≡ w) _ _ (Ok tt) (ap (λ F. parameter_scope one.first F place t) (sym e) ∙ ap (parameter_scope one.first mid.env place) (sym at.is)) found_scope)
+          (λ within same. passed (notes_of new) h (AreTypes table) _ _ r
           (ap (λ F. parameter_types one.others F (place + 1) >>= (λ ts. Fine (joined rest.done (MoreTypes t ts)))) (sym same)
           ∙ same_steps (parameter_types one.others new.env (place + 1)) _ _ (λ ts. ap Fine (ap (λ y. joined rest.done (MoreTypes y ts)) (sym at.is) ∙ sym (joined_more rest.done (type_at mid.table.types ty) ts))))
           p))));
     }
 
-pub type_stops : (N : Nodes) (E : Environment) (f : Bool) (now mid : State) (t : Table) (ids : List TypeId) (place : ℕ) (v : DeclId) (vs us : List DeclId) (ds : Decls) (x : TypeError) → us ≡ v ∷ vs → RestOfParameters N E now.env f now.found_large now.table ids place us ds →
-    ((d : Decl) → StandsDecl N v d → Finds now mid (IsType mid.table) (parameter_type d now.env) (Err x)) → Found f mid.found_large (AreTypes mid.table) (parameter_types ds E 0) (Err x)
+pub type_stops : (N : Nodes) (E : Environment) (f : Notes) (now mid : State) (t : Table) (ids : List TypeId) (place : ℕ) (v : DeclId) (vs us : List DeclId) (ds : Decls) (x : TypeError) → us ≡ v ∷ vs → RestOfParameters N E now.env f (notes_of now) now.table ids place us ds →
+    ((d : Decl) → StandsDecl N v d → Finds now mid (IsType mid.table) (parameter_type d now.env) (Err x)) → Found f (notes_of mid) (AreTypes mid.table) (parameter_types ds E 0) (Err x)
 type_stops N E f now mid t ids place v vs us ds x u rest typed =
     let one = first_decl N v vs rest.rest (subst (λ ws. StandDecls N ws rest.rest) u rest.stand) in
-    rest.go_on mid.table mid.found_large (Err x) (passed now.found_large mid.found_large (AreTypes mid.table) _ _ (Err x)
+    rest.go_on mid.table (notes_of mid) (Err x) (passed (notes_of now) (notes_of mid) (AreTypes mid.table) _ _ (Err x)
     (ap (λ es. parameter_types es now.env place >>= (λ ts. Fine (joined rest.done ts))) one.is ∙ rest_is one.first one.others now.env place (λ ts. Fine (joined rest.done ts)))
-    (stopped_in now.found_large mid.found_large mid.found_large (IsType mid.table) (AreTypes mid.table) (parameter_type one.first now.env) _ x (typed one.first one.on_first)))
+    (stopped_in (notes_of now) (notes_of mid) (notes_of mid) (IsType mid.table) (AreTypes mid.table) (parameter_type one.first now.env) _ x (typed one.first one.on_first)))
 
-pub scope_stops : (N : Nodes) (E : Environment) (f : Bool) (now mid new : State) (ids : List TypeId) (place : ℕ) (v : DeclId) (vs us : List DeclId) (ds : Decls) (ty : TypeId) (x : TypeError) → us ≡ v ∷ vs →
-    mid.env ≡ now.env → RestOfParameters N E now.env f now.found_large now.table ids place us ds →
+pub scope_stops : (N : Nodes) (E : Environment) (f : Notes) (now mid new : State) (ids : List TypeId) (place : ℕ) (v : DeclId) (vs us : List DeclId) (ds : Decls) (ty : TypeId) (x : TypeError) → us ≡ v ∷ vs →
+    mid.env ≡ now.env → RestOfParameters N E now.env f (notes_of now) now.table ids place us ds →
     ((d : Decl) → StandsDecl N v d → Finds now mid (IsType mid.table) (parameter_type d now.env) (Ok ty)) →
     ((d : Decl) → StandsDecl N v d → Finds mid new (λ (e : Environment) (x : Unit {0}). new.env ≡ e) (parameter_scope d mid.env place (type_at mid.table.types ty)) (Err x)) →
-    Found f new.found_large (AreTypes new.table) (parameter_types ds E 0) (Err x)
+    Found f (notes_of new) (AreTypes new.table) (parameter_types ds E 0) (Err x)
 scope_stops N E f now mid new ids place v vs us ds ty x u e rest typed declared =
     let one = first_decl N v vs rest.rest (subst (λ ws. StandDecls N ws rest.rest) u rest.stand) in
-    rest.go_on new.table new.found_large (Err x) (passed now.found_large new.found_large (AreTypes new.table) _ _ (Err x)
+    rest.go_on new.table (notes_of new) (Err x) (passed (notes_of now) (notes_of new) (AreTypes new.table) _ _ (Err x)
     (ap (λ es. parameter_types es now.env place >>= (λ ts. Fine (joined rest.done ts))) one.is ∙ rest_is one.first one.others now.env place (λ ts. Fine (joined rest.done ts)))
-    (gone_on now.found_large mid.found_large new.found_large (IsType mid.table) (AreTypes new.table) (parameter_type one.first now.env) _ ty (Err x) (typed one.first one.on_first) (λ t at.
-    stopped_in mid.found_large new.found_large new.found_large (λ (w : Environment) (y : Unit {0}). new.env ≡ w) (AreTypes new.table) (parameter_scope one.first now.env place t) _ x
-    (passed mid.found_large new.found_large (λ (w : Environment) (y : Unit {0}). new.env ≡ w) _ _ (Err x) (ap (λ F. parameter_scope one.first F place t) (sym e) ∙ ap (parameter_scope one.first mid.env place) (sym at.is)) (declared one.first one.on_first)))))
+    (gone_on (notes_of now) (notes_of mid) (notes_of new) (IsType mid.table) (AreTypes new.table) (parameter_type one.first now.env) _ ty (Err x) (typed one.first one.on_first) (λ t at.
+    stopped_in (notes_of mid) (notes_of new) (notes_of new) (λ (w : Environment) (y : Unit {0}). new.env ≡ w) (AreTypes new.table) (parameter_scope one.first now.env place t) _ x
+    (passed (notes_of mid) (notes_of new) (λ (w : Environment) (y : Unit {0}). new.env ≡ w) _ _ (Err x) (ap (λ F. parameter_scope one.first F place t) (sym e) ∙ ap (parameter_scope one.first mid.env place) (sym at.is)) (declared one.first one.on_first)))))
 
-pub parameters_end : (N : Nodes) (E : Environment) (f : Bool) (now : State) (ids : List TypeId) (place : ℕ) (us : List DeclId) (ds : Decls) → us ≡ [] → RestOfParameters N E now.env f now.found_large now.table ids place us ds →
-    Found f now.found_large (AreTypes now.table) (parameter_types ds E 0) (Ok ids)
+pub parameters_end : (N : Nodes) (E : Environment) (f : Notes) (now : State) (ids : List TypeId) (place : ℕ) (us : List DeclId) (ds : Decls) → us ≡ [] → RestOfParameters N E now.env f (notes_of now) now.table ids place us ds →
+    Found f (notes_of now) (AreTypes now.table) (parameter_types ds E 0) (Ok ids)
 parameters_end N E f now ids place us ds u rest =
     let none = no_decl N rest.rest (subst (λ ws. StandDecls N ws rest.rest) u rest.stand) in
-    rest.go_on now.table now.found_large (Ok ids) (passed now.found_large now.found_large (AreTypes now.table) _ _ (Ok ids)
+    rest.go_on now.table (notes_of now) (Ok ids) (passed (notes_of now) (notes_of now) (AreTypes now.table) _ _ (Ok ids)
     (ap (λ es. parameter_types es now.env place >>= (λ ts. Fine (joined rest.done ts))) none ∙ ap Fine (joined_end rest.done))
     (rest.there, refl))

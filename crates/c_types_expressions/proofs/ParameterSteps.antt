@@ -11,7 +11,7 @@ use Rattle.c_types_rules.specs.Expressions.{annotation_types, declarator_type, p
 use Rattle.c_types_nodes.specs.Tables.{Names}
 use Rattle.c_types_operators.specs.declared.error.TypeError.{TypeError}
 use Rattle.c_types_operators.specs.Answers.{Agrees, IsNothing}
-use Rattle.c_types_environment.specs.States.{State, KeepsAll}
+use Rattle.c_types_environment.specs.States.{notes_of, State, KeepsAll}
 use Rattle.c_types_expressions.specs.Found.{Found, Finds, Stays, StaysAround, IsType, AreTypes}
 use Rattle.c_types_expressions.specs.Pieces.{parameter}
 use Rattle.c_types_expressions.proofs.Sequences.{passed, noted_nothing, gone_on, gone_on_after, stopped_before, stopped_in}
@@ -27,22 +27,22 @@ one_parameter an ps c from E = annotation_types an E >> (declarator_type ps E c 
 module _ (an : Annots) (ps : Parts) (c : CType) (from : ℕ) (old : State) where
   pub annotations_stop : (new : State) (e : TypeError) → Finds old new IsNothing (annotation_types an old.env) (Err e) → Finds old new (IsType new.table) (one_parameter an ps c from old.env) (Err e)
   annotations_stop new e p =
-      stopped_before old.found_large new.found_large new.found_large IsNothing (IsType new.table) (annotation_types an old.env) (declarator_type ps old.env c >>= (λ t. parameter from t)) e p
+      stopped_before (notes_of old) (notes_of new) (notes_of new) IsNothing (IsType new.table) (annotation_types an old.env) (declarator_type ps old.env c >>= (λ t. parameter from t)) e p
 
   module _ (first mid : State) (base : TypeId) (p : Finds old first IsNothing (annotation_types an old.env) (Ok tt)) (e : first.env ≡ old.env) (h : Names mid.table.types base c) (k : KeepsAll first mid) where
     pub declarator_stops : (new : State) (x : TypeError) → Finds mid new (IsType new.table) (declarator_type ps mid.env (type_at mid.table.types base)) (Err x) → Finds old new (IsType new.table) (one_parameter an ps c from old.env) (Err x)
     declarator_stops new x q =
-        gone_on_after old.found_large first.found_large new.found_large IsNothing (IsType new.table) (annotation_types an old.env) (declarator_type ps old.env c >>= (λ t. parameter from t)) tt (Err x) p
-        (stopped_in first.found_large new.found_large new.found_large (IsType new.table) (IsType new.table) (declarator_type ps old.env c) (λ t. parameter from t) x
-        (passed first.found_large new.found_large (IsType new.table) _ _ (Err x) (ap (λ F. declarator_type ps F c) (sym e)) (declared_from first mid new ps c base (Err x) h k q)))
+        gone_on_after (notes_of old) (notes_of first) (notes_of new) IsNothing (IsType new.table) (annotation_types an old.env) (declarator_type ps old.env c >>= (λ t. parameter from t)) tt (Err x) p
+        (stopped_in (notes_of first) (notes_of new) (notes_of new) (IsType new.table) (IsType new.table) (declarator_type ps old.env c) (λ t. parameter from t) x
+        (passed (notes_of first) (notes_of new) (IsType new.table) _ _ (Err x) (ap (λ F. declarator_type ps F c) (sym e)) (declared_from first mid new ps c base (Err x) h k q)))
 
     pub parameter_made : (end new : State) (ty : TypeId) (r : Result TypeId TypeError) → Finds mid end (IsType end.table) (declarator_type ps mid.env (type_at mid.table.types base)) (Ok ty) →
-        Agrees (IsType new.table) (parameter from (type_at end.table.types ty)) r → new.found_large ≡ end.found_large → Finds old new (IsType new.table) (one_parameter an ps c from old.env) r
+        Agrees (IsType new.table) (parameter from (type_at end.table.types ty)) r → (notes_of new) ≡ (notes_of end) → Finds old new (IsType new.table) (one_parameter an ps c from old.env) r
     parameter_made end new ty r q g l =
-        gone_on_after old.found_large first.found_large new.found_large IsNothing (IsType new.table) (annotation_types an old.env) (declarator_type ps old.env c >>= (λ t. parameter from t)) tt r p
-        (gone_on first.found_large end.found_large new.found_large (IsType end.table) (IsType new.table) (declarator_type ps old.env c) (λ t. parameter from t) ty r
-        (passed first.found_large end.found_large (IsType end.table) _ _ (Ok ty) (ap (λ F. declarator_type ps F c) (sym e)) (declared_from first mid end ps c base (Ok ty) h k q))
-        (λ t at. noted_nothing end.found_large new.found_large (IsType new.table) (parameter from t) r l (agrees_as (IsType new.table) _ _ r (ap (parameter from) (sym at.is)) g)))
+        gone_on_after (notes_of old) (notes_of first) (notes_of new) IsNothing (IsType new.table) (annotation_types an old.env) (declarator_type ps old.env c >>= (λ t. parameter from t)) tt r p
+        (gone_on (notes_of first) (notes_of end) (notes_of new) (IsType end.table) (IsType new.table) (declarator_type ps old.env c) (λ t. parameter from t) ty r
+        (passed (notes_of first) (notes_of end) (IsType end.table) _ _ (Ok ty) (ap (λ F. declarator_type ps F c) (sym e)) (declared_from first mid end ps c base (Ok ty) h k q))
+        (λ t at. noted_nothing (notes_of end) (notes_of new) (IsType new.table) (parameter from t) r l (agrees_as (IsType new.table) _ _ r (ap (parameter from) (sym at.is)) g)))
 
 -- ---- a scope of several
 
@@ -54,7 +54,7 @@ pub within_scope : (old mid end new : State) (ds : Decls) (r : Result (List Type
     new ≡ record end { env = record end.env { scopes = drop 1 end.env.scopes } } → Finds old new (AreTypes new.table) (parameter_types ds (inner old.env) 0) r
 within_scope old mid end new ds r opened p closed =
     let inside : Finds (record old { env = inner old.env }) end (AreTypes end.table) (parameter_types ds (inner old.env) 0) r = subst (λ (s : State). Finds s end (AreTypes end.table) (parameter_types ds s.env 0) r) opened p in
-    subst (λ (s : State). Found old.found_large s.found_large (AreTypes s.table) (parameter_types ds (inner old.env) 0) r) (sym closed) inside
+    subst (λ (s : State). Found (notes_of old) (notes_of s) (AreTypes s.table) (parameter_types ds (inner old.env) 0) r) (sym closed) inside
 
 abbrev env_of : List (List ℕ) → List Struct → List (Scope Meaning) → Environment
 env_of tags structs scopes = record { tags = tags; structs = structs; scopes = scopes }

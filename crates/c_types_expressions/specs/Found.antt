@@ -1,31 +1,40 @@
 -- How answers agree with what the rules say, where it is noted that something is too large.
-use Rattle.std.specs.Prelude.{◌≡◌, Bool, true, List, [], ◌∷◌, length, drop, Result, Ok, Err}
+use Rattle.std.specs.Prelude.{◌≡◌, Bool, true, false, List, [], ◌∷◌, length, drop, Result, Ok, Err}
 use Rattle.c_types_model.specs.Types.{CType, CTypes, NoTypes, MoreTypes}
 use Rattle.c_types_table.specs.declared.ids.TypeId.{TypeId}
-use Rattle.c_types_rules.specs.Checked.{Checked, Fine, Large, Broken}
+use Rattle.c_types_rules.specs.Checked.{Checked, Fine, Noted, Broken, Notes, together}
 use Rattle.c_types_rules.specs.TypedTree.{Typed, Values, NoValues, MoreValues}
 use Rattle.c_types_nodes.specs.declared.ids.NodeId.{NodeId}
 use Rattle.c_types_nodes.specs.Tables.{Table, Keeps, Names}
+use Rattle.c_types_nodes.specs.Lists.{nodes_at}
 use Rattle.c_types_operators.specs.declared.error.TypeError.{TypeError}
 use Rattle.c_types_operators.specs.declared.error.TypeError.TheVariants.{Rule, Memory}
 use Rattle.c_types_operators.specs.Answers.{IsAt, StandsAt}
-use Rattle.c_types_environment.specs.States.{State}
+use Rattle.c_types_environment.specs.States.{State, notes_of}
 
--- what is found is there; where something is too large that is noted, and otherwise the note is as before;
--- or the rule that is broken
--- is named, with the offset of its node; of memory nothing is said
-abbrev pub Found : {A B : Type 0} → (before after : Bool) → (A → B → Type 0) → Checked A →
+-- what is found is there, and what is noted on the way to it is noted after what was noted before; or the
+-- rule that is broken is named, with the offset of its node; of memory nothing is said
+abbrev pub Found : {A B : Type 0} → (before after : Notes) → (A → B → Type 0) → Checked A →
     Result B TypeError → Type 0
 Found before after is c (Err Memory) = Unit {0}
 Found before after is (Fine x) (Ok y) = is x y × (after ≡ before)
-Found before after is (Large x) (Ok y) = is x y × (after ≡ true)
+Found before after is (Noted n x) (Ok y) = is x y × (after ≡ together before n)
 Found before after is (Broken from rule) (Err (Rule f r)) = (f ≡ from) × (r ≡ rule)
 Found before after is _ _ = ⊥
 
--- the same, where the note is that of what is declared
+-- the same, where the notes are those beside what is declared
 abbrev pub Finds : {A B : Type 0} → (old new : State) → (A → B → Type 0) → Checked A → Result B TypeError →
     Type 0
-Finds old new is c r = Found old.found_large new.found_large is c r
+Finds old new is c r = Found (notes_of old) (notes_of new) is c r
+
+-- notes after an object, where this one isn't too large or is
+abbrev pub size_noted : (small : Bool) → Notes → Notes
+size_noted true before = before
+size_noted false before = record before { large = true }
+
+-- a part is there, and the nodes beside it are what stands unevaluated in it
+abbrev pub IsPart : {A B : Type 0} → State → (A → B → Type 0) → A × List Typed → B × List NodeId → Type 0
+IsPart s is x y = is x.0 y.0 × (nodes_at s.table y.1 ≡ x.1)
 
 -- all numbers stand for what they did, and what is declared is as it was
 pub record Stays (old new : State) : Type 0 where

@@ -6,11 +6,11 @@ use Rattle.c_syntax.specs.Syntax.{Expr, Parts}
 use Rattle.c_builtins.specs.Table.{prototype_of}
 use Rattle.c_types_model.specs.Types.{CType, CTypes, ArrayOf, NoTypes, MoreTypes}
 use Rattle.c_types_model.specs.declared.extent.Extent.{Extent}
-use Rattle.c_types_rules.specs.Checked.{Checked, Fine, Broken, keep, small, ◌>>=◌, ◌>>◌}
+use Rattle.c_types_rules.specs.Checked.{Checked, Fine, Broken, keep, small, unevaluated, ◌>>=◌, ◌>>◌}
 use Rattle.c_types_rules.specs.Constants.{integer_constant}
 use Rattle.c_types_rules.specs.TypeTests.{is_complete, is_scalar}
 use Rattle.c_types_rules.specs.Operators.{assigned, assignment, binary, cast, choice, size_in}
-use Rattle.c_types_rules.specs.TypedTree.{Value, Typed, Callee, Constant, AValue, AFunction, BuiltinFunction, value_of, value_type}
+use Rattle.c_types_rules.specs.TypedTree.{Value, Typed, Callee, Constant, AValue, AFunction, BuiltinFunction, typed_type, value_of, value_type}
 use Rattle.c_types_rules.specs.Environment.{Environment, extents}
 use Rattle.c_types_rules.specs.Expressions.{expression, declarator_type, a_value, subscript, arrow_of, adjusted, builtin_in, called, is_small, length_of, start_of}
 
@@ -50,6 +50,10 @@ abbrev pub size_constant : (structs : List Extent) → (from : ℕ) → CType �
 size_constant structs from t = sized structs from t >> Fine
     (AValue (Constant U64 (pos (size_in structs t))))
 
+-- the size of an operand, which isn't evaluated (C11 6.5.3.4, 2)
+abbrev pub size_of_operand : (structs : List Extent) → (from : ℕ) → Typed → Checked Typed
+size_of_operand structs from a = unevaluated a >> size_constant structs from (typed_type a)
+
 -- what is called, what it gives and what it takes; a builtin is only found where it is called
 abbrev pub call_target : Expr → Environment → (from : ℕ) → Checked (Callee × CType × CTypes)
 call_target x env from = elim (builtin_in env x) [
@@ -67,10 +71,14 @@ abbrev pub parameter : (from : ℕ) → CType → Checked CType
 parameter from t = keep from 3 (is_scalar (adjusted t)) >> Fine (adjusted t)
 
 -- an array of elements of a type, with this length
-abbrev pub array_of : (from : ℕ) → CType → Typed → Checked CType
-array_of from t a = do
+abbrev pub array_by : (from : ℕ) → CType → Typed → Checked CType
+array_by from t a = do
   n ← length_of from (integer_constant (value_of a))
   Fine (ArrayOf n t)
+
+-- the same, where the length isn't evaluated
+abbrev pub array_of : (from : ℕ) → CType → Typed → Checked CType
+array_of from t a = unevaluated a >> array_by from t a
 
 -- what a declarator makes of the type that the words of its declaration make
 abbrev pub whole_type : Parts → Environment → CType → Checked CType

@@ -10,7 +10,7 @@ ghost use Rattle.c_types_expressions.specs.Walks.{AreDecls, AreParts, IsDecl, Is
 
 use crate::expressions::expression;
 use crate::parameters::parameter_types;
-use crate::sizes::{array_of_length, is_result, note_size};
+use crate::sizes::{array_with_length, is_result, note_size};
 use c_syntax::{DeclId, ExprId, Part, PartKind, Tree};
 use c_types_environment::Environment;
 use c_types_operators::TypeError;
@@ -101,7 +101,7 @@ fn array(
     env.complete(from, element)?;
     note_size(env, element);
     let size = expression(env, tree, size)?;
-    array_of_length(env, from, element, size)
+    array_with_length(env, from, element, size)
 }
 
 // A function that gives a value of a type, or nothing (C11 6.7.6.3).

@@ -12,7 +12,7 @@ use crate::calls::call;
 use crate::constants::{character, number, string};
 use crate::declarators::declared_type;
 use crate::made;
-use crate::sizes::{size_of_node, size_of_type};
+use crate::sizes::{size_of_operand, size_of_type};
 use c_syntax::{ExprId, ExprKind, Tree};
 use c_types_environment::Environment;
 use c_types_nodes::NodeId;
@@ -20,7 +20,8 @@ use c_types_operators::TypeError;
 
 /// What an expression is, as a node of the table: an object, a function or a value.
 ///
-/// `Rule` names the first rule that is broken in it, with the offset of the node that breaks it. Notes where an array is too large.
+/// `Rule` names the first rule that is broken in it, with the offset of the node that breaks it. Notes where an array is too large,
+/// and what stands unevaluated.
 #[cycle(walk)]
 pub fn expression(env: &mut Environment, tree: &Tree, id: ExprId) -> Result<NodeId, TypeError>
     // The number stands for an expression whose numbers are such as tokens are.
@@ -65,7 +66,7 @@ pub fn expression(env: &mut Environment, tree: &Tree, id: ExprId) -> Result<Node
         }
         ExprKind::SizeofExpr(operand) => {
             let operand = expression(env, tree, *operand)?;
-            size_of_node(env, from, operand)
+            size_of_operand(env, from, operand)
         }
         ExprKind::SizeofType(name) => {
             let ty = declared_type(env, tree, *name)?;

@@ -1,6 +1,6 @@
 //! Sizes of types (C11 6.5.3.4), and arrays (C11 6.7.6.2).
 
-ghost use Rattle.std.specs.Prelude.{◌≡◌, ◌<◌, ◌||◌, length, not};
+ghost use Rattle.std.specs.Prelude.{◌≡◌, ◌<◌, length};
 ghost use Rattle.c_types_table.specs.Tables.{type_at};
 ghost use Rattle.c_types_rules.specs.Environment.{extents};
 ghost use Rattle.c_types_rules.specs.Expressions.{is_small};
@@ -8,9 +8,9 @@ ghost use Rattle.c_types_rules.specs.TypedTree.{typed_type};
 ghost use Rattle.c_types_rules.specs.TypeTests.{is_result as is_result_type};
 ghost use Rattle.c_types_nodes.specs.Tables.{IsNode, node_at};
 ghost use Rattle.c_types_operators.specs.Answers.{Agrees, IsNothing, StandsAt};
-ghost use Rattle.c_types_environment.specs.States.{KeepsAll};
-ghost use Rattle.c_types_expressions.specs.Found.{IsType};
-ghost use Rattle.c_types_expressions.specs.Pieces.{array_of, parameter as parameter_by_rules, size_constant, sized as sized_by_rules};
+ghost use Rattle.c_types_environment.specs.States.{KeepsAll, notes_of};
+ghost use Rattle.c_types_expressions.specs.Found.{Finds, IsType, Stays, size_noted};
+ghost use Rattle.c_types_expressions.specs.Pieces.{array_by, array_of, parameter as parameter_by_rules, size_constant, size_of_operand as size_of_operand_by_rules, sized as sized_by_rules};
 
 use c_types_environment::Environment;
 use c_types_nodes::{Node, NodeId};
@@ -43,8 +43,8 @@ pub fn size_of_type(env: &mut Environment, from: u32, ty: TypeId) -> Result<Node
     Ok(env.add(Node::Constant(IntKind::U64, i128::from(size)))?)
 }
 
-/// The size of what an operand is, before it is converted.
-pub fn size_of_node(env: &mut Environment, from: u32, operand: NodeId) -> Result<NodeId, TypeError>
+// The size of what an operand is, before it is converted.
+fn size_of_node(env: &mut Environment, from: u32, operand: NodeId) -> Result<NodeId, TypeError>
     requires { IsNode env.old.table operand }
     ensures agrees { Agrees (StandsAt env.new.table)
         (size_constant (extents env.old.env) from (typed_type (node_at env.old.table operand))) result }
@@ -54,21 +54,36 @@ pub fn size_of_node(env: &mut Environment, from: u32, operand: NodeId) -> Result
     size_of_type(env, from, ty)
 }
 
+/// The size of an operand, which is noted as unevaluated.
+pub fn size_of_operand(
+    env: &mut Environment,
+    from: u32,
+    operand: NodeId,
+) -> Result<NodeId, TypeError>
+    requires { IsNode env.old.table operand }
+    ensures agrees { Finds env.old env.new (StandsAt env.new.table)
+        (size_of_operand_by_rules (extents env.old.env) from (node_at env.old.table operand)) result }
+    ensures kept { Stays env.old env.new }
+{
+    env.note_unevaluated(operand)?;
+    size_of_node(env, from, operand)
+}
+
 /// Notes that an object of a type is too large, where it is.
 pub fn note_size(env: &mut Environment, ty: TypeId)
     requires { ty.0 < length env.old.table.types }
     ensures table { env.new.table ≡ env.old.table }
     ensures env { env.new.env ≡ env.old.env }
-    ensures noted { env.new.found_large ≡ (not
-        (is_small (extents env.old.env) (type_at env.old.table.types ty)) || env.old.found_large) }
+    ensures noted { notes_of env.new ≡
+        size_noted (is_small (extents env.old.env) (type_at env.old.table.types ty)) (notes_of env.old) }
 {
     if !env.is_small(ty) {
         env.note_large();
     }
 }
 
-/// An array of elements of a type, with the length that the node `size` gives, which must be a constant of 1 or more.
-pub fn array_of_length(
+// An array of elements of a type, with the length that the node `size` gives, which must be a constant of 1 or more.
+fn array_of_length(
     env: &mut Environment,
     from: u32,
     element: TypeId,
@@ -77,12 +92,29 @@ pub fn array_of_length(
     requires element { element.0 < length env.old.table.types }
     requires size { IsNode env.old.table size }
     ensures agrees { Agrees (IsType env.new.table)
-        (array_of from (type_at env.old.table.types element) (node_at env.old.table size)) result }
+        (array_by from (type_at env.old.table.types element) (node_at env.old.table size)) result }
     ensures kept { KeepsAll env.old env.new }
 {
     let value = env.value_of(size)?;
     let count = env.length_of(from, value)?;
     Ok(env.add_type(Ty::Array(element, count))?)
+}
+
+/// The same, where the length is noted as unevaluated.
+pub fn array_with_length(
+    env: &mut Environment,
+    from: u32,
+    element: TypeId,
+    size: NodeId,
+) -> Result<TypeId, TypeError>
+    requires element { element.0 < length env.old.table.types }
+    requires size { IsNode env.old.table size }
+    ensures agrees { Finds env.old env.new (IsType env.new.table)
+        (array_of from (type_at env.old.table.types element) (node_at env.old.table size)) result }
+    ensures kept { Stays env.old env.new }
+{
+    env.note_unevaluated(size)?;
+    array_of_length(env, from, element, size)
 }
 
 /// Whether a function may give a value of this type, or nothing.

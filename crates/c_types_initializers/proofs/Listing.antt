@@ -22,7 +22,7 @@ use Rattle.c_types_operators.specs.declared.error.TypeError.{TypeError}
 use Rattle.c_types_operators.specs.declared.error.TypeError.TheVariants.{Rule}
 use Rattle.c_types_program.specs.declared.global.Initial.{Initial}
 use Rattle.c_types_program.specs.declared.global.Initial.TheVariants.{Listed}
-use Rattle.c_types_environment.specs.States.{State}
+use Rattle.c_types_environment.specs.States.{notes_of, State}
 use Rattle.c_types_expressions.specs.Found.{Finds, Found, Stays}
 use Rattle.c_types_expressions.proofs.Kept.{type_stays}
 use Rattle.c_types_expressions.proofs.Sequences.{gone_on}
@@ -36,26 +36,26 @@ abbrev pub InVector : Initials → Vec Initial Global → Type 0
 InVector ys v = AreInitials ys v.items
 
 module _ (N : Nodes) (a b : State) (vs : List Value) (k : ℕ) (xs : Writtens) (all : List CType) (given : List Initial) (one_stay : Stays a b)
-    (r : RestOfValues N a.env a.found_large b.found_large (drop k vs) (drop k all) xs all given) where
+    (r : RestOfValues N a.env (notes_of a) (notes_of b) (drop k vs) (drop k all) xs all given) where
   -- a value of a type that stands at a number now
   module _ (d : Value) (lt : k < length vs) (ty : TypeId) (some : slice_get all k ≡ Some (type_at b.table.types ty)) (c : State) where
     as_before : (x : Written) (q : Result Initial TypeError) → Finds b c IsInitial (initial x b.env (type_at b.table.types ty)) q → Finds b c IsInitial (initial x a.env (type_at b.table.types ty)) q
     as_before x q h = let P : Checked initials.Initial → Type 0 = λ z. Finds b c IsInitial z q in subst P (ap (λ e. initial x e (type_at b.table.types ty)) one_stay.env) h
 
     pub value_on : (one : Initial) → ((x : Written) → StandsValue N (get_or vs k d) x → Finds b c IsInitial (initial x b.env (type_at b.table.types ty)) (Ok one))
-        → RestOfValues N a.env a.found_large c.found_large (drop (k + 1) vs) (drop (k + 1) all) xs all (given ++ one ∷ [])
-    value_on one p = one_on N a.env a.found_large b.found_large vs k xs all given r d lt (type_at b.table.types ty) some c.found_large one (λ x s. as_before x (Ok one) (p x s))
+        → RestOfValues N a.env (notes_of a) (notes_of c) (drop (k + 1) vs) (drop (k + 1) all) xs all (given ++ one ∷ [])
+    value_on one p = one_on N a.env (notes_of a) (notes_of b) vs k xs all given r d lt (type_at b.table.types ty) some (notes_of c) one (λ x s. as_before x (Ok one) (p x s))
 
     pub value_off : (e : TypeError) → ((x : Written) → StandsValue N (get_or vs k d) x → Finds b c IsInitial (initial x b.env (type_at b.table.types ty)) (Err e)) → Finds a c InVector (members xs a.env all) (Err e)
-    value_off e p = error_as_vector a.found_large c.found_large (members xs a.env all) e (one_off N a.env a.found_large b.found_large vs k xs all given r d lt (type_at b.table.types ty) some c.found_large e (λ x s. as_before x (Err e) (p x s)))
+    value_off e p = error_as_vector (notes_of a) (notes_of c) (members xs a.env all) e (one_off N a.env (notes_of a) (notes_of b) vs k xs all given r d lt (type_at b.table.types ty) some (notes_of c) e (λ x s. as_before x (Err e) (p x s)))
 
   pub value_too_many : (d : Value) → k < length vs → (from : ℕ) → slice_get all k ≡ None → ((x : Written) → StandsValue N (get_or vs k d) x → from ≡ start_of_value x) → Finds a b InVector (members xs a.env all) (Err (Rule from 16))
-  value_too_many d lt from none starts = error_as_vector a.found_large b.found_large (members xs a.env all) (Rule from 16) (too_many N a.env a.found_large b.found_large vs k xs all given r d lt from none starts)
+  value_too_many d lt from none starts = error_as_vector (notes_of a) (notes_of b) (members xs a.env all) (Rule from 16) (too_many N a.env (notes_of a) (notes_of b) vs k xs all given r d lt from none starts)
 
   pub values_read : (v : Vec Initial Global) → v.items ≡ given → length vs ≤ k → Finds a b InVector (members xs a.env all) (Ok v)
   values_read v e le =
-      let P : List Initial → Type 0 = λ z. Found a.found_large b.found_large AreInitials (members xs a.env all) (Ok z) in
-      as_vector a.found_large b.found_large (members xs a.env all) v (subst P (sym e) (all_read N a.env a.found_large b.found_large vs k xs all given r le))
+      let P : List Initial → Type 0 = λ z. Found (notes_of a) (notes_of b) AreInitials (members xs a.env all) (Ok z) in
+      as_vector (notes_of a) (notes_of b) (members xs a.env all) v (subst P (sym e) (all_read N a.env (notes_of a) (notes_of b) vs k xs all given r le))
 
 -- elements are members of one type
 pub as_elements : (a b : State) (xs : Writtens) (n : ℕ) (t : CType) (q : Result (Vec Initial Global) TypeError) → Finds a b InVector (members xs a.env (replicate n t)) q → Finds a b InVector (elements xs a.env n t) q
@@ -96,4 +96,4 @@ pub listed_found : (a b : State) (xs : Writtens) (from : ℕ) (v : Vec Initial G
     → Finds a b InVector parts (Ok v) → Finds a b IsInitial (initial (Braces from xs) a.env c) (Ok (Listed v))
 listed_found a b xs from v c parts is h =
     let P : Checked initials.Initial → Type 0 = λ z. Finds a b IsInitial z (Ok (Listed v)) in
-    subst P (sym is) (gone_on a.found_large b.found_large b.found_large InVector IsInitial parts (λ ys. Fine (initials.Listed ys)) v (Ok (Listed v)) h (λ ys e. (listed_means v ∙ ap initials.Listed e, refl)))
+    subst P (sym is) (gone_on (notes_of a) (notes_of b) (notes_of b) InVector IsInitial parts (λ ys. Fine (initials.Listed ys)) v (Ok (Listed v)) h (λ ys e. (listed_means v ∙ ap initials.Listed e, refl)))

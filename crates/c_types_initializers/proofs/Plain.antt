@@ -24,7 +24,7 @@ use Rattle.c_types_program.specs.Declarations.{initial_in}
 use Rattle.c_types_operators.specs.declared.error.TypeError.{TypeError}
 use Rattle.c_types_operators.specs.declared.error.TypeError.TheVariants.{Rule}
 use Rattle.c_types_operators.specs.Answers.{Agrees}
-use Rattle.c_types_environment.specs.States.{State}
+use Rattle.c_types_environment.specs.States.{notes_of, State}
 use Rattle.c_types_expressions.specs.Found.{Finds}
 use Rattle.c_types_expressions.proofs.Sequences.{gone_on, stopped_in}
 use Rattle.c_types_initializers.specs.Values.{IsInitial, IsKnown}
@@ -83,7 +83,7 @@ module _ (a b : State) (x : Expr) (ts : List CType) (n : Ty) (c : CType) (is : m
 
   pub scalar_found : (k : Known) (one : Initial) → initial_in one ≡ initial_in (given.Scalar k) → Finds a b IsKnown (known a.env c x) (Ok k) → Finds a b IsInitial (plain_initial a.env c x) (Ok one)
   scalar_found k one same h =
-      by_known (Ok one) (gone_on a.found_large b.found_large b.found_large IsKnown IsInitial (known a.env c x) (λ k. Fine (initials.Scalar k)) k (Ok one) h (λ y at. (same ∙ ap initials.Scalar at, refl)))
+      by_known (Ok one) (gone_on (notes_of a) (notes_of b) (notes_of b) IsKnown IsInitial (known a.env c x) (λ k. Fine (initials.Scalar k)) k (Ok one) h (λ y at. (same ∙ ap initials.Scalar at, refl)))
 
   pub scalar_broken : (e : TypeError) → Finds a b IsKnown (known a.env c x) (Err e) → Finds a b IsInitial (plain_initial a.env c x) (Err e)
-  scalar_broken e h = by_known (Err e) (stopped_in a.found_large b.found_large b.found_large IsKnown IsInitial (known a.env c x) (λ k. Fine (initials.Scalar k)) e h)
+  scalar_broken e h = by_known (Err e) (stopped_in (notes_of a) (notes_of b) (notes_of b) IsKnown IsInitial (known a.env c x) (λ k. Fine (initials.Scalar k)) e h)

@@ -8,7 +8,7 @@ use Rattle.c_syntax.specs.Nodes.{Nodes}
 use Rattle.c_syntax.specs.Syntax.{Value as Written, Values as Writtens, NoValues, MoreValues}
 use Rattle.c_syntax.specs.Stands.{StandsValue, StandValues}
 use Rattle.c_types_model.specs.Types.{CType}
-use Rattle.c_types_rules.specs.Checked.{Checked, Fine, Large, Broken, ◌>>=◌}
+use Rattle.c_types_rules.specs.Checked.{Notes, Checked, Fine, Noted, Broken, ◌>>=◌}
 use Rattle.c_types_rules.specs.Environment.{Environment}
 use Rattle.c_types_rules.specs.Initials as initials
 use Rattle.c_types_rules.specs.Initials.{Initials, MoreInitials, NoInitials, elements, initial, members, start_of_value}
@@ -21,28 +21,28 @@ use Rattle.c_types_expressions.proofs.Sequences.{gone_on, same_steps, stopped_in
 use Rattle.c_types_initializers.specs.Values.{AreInitials, IsInitial}
 
 -- what agrees with the values that are left, whose types are these, agrees with all, where those before have what is given
-pub record RestOfValues (N : Nodes) (env : Environment) (f g : Bool) (vs : List Value) (ts : List CType) (xs : Writtens) (all : List CType) (given : List Initial) : Type 0 where
+pub record RestOfValues (N : Nodes) (env : Environment) (f g : Notes) (vs : List Value) (ts : List CType) (xs : Writtens) (all : List CType) (given : List Initial) : Type 0 where
   pub rest : Writtens
   pub stand : StandValues N vs rest
-  pub go_on : (h : Bool) (zs : List Initial) → Found g h AreInitials (members rest env ts) (Ok zs) → Found f h AreInitials (members xs env all) (Ok (given ++ zs))
-  pub stop : (h : Bool) (e : TypeError) → Found g h AreInitials (members rest env ts) (Err e) → Found f h AreInitials (members xs env all) (Err e)
+  pub go_on : (h : Notes) (zs : List Initial) → Found g h AreInitials (members rest env ts) (Ok zs) → Found f h AreInitials (members xs env all) (Ok (given ++ zs))
+  pub stop : (h : Notes) (e : TypeError) → Found g h AreInitials (members rest env ts) (Err e) → Found f h AreInitials (members xs env all) (Err e)
 
-pub all_are_left : (N : Nodes) (env : Environment) (f : Bool) (vs : List Value) (xs : Writtens) (all : List CType) → StandValues N vs xs → RestOfValues N env f f vs all xs all []
+pub all_are_left : (N : Nodes) (env : Environment) (f : Notes) (vs : List Value) (xs : Writtens) (all : List CType) → StandValues N vs xs → RestOfValues N env f f vs all xs all []
 all_are_left N env f vs xs all s = record { rest = xs; stand = s; go_on = λ h zs p. p; stop = λ h e p. p }
 
 -- one more
-one_more : (f g : Bool) (c : Checked Initials) (x : initials.Initial) (one : Initial) (zs : List Initial) → IsInitial x one → Found f g AreInitials c (Ok zs) → Found f g AreInitials (c >>= (λ ys. Fine (MoreInitials x ys))) (Ok (one ∷ zs))
+one_more : (f g : Notes) (c : Checked Initials) (x : initials.Initial) (one : Initial) (zs : List Initial) → IsInitial x one → Found f g AreInitials c (Ok zs) → Found f g AreInitials (c >>= (λ ys. Fine (MoreInitials x ys))) (Ok (one ∷ zs))
 one_more f g (Fine ys) x one zs h p = (ap (λ i. MoreInitials i (initials_in zs)) h ∙ ap (MoreInitials x) p.0, p.1)
-one_more f g (Large ys) x one zs h p = (ap (λ i. MoreInitials i (initials_in zs)) h ∙ ap (MoreInitials x) p.0, p.1)
+one_more f g (Noted n ys) x one zs h p = (ap (λ i. MoreInitials i (initials_in zs)) h ∙ ap (MoreInitials x) p.0, p.1)
 one_more f g (Broken from rule) x one zs h p = absurd p
 
-module _ (N : Nodes) (env : Environment) (f g h : Bool) (v : Value) (vs : List Value) (t : CType) (ts : List CType) (xs : Writtens) (all : List CType) (given : List Initial) where
+module _ (N : Nodes) (env : Environment) (f g h : Notes) (v : Value) (vs : List Value) (t : CType) (ts : List CType) (xs : Writtens) (all : List CType) (given : List Initial) where
   pub one_less : (one : Initial) → RestOfValues N env f g (v ∷ vs) (t ∷ ts) xs all given → ((x : Written) → StandsValue N v x → Found g h IsInitial (initial x env t) (Ok one)) → RestOfValues N env f h vs ts xs all (given ++ one ∷ [])
   one_less one r p = by r.rest r.stand r.go_on r.stop
     where
       by : (rest : Writtens) → StandValues N (v ∷ vs) rest
-          → ((k : Bool) (zs : List Initial) → Found g k AreInitials (members rest env (t ∷ ts)) (Ok zs) → Found f k AreInitials (members xs env all) (Ok (given ++ zs)))
-          → ((k : Bool) (e : TypeError) → Found g k AreInitials (members rest env (t ∷ ts)) (Err e) → Found f k AreInitials (members xs env all) (Err e))
+          → ((k : Notes) (zs : List Initial) → Found g k AreInitials (members rest env (t ∷ ts)) (Ok zs) → Found f k AreInitials (members xs env all) (Ok (given ++ zs)))
+          → ((k : Notes) (e : TypeError) → Found g k AreInitials (members rest env (t ∷ ts)) (Err e) → Found f k AreInitials (members xs env all) (Err e))
           → RestOfValues N env f h vs ts xs all (given ++ one ∷ [])
       by NoValues s go stop = absurd cc
       by (MoreValues y ys) (w, ws, e, s, u) go stop =
@@ -61,7 +61,7 @@ module _ (N : Nodes) (env : Environment) (f g h : Bool) (v : Value) (vs : List V
   one_stops e r p = by r.rest r.stand r.stop
     where
       by : (rest : Writtens) → StandValues N (v ∷ vs) rest
-          → ((k : Bool) (e : TypeError) → Found g k AreInitials (members rest env (t ∷ ts)) (Err e) → Found f k AreInitials (members xs env all) (Err e))
+          → ((k : Notes) (e : TypeError) → Found g k AreInitials (members rest env (t ∷ ts)) (Err e) → Found f k AreInitials (members xs env all) (Err e))
           → Found f h AreInitials (members xs env all) (Err e)
       by NoValues s stop = absurd cc
       by (MoreValues y ys) (w, ws, q, s, u) stop =
@@ -69,12 +69,12 @@ module _ (N : Nodes) (env : Environment) (f g h : Bool) (v : Value) (vs : List V
           stop h e (stopped_in g h h IsInitial AreInitials (initial y env t) (λ x. members ys env ts >>= (λ is. Fine (MoreInitials x is))) e (p y first))
 
 -- a value too many
-pub one_too_many : (N : Nodes) (env : Environment) (f g : Bool) (v : Value) (vs : List Value) (xs : Writtens) (all : List CType) (given : List Initial) (from : ℕ) → RestOfValues N env f g (v ∷ vs) [] xs all given
+pub one_too_many : (N : Nodes) (env : Environment) (f g : Notes) (v : Value) (vs : List Value) (xs : Writtens) (all : List CType) (given : List Initial) (from : ℕ) → RestOfValues N env f g (v ∷ vs) [] xs all given
     → ((x : Written) → StandsValue N v x → from ≡ start_of_value x) → Found f g AreInitials (members xs env all) (Err (Rule from 16))
 one_too_many N env f g v vs xs all given from r p = by r.rest r.stand r.stop
   where
     by : (rest : Writtens) → StandValues N (v ∷ vs) rest
-        → ((k : Bool) (e : TypeError) → Found g k AreInitials (members rest env []) (Err e) → Found f k AreInitials (members xs env all) (Err e))
+        → ((k : Notes) (e : TypeError) → Found g k AreInitials (members rest env []) (Err e) → Found f k AreInitials (members xs env all) (Err e))
         → Found f g AreInitials (members xs env all) (Err (Rule from 16))
     by NoValues s stop = absurd cc
     by (MoreValues y ys) (w, ws, q, s, u) stop =
@@ -82,11 +82,11 @@ one_too_many N env f g v vs xs all given from r p = by r.rest r.stand r.stop
         stop g (Rule from 16) (p y first, refl)
 
 -- none is left
-pub none_left : (N : Nodes) (env : Environment) (f g : Bool) (ts : List CType) (xs : Writtens) (all : List CType) (given : List Initial) → RestOfValues N env f g [] ts xs all given → Found f g AreInitials (members xs env all) (Ok given)
+pub none_left : (N : Nodes) (env : Environment) (f g : Notes) (ts : List CType) (xs : Writtens) (all : List CType) (given : List Initial) → RestOfValues N env f g [] ts xs all given → Found f g AreInitials (members xs env all) (Ok given)
 none_left N env f g ts xs all given r = by r.rest r.stand r.go_on
   where
     by : (rest : Writtens) → StandValues N [] rest
-        → ((k : Bool) (zs : List Initial) → Found g k AreInitials (members rest env ts) (Ok zs) → Found f k AreInitials (members xs env all) (Ok (given ++ zs)))
+        → ((k : Notes) (zs : List Initial) → Found g k AreInitials (members rest env ts) (Ok zs) → Found f k AreInitials (members xs env all) (Ok (given ++ zs)))
         → Found f g AreInitials (members xs env all) (Ok given)
     by NoValues s go = subst (λ l. Found f g AreInitials (members xs env all) (Ok l)) (append-nil given) (go g [] (refl, refl))
     by (MoreValues y ys) (w, ws, e, s, u) go = absurd cc
@@ -126,13 +126,13 @@ no_element_at (suc n) (suc i) t le = no_element_at n i t (omega arith)
 
 -- ---- vectors
 
-pub as_vector : (f g : Bool) (c : Checked Initials) (v : Vec Initial Global) → Found f g AreInitials c (Ok v.items) → Found f g (λ ys w. AreInitials ys w.items) c (Ok v)
+pub as_vector : (f g : Notes) (c : Checked Initials) (v : Vec Initial Global) → Found f g AreInitials c (Ok v.items) → Found f g (λ ys w. AreInitials ys w.items) c (Ok v)
 as_vector f g (Fine ys) v p = p
-as_vector f g (Large ys) v p = p
+as_vector f g (Noted n ys) v p = p
 as_vector f g (Broken from rule) v p = absurd p
 
-pub error_as_vector : (f g : Bool) (c : Checked Initials) (e : TypeError) → Found f g AreInitials c (Err e) → Found {B = Vec Initial Global} f g (λ ys w. AreInitials ys w.items) c (Err e)
+pub error_as_vector : (f g : Notes) (c : Checked Initials) (e : TypeError) → Found f g AreInitials c (Err e) → Found {B = Vec Initial Global} f g (λ ys w. AreInitials ys w.items) c (Err e)
 error_as_vector f g c Memory p = tt
 error_as_vector f g (Fine ys) (Rule a b) p = absurd p
-error_as_vector f g (Large ys) (Rule a b) p = absurd p
+error_as_vector f g (Noted n ys) (Rule a b) p = absurd p
 error_as_vector f g (Broken from rule) (Rule a b) p = p

@@ -1,4 +1,5 @@
 -- Values in braces, read one after another.
+use Rattle.c_types_rules.specs.Checked.{Notes}
 use Rattle.std.proofs.Common.{◌≡◌, ℕ, suc, ◌+◌, ◌<◌, ◌≤◌, Bool, List, [], ◌∷◌, ◌++◌, length, drop, get_or, Some, None, Ok, Err, ap, ◌∙◌, subst, arith}
 use Rattle.std.specs.Prelude.{slice_get}
 use Rattle.std.proofs.lemmas.List.{drop_all, drop_more}
@@ -16,7 +17,7 @@ use Rattle.c_types_expressions.specs.Found.{Found}
 use Rattle.c_types_initializers.specs.Values.{AreInitials, IsInitial}
 use Rattle.c_types_initializers.proofs.Rests.{RestOfValues, no_type_here, none_left, one_less, one_stops, one_too_many, type_here}
 
-module _ (N : Nodes) (env : Environment) (f g : Bool) (vs : List Value) (k : ℕ) (xs : Writtens) (all : List CType) (given : List Initial) (r : RestOfValues N env f g (drop k vs) (drop k all) xs all given) where
+module _ (N : Nodes) (env : Environment) (f g : Notes) (vs : List Value) (k : ℕ) (xs : Writtens) (all : List CType) (given : List Initial) (r : RestOfValues N env f g (drop k vs) (drop k all) xs all given) where
   -- all values are read
   pub all_read : length vs ≤ k → Found f g AreInitials (members xs env all) (Ok given)
   all_read le =
@@ -40,9 +41,9 @@ module _ (N : Nodes) (env : Environment) (f g : Bool) (vs : List Value) (k : ℕ
           let step : suc k ≡ k + 1 = omega arith in
           subst P (type_here all k t some ∙ ap (λ j. t ∷ drop j all) step) next_value
 
-      pub one_on : (h : Bool) (one : Initial) → ((x : Written) → StandsValue N (get_or vs k d) x → Found g h IsInitial (initial x env t) (Ok one))
+      pub one_on : (h : Notes) (one : Initial) → ((x : Written) → StandsValue N (get_or vs k d) x → Found g h IsInitial (initial x env t) (Ok one))
           → RestOfValues N env f h (drop (k + 1) vs) (drop (k + 1) all) xs all (given ++ one ∷ [])
       one_on h one p = one_less N env f g h (get_or vs k d) (drop (k + 1) vs) t (drop (k + 1) all) xs all given one next_type p
 
-      pub one_off : (h : Bool) (e : TypeError) → ((x : Written) → StandsValue N (get_or vs k d) x → Found g h IsInitial (initial x env t) (Err e)) → Found f h AreInitials (members xs env all) (Err e)
+      pub one_off : (h : Notes) (e : TypeError) → ((x : Written) → StandsValue N (get_or vs k d) x → Found g h IsInitial (initial x env t) (Err e)) → Found f h AreInitials (members xs env all) (Err e)
       one_off h e p = one_stops N env f g h (get_or vs k d) (drop (k + 1) vs) t (drop (k + 1) all) xs all given e next_type p

@@ -2,3 +2,4 @@ pub mod Parts
 pub mod Tables
 pub mod Forms
 pub mod Sorts
+pub mod Lists

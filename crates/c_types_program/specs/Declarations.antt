@@ -13,6 +13,7 @@ use Rattle.c_types_rules.specs.Environment as environment
 use Rattle.c_types_rules.specs.Initials as initials
 use Rattle.c_types_rules.specs.Sources as sources
 use Rattle.c_types_nodes.specs.Tables.{Table}
+use Rattle.c_types_nodes.specs.Lists.{AreNodes, nodes_at}
 use Rattle.c_types_program.specs.declared.function.Body.{Body}
 use Rattle.c_types_program.specs.declared.function.Function.{Function}
 use Rattle.c_types_program.specs.declared.global.Known.{Known}
@@ -60,6 +61,8 @@ body_in t b = record {
   locals = types_in t.types b.locals;
   statements =
       statement_in t b.statements;
+  unevaluated =
+      nodes_at t b.unevaluated;
 }
 
 abbrev pub function_in : Table → Function → sources.Function
@@ -70,12 +73,14 @@ function_in t f = record {
       option_map (body_in t) f.body;
 }
 
-abbrev pub global_in : List Ty → Global → sources.Global
-global_in types g = record {
+abbrev pub global_in : Table → Global → sources.Global
+global_in t g = record {
   name = g.name;
-  type = type_at types g.ty;
+  type = type_at t.types g.ty;
   value =
       option_map initial_in g.value;
+  unevaluated =
+      nodes_at t g.unevaluated;
 }
 
 -- the struct of a number, whose size and alignment these are
@@ -98,14 +103,16 @@ structs_in types ds = structs_from types ds.members 0 ds.extents
 
 abbrev pub IsBody : Table → Option Body → Type 0
 IsBody t None = Unit {0}
-IsBody t (Some b) = All (IsBelow (length t.types)) b.locals × IsStatement t b.statements
+IsBody t (Some b) = All (IsBelow (length t.types)) b.locals × IsStatement t b.statements × AreNodes t
+    b.unevaluated
 
 pub record IsFunction (t : Table) (f : Function) : Type 0 where
   pub type : IsBelow (length t.types) f.ty
   pub body : IsBody t f.body
 
-abbrev pub IsGlobal : Table → Global → Type 0
-IsGlobal t g = IsBelow (length t.types) g.ty
+pub record IsGlobal (t : Table) (g : Global) : Type 0 where
+  pub type : IsBelow (length t.types) g.ty
+  pub unevaluated : AreNodes t g.unevaluated
 
 -- the type of a member is among the first n of a table
 abbrev pub IsMemberBelow : ℕ → List ℕ × TypeId → Type 0

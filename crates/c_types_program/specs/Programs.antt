@@ -11,7 +11,7 @@ abbrev pub program_in : Declared → Scope Meaning → Program
 program_in p names = record {
   structs = structs_in p.table.types p.structs;
   functions = map (function_in p.table) p.functions;
-  globals = map (global_in p.table.types) p.globals;
+  globals = map (global_in p.table) p.globals;
   names = names;
 }
 

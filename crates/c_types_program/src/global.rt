@@ -1,6 +1,7 @@
 //! Globals and their values before a run.
 
 use c_lexer::Text;
+use c_types_nodes::NodeIds;
 use c_types_table::TypeId;
 
 /// What a scalar has before a run: a number, or an address.
@@ -25,10 +26,11 @@ pub enum Initial {
     Listed(Vec<Initial>),
 }
 
-/// A global, and its value where the source gives one.
+/// A global, its value where the source gives one, and what stands unevaluated in that value, as in a `Body`.
 #[derive(Drop)]
 pub struct Global {
     pub name: Text,
     pub ty: TypeId,
     pub value: Option<Initial>,
+    pub unevaluated: NodeIds,
 }

@@ -13,7 +13,7 @@ use Rattle.c_types_model.specs.declared.extent.Extent.{Extent}
 use Rattle.c_builtins.specs.declared.builtin.Builtin.{Builtin}
 use Rattle.c_builtins.specs.Table.{prototype_of}
 use Rattle.c_scopes.specs.Scopes.{same_name, meaning_of}
-use Rattle.c_types_rules.specs.Checked.{Checked, Fine, Broken, keep, need, small, ◌>>=◌, ◌>>◌}
+use Rattle.c_types_rules.specs.Checked.{Checked, Fine, Broken, keep, need, small, unevaluated, ◌>>=◌, ◌>>◌}
 use Rattle.c_types_rules.specs.TypeTests.{is_scalar, is_result, is_complete, is_integer}
 use Rattle.c_types_rules.specs.Constants.{integer_constant}
 use Rattle.c_types_rules.specs.Operators.{assigned, assignment, binary, cast, choice, signed_operand, size_in, step, to_kind}
@@ -251,6 +251,7 @@ abbrev mutual
     postfixed (extents env) from s a
   expression (SizeofExpr from x) env = do
     a ← expression x env
+    unevaluated a
     keep from 15 (is_complete (extents env) (typed_type a))
     constant U64 (pos (size_in (extents env) (typed_type a)))
   expression (SizeofType from d) env = do
@@ -309,6 +310,7 @@ abbrev mutual
     complete (extents env) from t
     small (is_small (extents env) t)
     a ← expression x env
+    unevaluated a
     n ← length_of from (integer_constant (value_of a))
     declarator_type ps env (ArrayOf n t)
   declarator_type (Params from ds ps) env t = do

@@ -1,11 +1,11 @@
 -- Limits that a source may not exceed, where it breaks no rule of types.
-use Rattle.std.specs.Prelude.{ℕ, suc, Bool, true, false, ◌&&◌, nat_le, max, if◌then◌else◌, List, [], ◌∷◌, length, map, Option, Some, None}
+use Rattle.std.specs.Prelude.{ℕ, suc, Bool, true, false, not, ◌&&◌, nat_le, max, if◌then◌else◌, List, [], ◌∷◌, length, map, Option, Some, None}
 use Rattle.std.specs.Int.{next_multiple_of}
 use Rattle.c_syntax.specs.Syntax.{Decls}
 use Rattle.c_types_model.specs.Types.{CType, CTypes, NoTypes, MoreTypes}
 use Rattle.c_types_model.specs.Layouts.{end_from}
 use Rattle.c_types_model.specs.Limits.{greatest_object, most_members}
-use Rattle.c_types_rules.specs.Checked.{Checked, Fine, Large, Broken}
+use Rattle.c_types_rules.specs.Checked.{Checked, Fine, Noted, Broken}
 use Rattle.c_types_rules.specs.TypedTree as typed
 use Rattle.c_types_rules.specs.Environment.{Struct}
 use Rattle.c_types_rules.specs.Sources.{Function, Global, Program, extents_in, params_of, program}
@@ -84,7 +84,7 @@ unless p None = Typed p
 
 abbrev pub decided : Checked Program → Outcome
 decided (Fine p) = unless p (first_limit true p)
-decided (Large p) = unless p (first_limit false p)
+decided (Noted n p) = unless p (first_limit (not n.large) p)
 decided (Broken from rule) = Rule from rule
 
 -- what a source is by its types

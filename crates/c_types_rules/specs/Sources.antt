@@ -9,11 +9,11 @@ use Rattle.c_types_model.specs.Limits.{greatest_object}
 use Rattle.c_types_model.specs.declared.extent.Extent.{Extent}
 use Rattle.c_builtins.specs.Table.{first_source_function}
 use Rattle.c_scopes.specs.Scopes.{Scope, same_name, meaning_in}
-use Rattle.c_types_rules.specs.Checked.{Checked, Fine, Broken, keep, small, ◌>>=◌, ◌>>◌}
+use Rattle.c_types_rules.specs.Checked.{Checked, Fine, Broken, heard, keep, small, ◌>>=◌, ◌>>◌}
 use Rattle.c_types_rules.specs.TypeTests.{same_type}
 use Rattle.c_types_rules.specs.TypedTree as typed
 use Rattle.c_types_rules.specs.Environment.{Environment, Meaning, Struct, FunctionNamed, GlobalNamed, extents, place_in, is_reserved, inner, declarable}
-use Rattle.c_types_rules.specs.Expressions.{annotation_types, complete, declared_name, declared_type, with_parameter}
+use Rattle.c_types_rules.specs.Expressions.{annotation_types, complete, declared_name, declared_type, with_parameter, parameter_types}
 use Rattle.c_types_rules.specs.Statements.{Declared, Surroundings, start_of_stmt, statement, entries}
 use Rattle.c_types_rules.specs.Initials as initials
 
@@ -27,6 +27,8 @@ pub record Global : Type 0 where
   pub name : List ℕ
   pub type : CType
   pub value : Option initials.Initial
+  -- what stands in its value unevaluated, as in a body
+  pub unevaluated : List typed.Typed
 
 -- what a source declares: its structs by number, its functions by number less 16, its globals by place
 pub record Program : Type 0 where
@@ -184,12 +186,20 @@ block_of (Block from es) p d = do
 block_of s p d = statement s p d
 
 -- the statements of a function's outermost block, whose scope has the parameters too (C11 6.2.1, 4)
+abbrev pub block_body : Environment → CType → Parts → Stmt → Checked typed.Body
+block_body env t ps s = do
+  within ← parameters (nearest ps) (inner env) 0 (params_of t)
+  a ← heard (block_of s (record { result = result_of t; in_loop = false })
+      (record { env = within; locals = listed (params_of t) }))
+  Fine (record { from = start_of_stmt s; locals = a.0.0; statements = a.0.1; unevaluated = a.1 })
+
+-- the same, where what stands unevaluated in the parameters belongs to the body, before what stands in the
+-- block
 abbrev pub body_of : Environment → CType → Parts → Stmt → Checked typed.Body
 body_of env t ps s = do
-  within ← parameters (nearest ps) (inner env) 0 (params_of t)
-  a ← block_of s (record { result = result_of t; in_loop = false })
-      (record { env = within; locals = listed (params_of t) })
-  Fine (record { from = start_of_stmt s; locals = a.0; statements = a.1 })
+  params ← heard (parameter_types (nearest ps) (inner env) 0)
+  b ← block_body env t ps s
+  Fine (record b { unevaluated = params.1 ++ b.unevaluated })
 
 -- a function that has a body once at most
 abbrev pub function_defined : List (List ℕ) → Program → (from place : ℕ) → (name : List ℕ) → CType →
@@ -230,8 +240,10 @@ global tags p from name t r = do
   complete (extents (at_file tags p)) from t
   declarable (at_file tags p) from name
   let named = record p { names = (name, GlobalNamed (length p.globals) t) ∷ p.names }
-  x ← global_value tags named from t r
-  Fine (record named { globals = p.globals ++ record { name = name; type = t; value = x } ∷ [] })
+  x ← heard (global_value tags named from t r)
+  Fine (record named {
+    globals = p.globals ++ record { name = name; type = t; value = x.0; unevaluated = x.1 } ∷ [];
+  })
 
 -- ---- sources
 

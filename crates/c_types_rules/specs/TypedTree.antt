@@ -120,11 +120,13 @@ joined NoStatements b = b
 joined (MoreStatements s a) b = MoreStatements s (joined a b)
 
 -- what a function does: the offset of its outermost block, the types of its parameters and locals by place,
--- and its statements
+-- its statements, and what stands in them unevaluated: operands of sizeof, and lengths of arrays in the
+-- order of the source, each after those within it
 pub record Body : Type 0 where
   pub from : ℕ
   pub locals : List CType
   pub statements : Statement
+  pub unevaluated : List Typed
 
 abbrev pub char : CType
 char = Integer I8

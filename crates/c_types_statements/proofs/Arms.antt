@@ -21,7 +21,7 @@ use Rattle.c_types_rules.specs.Statements.{Declared, returned, statement}
 use Rattle.c_types_program.specs.declared.statement.Statement.{Statement}
 use Rattle.c_types_operators.specs.declared.error.TypeError.{TypeError}
 use Rattle.c_types_operators.specs.Answers.{Agrees}
-use Rattle.c_types_environment.specs.States.{State}
+use Rattle.c_types_environment.specs.States.{notes_of, State}
 use Rattle.c_types_expressions.specs.Found.{Finds, Stays}
 use Rattle.c_types_statements.specs.declared.place.Surroundings.{Surroundings}
 use Rattle.c_types_statements.specs.Pieces.{evaluated_in, in_loops}
@@ -83,7 +83,7 @@ module _ (N : Nodes) (i : StmtId) (node : StmtNode) (at : stmt_at N i ≡ Some n
     return_arm x kind one h s k =
         let q = return_only N i node.from x s (node, at, refl, kind) k in
         same_statement a b (IsTyped b ids) (place_in a place) (declared_in a ids) r s (Return node.from q.0) (sym q.1)
-        (located a.found_large b.found_large b ids (declared_in a ids).locals (returned a.env node.from (type_at a.table.types place.result) q.0) r (types_kept a.table b.table ids one.numbers below) (h q.0 q.2))
+        (located (notes_of a) (notes_of b) b ids (declared_in a ids).locals (returned a.env node.from (type_at a.table.types place.result) q.0) r (types_kept a.table b.table ids one.numbers below) (h q.0 q.2))
 
   module _ (a : State) (place : Surroundings) (ids : List TypeId) (made : Statement) (r : Result Statement TypeError) (h : Agrees (λ v w. v ≡ w) (in_loops node.from place.in_loop made) r) where
     pub break_arm : node.kind ≡ stmts.Break → StatementStands a.table typed.Break made → (s : Stmt) → StandsStmt N i s → Finds a a (IsTyped a ids) (statement s (place_in a place) (declared_in a ids)) r

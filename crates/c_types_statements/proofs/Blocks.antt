@@ -17,7 +17,7 @@ use Rattle.c_types_rules.specs.Statements.{Declared, entries, entry, locals_of, 
 use Rattle.c_types_nodes.specs.Tables.{Table}
 use Rattle.c_types_program.specs.declared.statement.Statement.{Statement}
 use Rattle.c_types_operators.specs.declared.error.TypeError.{TypeError}
-use Rattle.c_types_environment.specs.States.{State}
+use Rattle.c_types_environment.specs.States.{notes_of, State}
 use Rattle.c_types_expressions.specs.Found.{Finds, Stays}
 use Rattle.c_types_expressions.proofs.Sequences.{gone_on, stopped_in}
 use Rattle.c_types_statements.specs.declared.place.Surroundings.{Surroundings}
@@ -32,12 +32,12 @@ module _ (a b : State) (p : Surroundings) (locals found : List TypeId) (es : Ent
       → ((t : Table) (xs : Statements) → StatementsStand t xs all.items → StatementStands t (typed.Block xs) made)
       → Finds a (closed b) (IsTyped (closed b) found) (statement (Block 0 es) (place_in a p) (declared_in a locals)) (Ok made)
   block_found all made h makes =
-      gone_on a.found_large b.found_large b.found_large (AreTyped b found) (IsTyped (closed b) found) (entries es (place_in (opened a) p) (declared_in (opened a) locals)) (λ y. Fine (y.0, typed.Block y.1)) all (Ok made) h
+      gone_on (notes_of a) (notes_of b) (notes_of b) (AreTyped b found) (IsTyped (closed b) found) (entries es (place_in (opened a) p) (declared_in (opened a) locals)) (λ y. Fine (y.0, typed.Block y.1)) all (Ok made) h
       (λ y is. ((is.0, makes b.table y.1 is.1), refl))
 
   pub block_broken : (e : TypeError) → Finds (opened a) b (AreTyped b found) (entries es (place_in (opened a) p) (declared_in (opened a) locals)) (Err e)
       → Finds a (closed b) (IsTyped (closed b) found) (statement (Block 0 es) (place_in a p) (declared_in a locals)) (Err e)
-  block_broken e h = stopped_in a.found_large b.found_large b.found_large (AreTyped b found) (IsTyped (closed b) found) (entries es (place_in (opened a) p) (declared_in (opened a) locals)) (λ y. Fine (y.0, typed.Block y.1)) e h
+  block_broken e h = stopped_in (notes_of a) (notes_of b) (notes_of b) (AreTyped b found) (IsTyped (closed b) found) (entries es (place_in (opened a) p) (declared_in (opened a) locals)) (λ y. Fine (y.0, typed.Block y.1)) e h
 
 -- a `for` with the scope of its names
 pub for_found : (a b : State) (p : Surroundings) (locals found : List TypeId) (from : ℕ) (f : First) (x y : MaybeExpr) (s : Stmt) (r : Result Statement TypeError)
@@ -51,13 +51,13 @@ module _ (a b : State) (p : Surroundings) (locals found : List TypeId) (s : Stmt
   pub entry_found : (made : Statement) (old new : List Statement) → Finds a b (IsTyped b found) (statement s (place_in a p) (declared_in a locals)) (Ok made) → Stays a b → new ≡ old ++ made ∷ []
       → Finds a b (AddsDeclared b found old new) (entry (StmtEntry s) (place_in a p) (declared_in a locals)) (Ok tt)
   entry_found made old new h one e =
-      gone_on a.found_large b.found_large b.found_large (IsTyped b found) (AddsDeclared b found old new) (statement s (place_in a p) (declared_in a locals)) (λ y. Fine (outside a.env y.0, MoreStatements y.1 NoStatements)) made (Ok tt) h
+      gone_on (notes_of a) (notes_of b) (notes_of b) (IsTyped b found) (AddsDeclared b found old new) (statement s (place_in a p) (declared_in a locals)) (λ y. Fine (outside a.env y.0, MoreStatements y.1 NoStatements)) made (Ok tt) h
       (λ y is. ((declared_moved a b found y.0 one.env is.0, (made ∷ [], e, one_stands b.table y.1 made is.1)), refl))
 
   pub statement_breaks : (old new : List Statement) (e : TypeError) → Finds a b (IsTyped b found) (statement s (place_in a p) (declared_in a locals)) (Err e)
       → Finds a b (AddsDeclared b found old new) (entry (StmtEntry s) (place_in a p) (declared_in a locals)) (Err e)
   statement_breaks old new e h =
-      stopped_in a.found_large b.found_large b.found_large (IsTyped b found) (AddsDeclared b found old new) (statement s (place_in a p) (declared_in a locals)) (λ y. Fine (outside a.env y.0, MoreStatements y.1 NoStatements)) e h
+      stopped_in (notes_of a) (notes_of b) (notes_of b) (IsTyped b found) (AddsDeclared b found old new) (statement s (place_in a p) (declared_in a locals)) (λ y. Fine (outside a.env y.0, MoreStatements y.1 NoStatements)) e h
 
 -- ---- what stands in a block
 

@@ -9,7 +9,7 @@ use Rattle.c_syntax.specs.Stands.{StandsDecl, StandsRest}
 use Rattle.c_types_model.specs.Types.{CType}
 use Rattle.c_types_table.specs.declared.ids.TypeId.{TypeId}
 use Rattle.c_types_table.specs.Tables.{type_at, types_of}
-use Rattle.c_types_rules.specs.Checked.{Checked, Fine, Large, Broken, keep, ◌>>=◌, ◌>>◌}
+use Rattle.c_types_rules.specs.Checked.{Checked, Fine, Noted, Broken, keep, ◌>>=◌, ◌>>◌}
 use Rattle.c_types_rules.specs.Environment.{Environment, LocalNamed, declarable, extents, with_name}
 use Rattle.c_types_rules.specs.Expressions.{complete, declared_name, declared_type, start_of}
 use Rattle.c_types_rules.specs.Operators.{assigned}
@@ -25,7 +25,7 @@ use Rattle.c_types_operators.specs.declared.error.TypeError.TheVariants.{Rule}
 use Rattle.c_types_operators.specs.Answers.{Agrees, IsAt, IsNothing}
 use Rattle.c_types_environment.specs.declared.meaning.Meaning.{Meaning as Stored}
 use Rattle.c_types_environment.specs.Reading.{meaning_by}
-use Rattle.c_types_environment.specs.States.{State}
+use Rattle.c_types_environment.specs.States.{notes_of, State}
 use Rattle.c_types_expressions.specs.Found.{Finds, IsType, Stays}
 use Rattle.c_types_expressions.proofs.Operands.{agrees_as}
 use Rattle.c_types_expressions.proofs.Sequences.{gone_on, gone_on_after, in_turn, not_kept, noted_nothing, stopped_before, stopped_in}
@@ -58,7 +58,7 @@ module _ (N : Nodes) (i : DeclId) (node : DeclNode) (at : decl_at N i ≡ Some n
 module _ (a b : State) where
   pub type_broken : (d : Decl) (e : TypeError) → Finds a b (IsType b.table) (declared_type d a.env) (Err e) → Finds a b (IsType b.table) (local_type a.env d) (Err e)
   type_broken (Declare from an x ps n r) e h =
-      stopped_in a.found_large b.found_large b.found_large (IsType b.table) (IsType b.table) (declared_type (Declare from an x ps n r) a.env) (λ t. complete (extents a.env) from t >> Fine t) e h
+      stopped_in (notes_of a) (notes_of b) (notes_of b) (IsType b.table) (IsType b.table) (declared_type (Declare from an x ps n r) a.env) (λ t. complete (extents a.env) from t >> Fine t) e h
 
   module _ (ty : TypeId) (one : Stays a b) (g : ℕ) where
     checked_alike : (from : ℕ) (t : CType) → IsType b.table t ty → g ≡ from → complete (extents a.env) from t ≡ complete (extents b.env) g (type_at b.table.types ty)
@@ -67,22 +67,22 @@ module _ (a b : State) where
 
     pub type_found : (d : Decl) → Finds a b (IsType b.table) (declared_type d a.env) (Ok ty) → g ≡ offset_of d → Agrees IsNothing (complete (extents b.env) g (type_at b.table.types ty)) (Ok tt) → Finds a b (IsType b.table) (local_type a.env d) (Ok ty)
     type_found (Declare from an x ps n r) h e k =
-        gone_on a.found_large b.found_large b.found_large (IsType b.table) (IsType b.table) (declared_type (Declare from an x ps n r) a.env) (λ t. complete (extents a.env) from t >> Fine t) ty (Ok ty) h (λ t is.
-        gone_on_after b.found_large b.found_large b.found_large IsNothing (IsType b.table) (complete (extents a.env) from t) (Fine t) tt (Ok ty)
-        (noted_nothing b.found_large b.found_large IsNothing (complete (extents a.env) from t) (Ok tt) refl (agrees_as IsNothing _ _ (Ok tt) (checked_alike from t is e) k)) (is, refl))
+        gone_on (notes_of a) (notes_of b) (notes_of b) (IsType b.table) (IsType b.table) (declared_type (Declare from an x ps n r) a.env) (λ t. complete (extents a.env) from t >> Fine t) ty (Ok ty) h (λ t is.
+        gone_on_after (notes_of b) (notes_of b) (notes_of b) IsNothing (IsType b.table) (complete (extents a.env) from t) (Fine t) tt (Ok ty)
+        (noted_nothing (notes_of b) (notes_of b) IsNothing (complete (extents a.env) from t) (Ok tt) refl (agrees_as IsNothing _ _ (Ok tt) (checked_alike from t is e) k)) (is, refl))
 
     pub incomplete : (d : Decl) (wrong : TypeError) → Finds a b (IsType b.table) (declared_type d a.env) (Ok ty) → g ≡ offset_of d → Agrees IsNothing (complete (extents b.env) g (type_at b.table.types ty)) (Err wrong) → Finds a b (IsType b.table) (local_type a.env d) (Err wrong)
     incomplete (Declare from an x ps n r) wrong h e k =
-        gone_on a.found_large b.found_large b.found_large (IsType b.table) (IsType b.table) (declared_type (Declare from an x ps n r) a.env) (λ t. complete (extents a.env) from t >> Fine t) ty (Err wrong) h (λ t is.
-        stopped_before b.found_large b.found_large b.found_large IsNothing (IsType b.table) (complete (extents a.env) from t) (Fine t) wrong
-        (noted_nothing b.found_large b.found_large IsNothing (complete (extents a.env) from t) (Err wrong) refl (agrees_as IsNothing _ _ (Err wrong) (checked_alike from t is e) k)))
+        gone_on (notes_of a) (notes_of b) (notes_of b) (IsType b.table) (IsType b.table) (declared_type (Declare from an x ps n r) a.env) (λ t. complete (extents a.env) from t >> Fine t) ty (Err wrong) h (λ t is.
+        stopped_before (notes_of b) (notes_of b) (notes_of b) IsNothing (IsType b.table) (complete (extents a.env) from t) (Fine t) wrong
+        (noted_nothing (notes_of b) (notes_of b) IsNothing (complete (extents a.env) from t) (Err wrong) refl (agrees_as IsNothing _ _ (Err wrong) (checked_alike from t is e) k)))
 
 -- ---- names
 
 -- what stands after a name that may be declared
 where_declared : {X : Type 0} (c : Checked (Unit {0})) → Agrees {B = Unit {0}} (λ _ _. X) c (Ok tt) → X
 where_declared (Fine x) h = h
-where_declared (Large x) h = absurd h
+where_declared (Noted n x) h = absurd h
 where_declared (Broken from rule) h = absurd h
 
 module _ (a b : State) (from place : ℕ) (name : List ℕ) (t : CType) (m : Stored) (means : meaning_by (types_of a.table.types) m ≡ LocalNamed place t) where
@@ -97,14 +97,14 @@ module _ (a b : State) (from place : ℕ) (name : List ℕ) (t : CType) (m : Sto
       → Finds a b (λ (e : Environment) (_ : Unit {0}). b.env ≡ e) (declarable a.env from name >> Fine (with_name a.env name (LocalNamed place t))) (Ok tt)
   scope_found h =
       let same = named_so h in
-      gone_on_after a.found_large b.found_large b.found_large DeclaredThere (λ (e : Environment) (_ : Unit {0}). b.env ≡ e) (declarable a.env from name) (Fine (with_name a.env name (LocalNamed place t))) tt (Ok tt)
-      (noted_nothing a.found_large b.found_large DeclaredThere (declarable a.env from name) (Ok tt) (ap (λ s. s.found_large) same) h) (ap (λ s. s.env) same, refl)
+      gone_on_after (notes_of a) (notes_of b) (notes_of b) DeclaredThere (λ (e : Environment) (_ : Unit {0}). b.env ≡ e) (declarable a.env from name) (Fine (with_name a.env name (LocalNamed place t))) tt (Ok tt)
+      (noted_nothing (notes_of a) (notes_of b) DeclaredThere (declarable a.env from name) (Ok tt) (ap (λ s. (notes_of s)) same) h) (ap (λ s. s.env) same, refl)
 
   pub scope_broken : {B : Type 0} (is : Environment → B → Type 0) (e : TypeError) → Agrees DeclaredThere (declarable a.env from name) (Err e) → b ≡ a
       → Finds a b is (declarable a.env from name >> Fine (with_name a.env name (LocalNamed place t))) (Err e)
   scope_broken is e h same =
-      stopped_before a.found_large b.found_large b.found_large DeclaredThere is (declarable a.env from name) (Fine (with_name a.env name (LocalNamed place t))) e
-      (noted_nothing a.found_large b.found_large DeclaredThere (declarable a.env from name) (Err e) (ap (λ s. s.found_large) same) h)
+      stopped_before (notes_of a) (notes_of b) (notes_of b) DeclaredThere is (declarable a.env from name) (Fine (with_name a.env name (LocalNamed place t))) e
+      (noted_nothing (notes_of a) (notes_of b) DeclaredThere (declarable a.env from name) (Err e) (ap (λ s. (notes_of s)) same) h)
 
   -- whatever comes of it
   pub scope_made : (r : Result (Unit {0}) TypeError) → Agrees DeclaredThere (declarable a.env from name) r → OnErr r (b ≡ a)
@@ -121,8 +121,8 @@ module _ (a b : State) (from place : ℕ) (n : Option (List ℕ)) (name : List �
       let P : List ℕ → Type 0 = λ z. Finds a b is (declarable a.env from z >> Fine (with_name a.env z (LocalNamed place t))) (Ok given) in
       let there = named_so a b from place name t m means h in
       subst P spelled
-      (gone_on_after a.found_large b.found_large b.found_large (DeclaredThere a b from place name t m means) is (declarable a.env from name) (Fine (with_name a.env name (LocalNamed place t))) tt (Ok given)
-      (noted_nothing a.found_large b.found_large (DeclaredThere a b from place name t m means) (declarable a.env from name) (Ok tt) (ap (λ s. s.found_large) there) h) ((ap (λ s. s.env) there, same), refl))
+      (gone_on_after (notes_of a) (notes_of b) (notes_of b) (DeclaredThere a b from place name t m means) is (declarable a.env from name) (Fine (with_name a.env name (LocalNamed place t))) tt (Ok given)
+      (noted_nothing (notes_of a) (notes_of b) (DeclaredThere a b from place name t m means) (declarable a.env from name) (Ok tt) (ap (λ s. (notes_of s)) there) h) ((ap (λ s. s.env) there, same), refl))
 
   pub local_taken : (e : TypeError) → Agrees (DeclaredThere a b from place name t m means) (declarable a.env from name) (Err e) → b ≡ a
       → Finds a b (λ e p. (b.env ≡ e) × (p ≡ place)) (local_scope a.env from n place t) (Err e)
@@ -170,16 +170,16 @@ module _ (a b : State) (from place : ℕ) (t : CType) (x : Expr) where
       let is : Statements → Statement → Type 0 = λ xs z. StatementsStand b.table xs (z ∷ []) in
       let P : Checked Statements → Type 0 = λ c. Finds a b is c (Ok s) in
       subst P (sym (value_of_scalar scalar))
-      (gone_on a.found_large b.found_large b.found_large (IsAt b.table) is (converted_in a.env t x) (λ w. Fine (MoreStatements (typed.Initialise place t w) NoStatements)) v (Ok s) h (λ w at. (makes w at, refl)))
+      (gone_on (notes_of a) (notes_of b) (notes_of b) (IsAt b.table) is (converted_in a.env t x) (λ w. Fine (MoreStatements (typed.Initialise place t w) NoStatements)) v (Ok s) h (λ w at. (makes w at, refl)))
 
   pub initial_broken : (e : TypeError) → is_scalar t ≡ true → Finds a b (IsAt b.table) (converted_in a.env t x) (Err e)
       → Finds a b (λ xs s. StatementsStand b.table xs (s ∷ [])) (first_value a.env from place t (Initial (Plain x))) (Err e)
   initial_broken e scalar h =
       let is : Statements → Statement → Type 0 = λ xs z. StatementsStand b.table xs (z ∷ []) in
       let P : Checked Statements → Type 0 = λ c. Finds a b is c (Err e) in
-      subst P (sym (value_of_scalar scalar)) (stopped_in a.found_large b.found_large b.found_large (IsAt b.table) is (converted_in a.env t x) (λ w. Fine (MoreStatements (typed.Initialise place t w) NoStatements)) e h)
+      subst P (sym (value_of_scalar scalar)) (stopped_in (notes_of a) (notes_of b) (notes_of b) (IsAt b.table) is (converted_in a.env t x) (λ w. Fine (MoreStatements (typed.Initialise place t w) NoStatements)) e h)
 
 -- the value of what is no scalar
 pub not_scalar : (a : State) (from place : ℕ) (t : CType) (x : Expr) → is_scalar t ≡ false → Finds a a (λ xs s. StatementsStand a.table xs (s ∷ [])) (first_value a.env from place t (Initial (Plain x))) (Err (Rule from 17))
 not_scalar a from place t x h =
-    not_kept a.found_large a.found_large (λ xs s. StatementsStand a.table xs (s ∷ [])) from 17 (is_scalar t) (value_in a.env x >>= (λ v. assigned (start_of x) t v >>= (λ w. Fine (MoreStatements (typed.Initialise place t w) NoStatements)))) h
+    not_kept (notes_of a) (notes_of a) (λ xs s. StatementsStand a.table xs (s ∷ [])) from 17 (is_scalar t) (value_in a.env x >>= (λ v. assigned (start_of x) t v >>= (λ w. Fine (MoreStatements (typed.Initialise place t w) NoStatements)))) h

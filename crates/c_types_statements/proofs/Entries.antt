@@ -14,7 +14,7 @@ use Rattle.c_types_rules.specs.Statements.{Declared, Surroundings, entry, entrie
 use Rattle.c_types_nodes.specs.Tables.{Keeps}
 use Rattle.c_types_program.specs.declared.statement.Statement.{Statement}
 use Rattle.c_types_operators.specs.declared.error.TypeError.{TypeError}
-use Rattle.c_types_environment.specs.States.{State}
+use Rattle.c_types_environment.specs.States.{notes_of, State}
 use Rattle.c_types_expressions.specs.Found.{Finds}
 use Rattle.c_types_statements.specs.declared.place.Surroundings.{Surroundings as Where}
 use Rattle.c_types_statements.specs.Typed.{AddsDeclared, AreTyped, StatementsStand, declared_in, place_in}
@@ -30,23 +30,23 @@ pub record EntriesRead (N : Nodes) (vs : List Item) (k : ℕ) (es : Entries) (p 
   pub stand : StandEntries N (drop k vs) rest
   pub xs : Statements
   pub made_of : StatementsStand now.table xs made
-  pub reached : Passed old.found_large now.found_large (entries es p d) (following xs (entries rest p (declared_in now locals)))
+  pub reached : Passed (notes_of old) (notes_of now) (entries es p d) (following xs (entries rest p (declared_in now locals)))
 
 module _ (N : Nodes) (vs : List Item) (es : Entries) (p : Surroundings) (old : State) where
   pub no_entry_read : (locals : List TypeId) → StandEntries N vs es → EntriesRead N vs 0 es p (declared_in old locals) old old locals []
-  no_entry_read locals h = record { rest = es; stand = h; xs = NoStatements; made_of = none_stand old.table; reached = none_read old.found_large (entries es p (declared_in old locals)) }
+  no_entry_read locals h = record { rest = es; stand = h; xs = NoStatements; made_of = none_stand old.table; reached = none_read (notes_of old) (entries es p (declared_in old locals)) }
 
   module _ (d : Declared) (k : ℕ) (now : State) (locals : List TypeId) (made : List Statement) (read : EntriesRead N vs k es p d old now locals made) where
-    pub reached_next : (v : Item) (n : NextEntry N vs k v read.rest) → Passed old.found_large now.found_large (entries es p d) (following read.xs (entry n.entry p (declared_in now locals) >>= (λ a. following a.1 (entries n.more p a.0))))
-    reached_next v n = let P : Entries → Type 0 = λ z. Passed old.found_large now.found_large (entries es p d) (following read.xs (entries z p (declared_in now locals))) in subst P n.is read.reached
+    pub reached_next : (v : Item) (n : NextEntry N vs k v read.rest) → Passed (notes_of old) (notes_of now) (entries es p d) (following read.xs (entry n.entry p (declared_in now locals) >>= (λ a. following a.1 (entries n.more p a.0))))
+    reached_next v n = let P : Entries → Type 0 = λ z. Passed (notes_of old) (notes_of now) (entries es p d) (following read.xs (entries z p (declared_in now locals))) in subst P n.is read.reached
 
     pub entry_read : (v : Item) (next : State) (found : List TypeId) (new : List Statement) → k < length vs → Keeps now.table next.table
         → ((x : Entry) → StandsEntry N (get_or vs k v) x → Finds now next (AddsDeclared next found made new) (entry x p (declared_in now locals)) (Ok tt))
         → EntriesRead N vs (k + 1) es p d old next found new
     entry_read v next found new l keeps agrees =
         let n = next_entry N vs k v read.rest l read.stand in
-        let r = read_on old.found_large now.found_large next.found_large (entries es p d) read.xs (AddsDeclared next found made new) (entry n.entry p (declared_in now locals)) (entries n.more p) tt (reached_next v n) (agrees n.entry n.stands) in
-        let P : Declared → Type 0 = λ z. Passed old.found_large next.found_large (entries es p d) (following (joined read.xs r.0.1) (entries n.more p z)) in
+        let r = read_on (notes_of old) (notes_of now) (notes_of next) (entries es p d) read.xs (AddsDeclared next found made new) (entry n.entry p (declared_in now locals)) (entries n.more p) tt (reached_next v n) (agrees n.entry n.stands) in
+        let P : Declared → Type 0 = λ z. Passed (notes_of old) (notes_of next) (entries es p d) (following (joined read.xs r.0.1) (entries n.more p z)) in
         let more = r.1.1 in
         let Q : List Statement → Type 0 = λ z. StatementsStand next.table (joined read.xs r.0.1) z in
         let stand : StatementsStand next.table (joined read.xs r.0.1) new = subst Q (sym more.1) (stand_joined next.table read.xs r.0.1 made more.0 (statements_stand_kept now.table next.table read.xs made keeps read.made_of) more.2) in
@@ -57,13 +57,13 @@ module _ (N : Nodes) (vs : List Item) (es : Entries) (p : Surroundings) (old : S
         → Finds old last (AreTyped last all) (entries es p d) (Err e)
     entry_broken v next last found all new e l agrees =
         let n = next_entry N vs k v read.rest l read.stand in
-        read_off old.found_large now.found_large next.found_large last.found_large (entries es p d) read.xs (AddsDeclared next found made new) (AreTyped last all) (entry n.entry p (declared_in now locals)) (λ a. following a.1 (entries n.more p a.0)) e (reached_next v n) (agrees n.entry n.stands)
+        read_off (notes_of old) (notes_of now) (notes_of next) (notes_of last) (entries es p d) read.xs (AddsDeclared next found made new) (AreTyped last all) (entry n.entry p (declared_in now locals)) (λ a. following a.1 (entries n.more p a.0)) e (reached_next v n) (agrees n.entry n.stands)
 
     pub entries_read : (made_vec : Vec Statement Global) → made_vec.items ≡ made → length vs ≤ k → Finds old now (AreTyped now locals) (entries es p d) (Ok made_vec)
     entries_read made_vec e l =
-        let P : Entries → Type 0 = λ z. Passed old.found_large now.found_large (entries es p d) (following read.xs (entries z p (declared_in now locals))) in
+        let P : Entries → Type 0 = λ z. Passed (notes_of old) (notes_of now) (entries es p d) (following read.xs (entries z p (declared_in now locals))) in
         let Q : List Statement → Type 0 = λ z. StatementsStand now.table read.xs z in
-        read_all old.found_large now.found_large (entries es p d) read.xs (AreTyped now locals) (declared_in now locals).locals made_vec (subst P (no_entry N vs k read.rest l read.stand) read.reached) (refl, subst Q (sym e) read.made_of)
+        read_all (notes_of old) (notes_of now) (entries es p d) read.xs (AreTyped now locals) (declared_in now locals).locals made_vec (subst P (no_entry N vs k read.rest l read.stand) read.reached) (refl, subst Q (sym e) read.made_of)
 
 -- an entry that was read where its scope has changed
 pub entry_here : {B : Type 0} (N : Nodes) (a b c : State) (p : Where) (v w : Item) (x : Entry) (locals : List TypeId) (goes : Declared × Statements → B → Type 0) (r : Result B TypeError) → Keeps a.table b.table → IsBelow (length a.table.types) p.result → v ≡ w

@@ -16,7 +16,7 @@ use Rattle.c_types_model.specs.Types.{CType}
 use Rattle.c_types_table.specs.declared.ids.TypeId.{TypeId}
 use Rattle.c_types_table.specs.declared.ty.Ty.{Ty}
 use Rattle.c_types_table.specs.Tables.{IsBelow, type_at}
-use Rattle.c_types_rules.specs.Checked.{Checked, Fine, Large, Broken, ◌>>=◌, ◌>>◌}
+use Rattle.c_types_rules.specs.Checked.{Checked, Fine, Noted, Broken, ◌>>=◌, ◌>>◌}
 use Rattle.c_types_rules.specs.Environment.{Environment, LocalNamed, declarable, extents, with_name}
 use Rattle.c_types_rules.specs.Expressions.{complete, declared_name, declared_type}
 use Rattle.c_types_rules.specs.Statements.{Declared, first_value, local}
@@ -26,7 +26,7 @@ use Rattle.c_types_program.specs.declared.statement.Statement.{Statement}
 use Rattle.c_types_program.specs.Declarations.{types_in}
 use Rattle.c_types_operators.specs.declared.error.TypeError.{TypeError}
 use Rattle.c_types_operators.specs.declared.error.TypeError.TheVariants.{Rule, Memory}
-use Rattle.c_types_environment.specs.States.{State}
+use Rattle.c_types_environment.specs.States.{notes_of, State}
 use Rattle.c_types_expressions.specs.Found.{Finds, IsType, Stays}
 use Rattle.c_types_expressions.specs.Walks.{IsExpr}
 use Rattle.c_types_expressions.proofs.Kept.{then_kept}
@@ -84,7 +84,7 @@ module _ (a b : State) (from place : ℕ) (t : CType) where
     where
       as_one : (c : Checked Statements) (s : Statement) → Finds a b (λ xs s. StatementsStand b.table xs (s ∷ [])) c (Ok s) → Finds a b (IsFirst b) c (Ok (Some s))
       as_one (Fine xs) s h = h
-      as_one (Large xs) s h = h
+      as_one (Noted n xs) s h = h
       as_one (Broken from rule) s h = absurd h
 
   pub first_broken : (x : Expr) (e : TypeError) → Finds a b (λ xs s. StatementsStand b.table xs (s ∷ [])) (first_value a.env from place t (Initial (Plain x))) (Err e) → Finds a b (IsFirst b) (first_value a.env from place t (Initial (Plain x))) (Err e)
@@ -93,7 +93,7 @@ module _ (a b : State) (from place : ℕ) (t : CType) where
       as_broken : (c : Checked Statements) (e : TypeError) → Finds a b (λ xs s. StatementsStand b.table xs (s ∷ [])) c (Err e) → Finds a b (IsFirst b) c (Err e)
       as_broken c Memory h = tt
       as_broken (Fine xs) (Rule f q) h = absurd h
-      as_broken (Large xs) (Rule f q) h = absurd h
+      as_broken (Noted n xs) (Rule f q) h = absurd h
       as_broken (Broken from rule) (Rule f q) h = h
 
 -- ---- a local
@@ -133,7 +133,7 @@ IsPlace s k e p = (s.env ≡ e) × (p ≡ k)
 pub local_type_broken : (a b : State) (d : Decl) (ids new : List TypeId) (wrong : TypeError) → Finds a b (IsType b.table) (local_type a.env d) (Err wrong) → Finds a b (IsLocal b new) (local d (declared_in a ids)) (Err wrong)
 local_type_broken a b d ids new wrong h =
     let P : Checked (Declared × Statements) → Type 0 = λ z. Finds a b (IsLocal b new) z (Err wrong) in
-    subst P (sym (local_is d (declared_in a ids))) (stopped_in a.found_large b.found_large b.found_large (IsType b.table) (IsLocal b new) (local_type a.env d) (λ t. after_type d (declared_in a ids) t) wrong h)
+    subst P (sym (local_is d (declared_in a ids))) (stopped_in (notes_of a) (notes_of b) (notes_of b) (IsType b.table) (IsLocal b new) (local_type a.env d) (λ t. after_type d (declared_in a ids) t) wrong h)
 
 module _ (a b c : State) (d : Decl) (ids new : List TypeId) (ty : TypeId) (typed_so : Finds a b (IsType b.table) (local_type a.env d) (Ok ty)) (one : Stays a b) (g : ℕ) (name : Option (List ℕ)) (at : g ≡ offset_of d) (spelled : name ≡ naming_of d) where
   scope_moved : {B : Type 0} (is : Environment → B → Type 0) (r : Result B TypeError) (t : CType) → IsType b.table t ty → Finds b c is (local_scope b.env g name (length ids) (type_at b.table.types ty)) r
@@ -153,8 +153,8 @@ module _ (a b c : State) (d : Decl) (ids new : List TypeId) (ty : TypeId) (typed
   local_name_broken wrong h =
       let P : Checked (Declared × Statements) → Type 0 = λ z. Finds a c (IsLocal c new) z (Err wrong) in
       subst P (sym (local_is d (declared_in a ids)))
-      (gone_on a.found_large b.found_large c.found_large (IsType b.table) (IsLocal c new) (local_type a.env d) (λ t. after_type d (declared_in a ids) t) ty (Err wrong) typed_so (λ t names.
-      stopped_in b.found_large c.found_large c.found_large (IsPlace c (length ids)) (IsLocal c new) (local_scope a.env (offset_of d) (naming_of d) (length (declared_in a ids).locals) t) (λ env. after_name d (declared_in a ids).locals t env) wrong
+      (gone_on (notes_of a) (notes_of b) (notes_of c) (IsType b.table) (IsLocal c new) (local_type a.env d) (λ t. after_type d (declared_in a ids) t) ty (Err wrong) typed_so (λ t names.
+      stopped_in (notes_of b) (notes_of c) (notes_of c) (IsPlace c (length ids)) (IsLocal c new) (local_scope a.env (offset_of d) (naming_of d) (length (declared_in a ids).locals) t) (λ env. after_name d (declared_in a ids).locals t env) wrong
       (scope_moved (IsPlace c (length ids)) (Err wrong) t names h)))
 
   module _ (place : ℕ) (named : Finds b c (IsPlace c (length ids)) (local_scope b.env g name (length ids) (type_at b.table.types ty)) (Ok place)) (two : Keeps b.table c.table) (e : State) where
@@ -174,10 +174,10 @@ module _ (a b c : State) (d : Decl) (ids new : List TypeId) (ty : TypeId) (typed
     local_value_broken wrong h =
         let P : Checked (Declared × Statements) → Type 0 = λ z. Finds a e (IsLocal e new) z (Err wrong) in
         subst P (sym (local_is d (declared_in a ids)))
-        (gone_on a.found_large b.found_large e.found_large (IsType b.table) (IsLocal e new) (local_type a.env d) (λ t. after_type d (declared_in a ids) t) ty (Err wrong) typed_so (λ t names.
-        gone_on b.found_large c.found_large e.found_large (IsPlace c (length ids)) (IsLocal e new) (local_scope a.env (offset_of d) (naming_of d) (length (declared_in a ids).locals) t) (λ env. after_name d (declared_in a ids).locals t env) place (Err wrong)
+        (gone_on (notes_of a) (notes_of b) (notes_of e) (IsType b.table) (IsLocal e new) (local_type a.env d) (λ t. after_type d (declared_in a ids) t) ty (Err wrong) typed_so (λ t names.
+        gone_on (notes_of b) (notes_of c) (notes_of e) (IsPlace c (length ids)) (IsLocal e new) (local_scope a.env (offset_of d) (naming_of d) (length (declared_in a ids).locals) t) (λ env. after_name d (declared_in a ids).locals t env) place (Err wrong)
         (scope_moved (IsPlace c (length ids)) (Ok place) t names named) (λ env there.
-        stopped_in c.found_large e.found_large e.found_large (IsFirst e) (IsLocal e new) (first_value env (offset_of d) (length (declared_in a ids).locals) t (rest_of d)) (λ first. after_value env (declared_in a ids).locals t first) wrong
+        stopped_in (notes_of c) (notes_of e) (notes_of e) (IsFirst e) (IsLocal e new) (first_value env (offset_of d) (length (declared_in a ids).locals) t (rest_of d)) (λ first. after_value env (declared_in a ids).locals t first) wrong
         (first_moved (IsFirst e) (Err wrong) t env names there h))))
 
     -- a local that keeps all rules
@@ -188,10 +188,10 @@ module _ (a b c : State) (d : Decl) (ids new : List TypeId) (ty : TypeId) (typed
         let later : Keeps b.table e.table = then_kept b.table c.table e.table two three.numbers in
         let whole : Keeps a.table e.table = then_kept a.table b.table e.table one.numbers later in
         subst P (sym (local_is d (declared_in a ids)))
-        (gone_on a.found_large b.found_large e.found_large (IsType b.table) (IsLocal e new) (local_type a.env d) (λ t. after_type d (declared_in a ids) t) ty (Ok first) typed_so (λ t names.
-        gone_on b.found_large c.found_large e.found_large (IsPlace c (length ids)) (IsLocal e new) (local_scope a.env (offset_of d) (naming_of d) (length (declared_in a ids).locals) t) (λ env. after_name d (declared_in a ids).locals t env) place (Ok first)
+        (gone_on (notes_of a) (notes_of b) (notes_of e) (IsType b.table) (IsLocal e new) (local_type a.env d) (λ t. after_type d (declared_in a ids) t) ty (Ok first) typed_so (λ t names.
+        gone_on (notes_of b) (notes_of c) (notes_of e) (IsPlace c (length ids)) (IsLocal e new) (local_scope a.env (offset_of d) (naming_of d) (length (declared_in a ids).locals) t) (λ env. after_name d (declared_in a ids).locals t env) place (Ok first)
         (scope_moved (IsPlace c (length ids)) (Ok place) t names named) (λ env there.
-        gone_on c.found_large e.found_large e.found_large (IsFirst e) (IsLocal e new) (first_value env (offset_of d) (length (declared_in a ids).locals) t (rest_of d)) (λ first. after_value env (declared_in a ids).locals t first) first (Ok first)
+        gone_on (notes_of c) (notes_of e) (notes_of e) (IsFirst e) (IsLocal e new) (first_value env (offset_of d) (length (declared_in a ids).locals) t (rest_of d)) (λ first. after_value env (declared_in a ids).locals t first) first (Ok first)
         (first_moved (IsFirst e) (Ok first) t env names there h) (λ xs stand.
         let types : types_in e.table.types new ≡ (declared_in a ids).locals ++ t ∷ [] =
         ap (types_in e.table.types) put

@@ -23,3 +23,4 @@ pub mod Scoped
 pub mod OfMade
 pub mod OfMaybes
 pub mod OfFirsts
+pub mod WithParameters

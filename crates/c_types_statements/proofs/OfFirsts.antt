@@ -12,7 +12,7 @@ use Rattle.c_syntax.specs.Syntax.{Decls, Expr, First, NoFirst, LocalFirst, ExprF
 use Rattle.c_syntax.specs.Stands.{Stands, StandDecls, StandsFirst}
 use Rattle.c_types_table.specs.declared.ids.TypeId.{TypeId}
 use Rattle.c_types_table.specs.Tables.{IsBelow}
-use Rattle.c_types_rules.specs.Checked.{Checked, Fine, Large, Broken}
+use Rattle.c_types_rules.specs.Checked.{Checked, Fine, Noted, Broken}
 use Rattle.c_types_rules.specs.TypedTree as typed
 use Rattle.c_types_rules.specs.TypedTree.{MoreStatements, NoStatements, Statements}
 use Rattle.c_types_rules.specs.Statements.{Declared, Surroundings, first, locals_of, value_in}
@@ -22,7 +22,7 @@ use Rattle.c_types_program.specs.declared.statement.Statement.TheVariants.{Evalu
 use Rattle.c_types_operators.specs.declared.error.TypeError.{TypeError}
 use Rattle.c_types_operators.specs.declared.error.TypeError.TheVariants.{Rule, Memory}
 use Rattle.c_types_operators.specs.Answers.{IsAt}
-use Rattle.c_types_environment.specs.States.{State}
+use Rattle.c_types_environment.specs.States.{notes_of, State}
 use Rattle.c_types_expressions.specs.Found.{Finds, Stays}
 use Rattle.c_types_expressions.proofs.Sequences.{gone_on, stopped_in}
 use Rattle.c_types_statements.specs.Typed.{AddsDeclared, AreDeclaring, StatementsStand, declared_in}
@@ -33,13 +33,13 @@ use Rattle.c_types_statements.proofs.OfMade.{evaluate_stands}
 -- statements that were put after none
 added_first : (a b : State) (found : List TypeId) (old new : List Statement) (v : Vec Statement Global) (c : Checked (Declared × Statements)) → old ≡ [] → v.items ≡ new → Finds a b (AddsDeclared b found old new) c (Ok tt) → Finds a b (AreDeclaring b found) c (Ok v)
 added_first a b found old new v (Fine x) e f h = let P : List Statement → Type 0 = λ z. StatementsStand b.table x.1 z in ((h.0.0, subst P (sym (f ∙ (h.0.1.1 ∙ ap (λ z. z ++ h.0.1.0) e))) h.0.1.2), h.1)
-added_first a b found old new v (Large x) e f h = let P : List Statement → Type 0 = λ z. StatementsStand b.table x.1 z in ((h.0.0, subst P (sym (f ∙ (h.0.1.1 ∙ ap (λ z. z ++ h.0.1.0) e))) h.0.1.2), h.1)
+added_first a b found old new v (Noted n x) e f h = let P : List Statement → Type 0 = λ z. StatementsStand b.table x.1 z in ((h.0.0, subst P (sym (f ∙ (h.0.1.1 ∙ ap (λ z. z ++ h.0.1.0) e))) h.0.1.2), h.1)
 added_first a b found old new v (Broken from rule) e f h = absurd h
 
 adding_broken : (a b : State) (found : List TypeId) (old new : List Statement) (c : Checked (Declared × Statements)) (e : TypeError) → Finds a b (AddsDeclared b found old new) c (Err e) → Finds a b (AreDeclaring b found) c (Err e)
 adding_broken a b found old new c Memory h = tt
 adding_broken a b found old new (Fine x) (Rule f q) h = absurd h
-adding_broken a b found old new (Large x) (Rule f q) h = absurd h
+adding_broken a b found old new (Noted n x) (Rule f q) h = absurd h
 adding_broken a b found old new (Broken from rule) (Rule f q) h = h
 
 module _ (N : Nodes) (v : Begin) (a b : State) (locals found : List TypeId) (f : First) (p : Surroundings) (h : StandsFirst N v f) where
@@ -92,7 +92,7 @@ module _ (N : Nodes) (v : Begin) (a b : State) (locals found : List TypeId) (f :
         let q = value_first i f e h in
         let P : First → Type 0 = λ z. Finds a b (AreDeclaring b locals) (first z p (declared_in a locals)) (Ok w) in
         subst P (sym q.1)
-        (gone_on a.found_large b.found_large b.found_large (IsAt b.table) (AreDeclaring b locals) (value_in a.env q.0) (λ u. Fine (declared_in a locals, MoreStatements (typed.Evaluate u) NoStatements)) id (Ok w) (k q.0 q.2) (λ u at.
+        (gone_on (notes_of a) (notes_of b) (notes_of b) (IsAt b.table) (AreDeclaring b locals) (value_in a.env q.0) (λ u. Fine (declared_in a locals, MoreStatements (typed.Evaluate u) NoStatements)) id (Ok w) (k q.0 q.2) (λ u at.
         let Q : List Statement → Type 0 = λ z. StatementsStand b.table (MoreStatements (typed.Evaluate u) NoStatements) z in
         ((declared_kept a b locals one below, subst Q (sym put) (one_stands b.table (typed.Evaluate u) (Evaluate id) (evaluate_stands b.table id u at))), refl)))
 
@@ -101,4 +101,4 @@ module _ (N : Nodes) (v : Begin) (a b : State) (locals found : List TypeId) (f :
         let q = value_first i f e h in
         let P : First → Type 0 = λ z. Finds a b (AreDeclaring b locals) (first z p (declared_in a locals)) (Err wrong) in
         subst P (sym q.1)
-        (stopped_in a.found_large b.found_large b.found_large (IsAt b.table) (AreDeclaring b locals) (value_in a.env q.0) (λ u. Fine (declared_in a locals, MoreStatements (typed.Evaluate u) NoStatements)) wrong (k q.0 q.2))
+        (stopped_in (notes_of a) (notes_of b) (notes_of b) (IsAt b.table) (AreDeclaring b locals) (value_in a.env q.0) (λ u. Fine (declared_in a locals, MoreStatements (typed.Evaluate u) NoStatements)) wrong (k q.0 q.2))

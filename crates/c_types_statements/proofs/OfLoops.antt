@@ -16,7 +16,7 @@ use Rattle.c_types_nodes.specs.Tables.{Table}
 use Rattle.c_types_program.specs.declared.statement.Statement.{Statement}
 use Rattle.c_types_operators.specs.declared.error.TypeError.{TypeError}
 use Rattle.c_types_operators.specs.Answers.{IsAt}
-use Rattle.c_types_environment.specs.States.{State}
+use Rattle.c_types_environment.specs.States.{notes_of, State}
 use Rattle.c_types_expressions.specs.Found.{Finds, Stays, StaysAround}
 use Rattle.c_types_statements.specs.declared.place.Surroundings.{Surroundings}
 use Rattle.c_types_statements.specs.Pieces.{for_here}
@@ -29,7 +29,7 @@ use Rattle.c_types_statements.proofs.Kept.{at_kept, declared_kept, env_moved, lo
 
 pub while_test_broken : (a b : State) (p : Surroundings) (locals : List TypeId) (from : ℕ) (x : Expr) (s : Stmt) (e : TypeError) → Finds a b (IsAt b.table) (condition_in a.env x) (Err e) → Finds a b (IsTyped b locals) (statement (While from x s) (place_in a p) (declared_in a locals)) (Err e)
 while_test_broken a b p locals from x s e h =
-    stopped_in a.found_large b.found_large b.found_large (IsAt b.table) (IsTyped b locals) (condition_in a.env x) (λ v. statement s (looping (place_in a p)) (declared_in a locals) >>= (λ y. Fine (y.0, typed.While from v y.1))) e h
+    stopped_in (notes_of a) (notes_of b) (notes_of b) (IsAt b.table) (IsTyped b locals) (condition_in a.env x) (λ v. statement s (looping (place_in a p)) (declared_in a locals) >>= (λ y. Fine (y.0, typed.While from v y.1))) e h
 
 module _ (a b c : State) (p q : Surroundings) (locals found : List TypeId) (from : ℕ) (x : Expr) (s : Stmt) (low : IsBelow (length a.table.types) p.result) (below : All (IsBelow (length a.table.types)) locals)
     (inside : q ≡ record p { in_loop = true }) (test : NodeId) (tested : Finds a b (IsAt b.table) (condition_in a.env x) (Ok test)) (one : Stays a b) where
@@ -40,16 +40,16 @@ module _ (a b c : State) (p q : Surroundings) (locals found : List TypeId) (from
   pub while_broken : (e : TypeError) → Finds b c (IsTyped c found) (statement s (place_in b q) (declared_in b locals)) (Err e)
       → Finds a c (IsTyped c found) (statement (While from x s) (place_in a p) (declared_in a locals)) (Err e)
   while_broken e h =
-      gone_on a.found_large b.found_large c.found_large (IsAt b.table) (IsTyped c found) (condition_in a.env x) while_part test (Err e) tested (λ v at.
-      stopped_in b.found_large c.found_large c.found_large (IsTyped c found) (IsTyped c found) (statement s (looping (place_in a p)) (declared_in a locals)) (λ y. Fine (y.0, typed.While from v y.1)) e
+      gone_on (notes_of a) (notes_of b) (notes_of c) (IsAt b.table) (IsTyped c found) (condition_in a.env x) while_part test (Err e) tested (λ v at.
+      stopped_in (notes_of b) (notes_of c) (notes_of c) (IsTyped c found) (IsTyped c found) (statement s (looping (place_in a p)) (declared_in a locals)) (λ y. Fine (y.0, typed.While from v y.1)) e
       (statement_moved b c q locals (IsTyped c found) s (Err e) (looping (place_in a p)) (declared_in a locals) (looping_kept a b p q inside one.numbers low) (declared_kept a b locals one below) h))
 
   pub while_found : (body made : Statement) → Finds b c (IsTyped c found) (statement s (place_in b q) (declared_in b locals)) (Ok body) → Stays b c
       → ((t : Table) (y : Value) (z : typed.Statement) → IsAt t y test → StatementStands t z body → StatementStands t (typed.While from y z) made)
       → Finds a c (IsTyped c found) (statement (While from x s) (place_in a p) (declared_in a locals)) (Ok made)
   while_found body made h two makes =
-      gone_on a.found_large b.found_large c.found_large (IsAt b.table) (IsTyped c found) (condition_in a.env x) while_part test (Ok made) tested (λ v at.
-      gone_on b.found_large c.found_large c.found_large (IsTyped c found) (IsTyped c found) (statement s (looping (place_in a p)) (declared_in a locals)) (λ y. Fine (y.0, typed.While from v y.1)) body (Ok made)
+      gone_on (notes_of a) (notes_of b) (notes_of c) (IsAt b.table) (IsTyped c found) (condition_in a.env x) while_part test (Ok made) tested (λ v at.
+      gone_on (notes_of b) (notes_of c) (notes_of c) (IsTyped c found) (IsTyped c found) (statement s (looping (place_in a p)) (declared_in a locals)) (λ y. Fine (y.0, typed.While from v y.1)) body (Ok made)
       (statement_moved b c q locals (IsTyped c found) s (Ok body) (looping (place_in a p)) (declared_in a locals) (looping_kept a b p q inside one.numbers low) (declared_kept a b locals one below) h)
       (λ y is. ((is.0, makes c.table v y.1 (at_kept b.table c.table v test two.numbers at) is.1), refl)))
 
@@ -65,22 +65,22 @@ module _ (a b c : State) (p q : Surroundings) (locals found : List TypeId) (from
 
   pub body_broken : (e : TypeError) → Finds a b (IsTyped b found) (statement s (place_in a q) (declared_in a locals)) (Err e)
       → Finds a b (IsTyped b found) (statement (Do from s x) (place_in a p) (declared_in a locals)) (Err e)
-  body_broken e h = stopped_in a.found_large b.found_large b.found_large (IsTyped b found) (IsTyped b found) (statement s (looping (place_in a p)) (declared_in a locals)) do_part e (in_place (IsTyped b found) (Err e) h)
+  body_broken e h = stopped_in (notes_of a) (notes_of b) (notes_of b) (IsTyped b found) (IsTyped b found) (statement s (looping (place_in a p)) (declared_in a locals)) do_part e (in_place (IsTyped b found) (Err e) h)
 
   module _ (body : Statement) (done : Finds a b (IsTyped b found) (statement s (place_in a q) (declared_in a locals)) (Ok body)) (one : Stays a b) where
     pub do_broken : (e : TypeError) → Finds b c (IsAt c.table) (condition_in b.env x) (Err e)
         → Finds a c (IsTyped c found) (statement (Do from s x) (place_in a p) (declared_in a locals)) (Err e)
     do_broken e h =
-        gone_on a.found_large b.found_large c.found_large (IsTyped b found) (IsTyped c found) (statement s (looping (place_in a p)) (declared_in a locals)) do_part body (Err e) (in_place (IsTyped b found) (Ok body) done) (λ y is.
-        stopped_in b.found_large c.found_large c.found_large (IsAt c.table) (IsTyped c found) (condition_in a.env x) (λ v. Fine (y.0, typed.Do from y.1 v)) e
+        gone_on (notes_of a) (notes_of b) (notes_of c) (IsTyped b found) (IsTyped c found) (statement s (looping (place_in a p)) (declared_in a locals)) do_part body (Err e) (in_place (IsTyped b found) (Ok body) done) (λ y is.
+        stopped_in (notes_of b) (notes_of c) (notes_of c) (IsAt c.table) (IsTyped c found) (condition_in a.env x) (λ v. Fine (y.0, typed.Do from y.1 v)) e
         (env_moved b c a.env (IsAt c.table) (λ z. condition_in z x) (Err e) one.env h))
 
     pub do_found : (test : NodeId) (made : Statement) → Finds b c (IsAt c.table) (condition_in b.env x) (Ok test) → Stays b c → All (IsBelow (length b.table.types)) found
         → ((t : Table) (y : Value) (z : typed.Statement) → IsAt t y test → StatementStands t z body → StatementStands t (typed.Do from z y) made)
         → Finds a c (IsTyped c found) (statement (Do from s x) (place_in a p) (declared_in a locals)) (Ok made)
     do_found test made h two after makes =
-        gone_on a.found_large b.found_large c.found_large (IsTyped b found) (IsTyped c found) (statement s (looping (place_in a p)) (declared_in a locals)) do_part body (Ok made) (in_place (IsTyped b found) (Ok body) done) (λ y is.
-        gone_on b.found_large c.found_large c.found_large (IsAt c.table) (IsTyped c found) (condition_in a.env x) (λ v. Fine (y.0, typed.Do from y.1 v)) test (Ok made)
+        gone_on (notes_of a) (notes_of b) (notes_of c) (IsTyped b found) (IsTyped c found) (statement s (looping (place_in a p)) (declared_in a locals)) do_part body (Ok made) (in_place (IsTyped b found) (Ok body) done) (λ y is.
+        gone_on (notes_of b) (notes_of c) (notes_of c) (IsAt c.table) (IsTyped c found) (condition_in a.env x) (λ v. Fine (y.0, typed.Do from y.1 v)) test (Ok made)
         (env_moved b c a.env (IsAt c.table) (λ z. condition_in z x) (Ok test) one.env h)
         (λ v at. ((types_kept b.table c.table found two.numbers after ∙ is.0, makes c.table v y.1 at (statement_stands_kept b.table c.table y.1 body two.numbers is.1)), refl)))
 
@@ -99,24 +99,24 @@ module _ (a b c d e : State) (p q : Surroundings) (locals found all : List TypeI
 
   pub for_first_broken : (wrong : TypeError) → Finds a b (AreDeclaring b found) (first f (place_in a p) (declared_in a locals)) (Err wrong)
       → Finds a b (IsTyped b found) (for_here from f x y s (place_in a p) (declared_in a locals)) (Err wrong)
-  for_first_broken wrong h = stopped_in a.found_large b.found_large b.found_large (AreDeclaring b found) (IsTyped b found) (first f (place_in a p) (declared_in a locals)) after_first wrong h
+  for_first_broken wrong h = stopped_in (notes_of a) (notes_of b) (notes_of b) (AreDeclaring b found) (IsTyped b found) (first f (place_in a p) (declared_in a locals)) after_first wrong h
 
   module _ (firsts : Vec Statement Global) (began : Finds a b (AreDeclaring b found) (first f (place_in a p) (declared_in a locals)) (Ok firsts)) (one : StaysAround a b) where
     pub for_test_broken : (wrong : TypeError) → Finds b c (MaybeStands c.table) (maybe_condition b.env x) (Err wrong)
         → Finds a c (IsTyped c found) (for_here from f x y s (place_in a p) (declared_in a locals)) (Err wrong)
     for_test_broken wrong h =
-        gone_on a.found_large b.found_large c.found_large (AreDeclaring b found) (IsTyped c found) (first f (place_in a p) (declared_in a locals)) after_first firsts (Err wrong) began (λ w is.
-        stopped_in b.found_large c.found_large c.found_large (MaybeStands c.table) (IsTyped c found) (maybe_condition w.0.env x) (λ v. after_test w v) wrong
+        gone_on (notes_of a) (notes_of b) (notes_of c) (AreDeclaring b found) (IsTyped c found) (first f (place_in a p) (declared_in a locals)) after_first firsts (Err wrong) began (λ w is.
+        stopped_in (notes_of b) (notes_of c) (notes_of c) (MaybeStands c.table) (IsTyped c found) (maybe_condition w.0.env x) (λ v. after_test w v) wrong
         (env_moved b c w.0.env (MaybeStands c.table) (λ z. maybe_condition z x) (Err wrong) (ap (λ z. z.env) is.0) h))
 
     module _ (test : Option NodeId) (tested : Finds b c (MaybeStands c.table) (maybe_condition b.env x) (Ok test)) (two : Stays b c) where
       pub for_last_broken : (wrong : TypeError) → Finds c d (MaybeStands d.table) (maybe_in c.env y) (Err wrong)
           → Finds a d (IsTyped d found) (for_here from f x y s (place_in a p) (declared_in a locals)) (Err wrong)
       for_last_broken wrong h =
-          gone_on a.found_large b.found_large d.found_large (AreDeclaring b found) (IsTyped d found) (first f (place_in a p) (declared_in a locals)) after_first firsts (Err wrong) began (λ w is.
-          gone_on b.found_large c.found_large d.found_large (MaybeStands c.table) (IsTyped d found) (maybe_condition w.0.env x) (λ v. after_test w v) test (Err wrong)
+          gone_on (notes_of a) (notes_of b) (notes_of d) (AreDeclaring b found) (IsTyped d found) (first f (place_in a p) (declared_in a locals)) after_first firsts (Err wrong) began (λ w is.
+          gone_on (notes_of b) (notes_of c) (notes_of d) (MaybeStands c.table) (IsTyped d found) (maybe_condition w.0.env x) (λ v. after_test w v) test (Err wrong)
           (env_moved b c w.0.env (MaybeStands c.table) (λ z. maybe_condition z x) (Ok test) (ap (λ z. z.env) is.0) tested)
-          (λ v stands. stopped_in c.found_large d.found_large d.found_large (MaybeStands d.table) (IsTyped d found) (maybe_in w.0.env y) (λ u. after_last w v u) wrong
+          (λ v stands. stopped_in (notes_of c) (notes_of d) (notes_of d) (MaybeStands d.table) (IsTyped d found) (maybe_in w.0.env y) (λ u. after_last w v u) wrong
           (env_moved c d w.0.env (MaybeStands d.table) (λ z. maybe_in z y) (Err wrong) (two.env ∙ ap (λ z. z.env) is.0) h)))
 
       module _ (last : Option NodeId) (ended : Finds c d (MaybeStands d.table) (maybe_in c.env y) (Ok last)) (three : Stays c d) (after : All (IsBelow (length b.table.types)) found) where
@@ -131,12 +131,12 @@ module _ (a b c d e : State) (p q : Surroundings) (locals found all : List TypeI
         pub for_body_broken : (wrong : TypeError) → Finds d e (IsTyped e all) (statement s (place_in d q) (declared_in d found)) (Err wrong)
             → Finds a e (IsTyped e all) (for_here from f x y s (place_in a p) (declared_in a locals)) (Err wrong)
         for_body_broken wrong h =
-            gone_on a.found_large b.found_large e.found_large (AreDeclaring b found) (IsTyped e all) (first f (place_in a p) (declared_in a locals)) after_first firsts (Err wrong) began (λ w is.
-            gone_on b.found_large c.found_large e.found_large (MaybeStands c.table) (IsTyped e all) (maybe_condition w.0.env x) (λ v. after_test w v) test (Err wrong)
+            gone_on (notes_of a) (notes_of b) (notes_of e) (AreDeclaring b found) (IsTyped e all) (first f (place_in a p) (declared_in a locals)) after_first firsts (Err wrong) began (λ w is.
+            gone_on (notes_of b) (notes_of c) (notes_of e) (MaybeStands c.table) (IsTyped e all) (maybe_condition w.0.env x) (λ v. after_test w v) test (Err wrong)
             (env_moved b c w.0.env (MaybeStands c.table) (λ z. maybe_condition z x) (Ok test) (ap (λ z. z.env) is.0) tested)
-            (λ v stands. gone_on c.found_large d.found_large e.found_large (MaybeStands d.table) (IsTyped e all) (maybe_in w.0.env y) (λ u. after_last w v u) last (Err wrong)
+            (λ v stands. gone_on (notes_of c) (notes_of d) (notes_of e) (MaybeStands d.table) (IsTyped e all) (maybe_in w.0.env y) (λ u. after_last w v u) last (Err wrong)
             (env_moved c d w.0.env (MaybeStands d.table) (λ z. maybe_in z y) (Ok last) (two.env ∙ ap (λ z. z.env) is.0) ended)
-            (λ u stood. stopped_in d.found_large e.found_large e.found_large (IsTyped e all) (IsTyped e all) (statement s (looping (place_in a p)) w.0) (λ z. Fine (z.0, typed.For from w.1 v u z.1)) wrong
+            (λ u stood. stopped_in (notes_of d) (notes_of e) (notes_of e) (IsTyped e all) (IsTyped e all) (statement s (looping (place_in a p)) w.0) (λ z. Fine (z.0, typed.For from w.1 v u z.1)) wrong
             (body_moved w is.0 (IsTyped e all) (Err wrong) h))))
 
         pub for_found : (body made : Statement) → Finds d e (IsTyped e all) (statement s (place_in d q) (declared_in d found)) (Ok body) → Stays d e
@@ -145,11 +145,11 @@ module _ (a b c d e : State) (p q : Surroundings) (locals found all : List TypeI
         for_found body made h four makes =
             let second = then_kept c.table d.table e.table three.numbers four.numbers in
             let whole = then_kept b.table c.table e.table two.numbers second in
-            gone_on a.found_large b.found_large e.found_large (AreDeclaring b found) (IsTyped e all) (first f (place_in a p) (declared_in a locals)) after_first firsts (Ok made) began (λ w is.
-            gone_on b.found_large c.found_large e.found_large (MaybeStands c.table) (IsTyped e all) (maybe_condition w.0.env x) (λ v. after_test w v) test (Ok made)
+            gone_on (notes_of a) (notes_of b) (notes_of e) (AreDeclaring b found) (IsTyped e all) (first f (place_in a p) (declared_in a locals)) after_first firsts (Ok made) began (λ w is.
+            gone_on (notes_of b) (notes_of c) (notes_of e) (MaybeStands c.table) (IsTyped e all) (maybe_condition w.0.env x) (λ v. after_test w v) test (Ok made)
             (env_moved b c w.0.env (MaybeStands c.table) (λ z. maybe_condition z x) (Ok test) (ap (λ z. z.env) is.0) tested)
-            (λ v stands. gone_on c.found_large d.found_large e.found_large (MaybeStands d.table) (IsTyped e all) (maybe_in w.0.env y) (λ u. after_last w v u) last (Ok made)
+            (λ v stands. gone_on (notes_of c) (notes_of d) (notes_of e) (MaybeStands d.table) (IsTyped e all) (maybe_in w.0.env y) (λ u. after_last w v u) last (Ok made)
             (env_moved c d w.0.env (MaybeStands d.table) (λ z. maybe_in z y) (Ok last) (two.env ∙ ap (λ z. z.env) is.0) ended)
-            (λ u stood. gone_on d.found_large e.found_large e.found_large (IsTyped e all) (IsTyped e all) (statement s (looping (place_in a p)) w.0) (λ z. Fine (z.0, typed.For from w.1 v u z.1)) body (Ok made)
+            (λ u stood. gone_on (notes_of d) (notes_of e) (notes_of e) (IsTyped e all) (IsTyped e all) (statement s (looping (place_in a p)) w.0) (λ z. Fine (z.0, typed.For from w.1 v u z.1)) body (Ok made)
             (body_moved w is.0 (IsTyped e all) (Ok body) h)
             (λ z typed_so. ((typed_so.0, makes e.table w.1 v u z.1 (statements_stand_kept b.table e.table w.1 firsts.items whole is.1) (maybe_kept c.table e.table v test second stands) (maybe_kept d.table e.table u last four.numbers stood) typed_so.1), refl)))))

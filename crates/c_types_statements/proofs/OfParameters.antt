@@ -15,7 +15,7 @@ use Rattle.c_types_rules.specs.Sources.{parameter, parameters}
 use Rattle.c_types_nodes.specs.Tables.{Keeps}
 use Rattle.c_types_program.proofs.Kept.{type_kept}
 use Rattle.c_types_operators.specs.declared.error.TypeError.{TypeError}
-use Rattle.c_types_environment.specs.States.{State}
+use Rattle.c_types_environment.specs.States.{notes_of, State}
 use Rattle.c_types_expressions.specs.Found.{Finds}
 use Rattle.c_types_statements.proofs.Lists.{NextDecl, next_decl, no_decl}
 use Rattle.c_types_statements.proofs.Passed.{Passed, none_passed, pass_on, pass_all, pass_off}
@@ -33,7 +33,7 @@ IsEnv s e _ = s.env ≡ e
 pub record ParametersRead (N : Nodes) (ids : List DeclId) (types : List TypeId) (k : ℕ) (ds : Decls) (old now : State) : Type 0 where
   pub rest : Decls
   pub stand : StandDecls N (drop k ids) rest
-  pub passed : Passed old.found_large now.found_large (parameters ds old.env 0 (all_at (types_of old.table.types) types)) (parameters rest now.env k (all_at (types_of old.table.types) (drop k types)))
+  pub passed : Passed (notes_of old) (notes_of now) (parameters ds old.env 0 (all_at (types_of old.table.types) types)) (parameters rest now.env k (all_at (types_of old.table.types) (drop k types)))
 
 no_types : (rest : Decls) (env : Environment) (k : ℕ) → parameters rest env k NoTypes ≡ Fine env
 no_types NoDecls env k = refl
@@ -45,13 +45,13 @@ left old rest env k some = parameters rest env k (all_at (types_of old.table.typ
 
 module _ (N : Nodes) (ids : List DeclId) (types : List TypeId) (ds : Decls) (old : State) where
   pub no_parameter_read : StandDecls N ids ds → ParametersRead N ids types 0 ds old old
-  no_parameter_read h = record { rest = ds; stand = h; passed = none_passed old.found_large (parameters ds old.env 0 (all_at (types_of old.table.types) types)) }
+  no_parameter_read h = record { rest = ds; stand = h; passed = none_passed (notes_of old) (parameters ds old.env 0 (all_at (types_of old.table.types) types)) }
 
   module _ (k : ℕ) (now : State) (read : ParametersRead N ids types k ds old now) where
     passed_next : (id : DeclId) (ty : TypeId) (n : NextDecl N ids k id read.rest) → k < length types → IsBelow (length old.table.types) (get_or types k ty) → Keeps old.table now.table
-        → Passed old.found_large now.found_large (parameters ds old.env 0 (all_at (types_of old.table.types) types)) (parameter n.decl now.env k (type_at now.table.types (get_or types k ty)) >>= (λ within. left old n.more within (k + 1) (drop (k + 1) types)))
+        → Passed (notes_of old) (notes_of now) (parameters ds old.env 0 (all_at (types_of old.table.types) types)) (parameter n.decl now.env k (type_at now.table.types (get_or types k ty)) >>= (λ within. left old n.more within (k + 1) (drop (k + 1) types)))
     passed_next id ty n l below keeps =
-        let P : Checked Environment → Type 0 = λ z. Passed old.found_large now.found_large (parameters ds old.env 0 (all_at (types_of old.table.types) types)) z in
+        let P : Checked Environment → Type 0 = λ z. Passed (notes_of old) (notes_of now) (parameters ds old.env 0 (all_at (types_of old.table.types) types)) z in
         let here : parameters read.rest now.env k (all_at (types_of old.table.types) (drop k types)) ≡ (parameter n.decl now.env k (type_at now.table.types (get_or types k ty)) >>= (λ within. left old n.more within (k + 1) (drop (k + 1) types))) =
         ap (λ z. parameters z now.env k (all_at (types_of old.table.types) (drop k types))) n.is
         ∙ (ap (λ z. parameters (MoreDecls n.decl n.more) now.env k (all_at (types_of old.table.types) z)) (drop_more types k ty l)
@@ -63,8 +63,8 @@ module _ (N : Nodes) (ids : List DeclId) (types : List TypeId) (ds : Decls) (old
         → ParametersRead N ids types (k + 1) ds old next
     parameter_read id ty next l m below keeps agrees =
         let n = next_decl N ids k id read.rest l read.stand in
-        let r = pass_on old.found_large now.found_large next.found_large _ (IsEnv next) (parameter n.decl now.env k (type_at now.table.types (get_or types k ty))) (λ within. left old n.more within (k + 1) (drop (k + 1) types)) tt (passed_next id ty n m below keeps) (agrees n.decl n.stands) in
-        let P : Environment → Type 0 = λ z. Passed old.found_large next.found_large (parameters ds old.env 0 (all_at (types_of old.table.types) types)) (parameters n.more z (k + 1) (all_at (types_of old.table.types) (drop (k + 1) types))) in
+        let r = pass_on (notes_of old) (notes_of now) (notes_of next) _ (IsEnv next) (parameter n.decl now.env k (type_at now.table.types (get_or types k ty))) (λ within. left old n.more within (k + 1) (drop (k + 1) types)) tt (passed_next id ty n m below keeps) (agrees n.decl n.stands) in
+        let P : Environment → Type 0 = λ z. Passed (notes_of old) (notes_of next) (parameters ds old.env 0 (all_at (types_of old.table.types) types)) (parameters n.more z (k + 1) (all_at (types_of old.table.types) (drop (k + 1) types))) in
         record { rest = n.more; stand = n.stand; passed = subst P (sym r.1) r.2 }
 
     pub parameter_broken : (id : DeclId) (ty : TypeId) (next last : State) (e : TypeError) → k < length ids → k < length types → IsBelow (length old.table.types) (get_or types k ty) → Keeps old.table now.table
@@ -72,17 +72,17 @@ module _ (N : Nodes) (ids : List DeclId) (types : List TypeId) (ds : Decls) (old
         → Finds old last (IsEnv last) (parameters ds old.env 0 (all_at (types_of old.table.types) types)) (Err e)
     parameter_broken id ty next last e l m below keeps agrees =
         let n = next_decl N ids k id read.rest l read.stand in
-        pass_off old.found_large now.found_large next.found_large last.found_large _ (IsEnv next) (IsEnv last) (parameter n.decl now.env k (type_at now.table.types (get_or types k ty))) (λ within. left old n.more within (k + 1) (drop (k + 1) types)) e (passed_next id ty n m below keeps) (agrees n.decl n.stands)
+        pass_off (notes_of old) (notes_of now) (notes_of next) (notes_of last) _ (IsEnv next) (IsEnv last) (parameter n.decl now.env k (type_at now.table.types (get_or types k ty))) (λ within. left old n.more within (k + 1) (drop (k + 1) types)) e (passed_next id ty n m below keeps) (agrees n.decl n.stands)
 
     -- there are no more parameters, or no more types
     pub no_more_parameters : length ids ≤ k → Finds old now (IsEnv now) (parameters ds old.env 0 (all_at (types_of old.table.types) types)) (Ok tt)
     no_more_parameters l =
-        let P : Decls → Type 0 = λ z. Passed old.found_large now.found_large (parameters ds old.env 0 (all_at (types_of old.table.types) types)) (parameters z now.env k (all_at (types_of old.table.types) (drop k types))) in
-        pass_all old.found_large now.found_large _ (IsEnv now) now.env tt (subst P (no_decl N ids k read.rest l read.stand) read.passed) refl
+        let P : Decls → Type 0 = λ z. Passed (notes_of old) (notes_of now) (parameters ds old.env 0 (all_at (types_of old.table.types) types)) (parameters z now.env k (all_at (types_of old.table.types) (drop k types))) in
+        pass_all (notes_of old) (notes_of now) _ (IsEnv now) now.env tt (subst P (no_decl N ids k read.rest l read.stand) read.passed) refl
 
     pub no_more_types : length types ≤ k → Finds old now (IsEnv now) (parameters ds old.env 0 (all_at (types_of old.table.types) types)) (Ok tt)
     no_more_types l =
-        let P : Checked Environment → Type 0 = λ z. Passed old.found_large now.found_large (parameters ds old.env 0 (all_at (types_of old.table.types) types)) z in
+        let P : Checked Environment → Type 0 = λ z. Passed (notes_of old) (notes_of now) (parameters ds old.env 0 (all_at (types_of old.table.types) types)) z in
         let here : parameters read.rest now.env k (all_at (types_of old.table.types) (drop k types)) ≡ Fine now.env =
         ap (λ z. parameters read.rest now.env k (all_at (types_of old.table.types) z)) (drop_of_length-le types l) ∙ no_types read.rest now.env k in
-        pass_all old.found_large now.found_large _ (IsEnv now) now.env tt (subst P here read.passed) refl
+        pass_all (notes_of old) (notes_of now) _ (IsEnv now) now.env tt (subst P here read.passed) refl

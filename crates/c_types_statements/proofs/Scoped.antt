@@ -7,7 +7,7 @@ use Rattle.c_syntax.specs.Syntax.{MaybeExpr, First, Parts, Stmt, Entries, Block,
 use Rattle.c_types_model.specs.Types.{CType}
 use Rattle.c_types_table.specs.declared.ids.TypeId.{TypeId}
 use Rattle.c_types_table.specs.Tables.{IsBelow}
-use Rattle.c_types_rules.specs.Sources.{body_of, nearest}
+use Rattle.c_types_rules.specs.Sources.{block_body, nearest}
 use Rattle.c_types_rules.specs.Statements.{entries, statement}
 use Rattle.c_types_rules.specs.TypedTree as typed
 use Rattle.c_types_rules.specs.TypedTree.{Statements}
@@ -72,10 +72,10 @@ module _ (a o b c : State) (e : o ≡ opened a) (f : c ≡ closed b) where
       subst Q (sym f) (for_found a b p locals found from g x y s r (subst P e h))
 
   -- what a function does
-  pub scoped_body : (t : CType) (ps : Parts) (s : Stmt) (r : Result Body TypeError) → Finds o b (BodyStands b.table) (body_here o.env t (nearest ps) s) r → Finds a c (BodyStands c.table) (body_of a.env t ps s) r
+  pub scoped_body : (t : CType) (ps : Parts) (s : Stmt) (r : Result Body TypeError) → Finds o b (BodyStands b.table) (body_here o.env t (nearest ps) s) r → Finds a c (BodyStands c.table) (block_body a.env t ps s) r
   scoped_body t ps s r h =
       let P : State → Type 0 = λ z. Finds z b (BodyStands b.table) (body_here z.env t (nearest ps) s) r in
-      let Q : State → Type 0 = λ z. Finds a z (BodyStands z.table) (body_of a.env t ps s) r in
+      let Q : State → Type 0 = λ z. Finds a z (BodyStands z.table) (block_body a.env t ps s) r in
       subst Q (sym f) (subst P e h)
 
 -- a scope that was opened can be closed

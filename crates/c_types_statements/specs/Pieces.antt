@@ -2,7 +2,7 @@
 use Rattle.std.specs.Prelude.{ℕ, Bool, false, List, Option}
 use Rattle.c_syntax.specs.Syntax.{Expr, MaybeExpr, Decl, Decls, First, Stmt, Declare}
 use Rattle.c_types_model.specs.Types.{CType}
-use Rattle.c_types_rules.specs.Checked.{Checked, Fine, keep, ◌>>=◌, ◌>>◌}
+use Rattle.c_types_rules.specs.Checked.{heard, Checked, Fine, keep, ◌>>=◌, ◌>>◌}
 use Rattle.c_types_rules.specs.Operators.{assigned}
 use Rattle.c_types_rules.specs.TypedTree.{Value, Statement}
 use Rattle.c_types_rules.specs.TypedTree as typed
@@ -55,6 +55,6 @@ for_here from f x y s p d = do
 abbrev pub body_here : Environment → CType → Decls → Stmt → Checked typed.Body
 body_here env t ds s = do
   within ← parameters ds env 0 (params_of t)
-  a ← block_of s (record { result = result_of t; in_loop = false })
-      (record { env = within; locals = listed (params_of t) })
-  Fine (record { from = start_of_stmt s; locals = a.0; statements = a.1 })
+  a ← heard (block_of s (record { result = result_of t; in_loop = false })
+      (record { env = within; locals = listed (params_of t) }))
+  Fine (record { from = start_of_stmt s; locals = a.0.0; statements = a.0.1; unevaluated = a.1 })

@@ -1,13 +1,17 @@
 //! What functions do (C11 6.9.1).
 
-ghost use Rattle.std.specs.Prelude.{◌≡◌, ◌<◌, length};
+ghost use Rattle.std.specs.Prelude.{◌≡◌, ◌<◌, ◌++◌, length, IfOk};
 ghost use Rattle.std.specs.List.{All};
 ghost use Rattle.c_syntax.specs.Stands.{StandDecls, StandParts, StandsStmt};
 ghost use Rattle.c_syntax.specs.Syntax.{Decls, Parts, Stmt};
 ghost use Rattle.c_types_model.specs.Types.{CType};
 ghost use Rattle.c_types_table.specs.Tables.{IsBelow, type_at};
-ghost use Rattle.c_types_rules.specs.Sources.{block_of, body_of};
-ghost use Rattle.c_types_expressions.specs.Found.{Finds, Stays, StaysAround};
+ghost use Rattle.c_types_rules.specs.Checked.{heard};
+ghost use Rattle.c_types_rules.specs.Environment.{inner};
+ghost use Rattle.c_types_rules.specs.Expressions.{parameter_types as parameters_by_rules};
+ghost use Rattle.c_types_rules.specs.Sources.{block_body as block_body_by_rules, block_of, body_of};
+ghost use Rattle.c_types_nodes.specs.Lists.{AreNodes, nodes_at};
+ghost use Rattle.c_types_expressions.specs.Found.{Finds, IsPart, Stays, StaysAround};
 ghost use Rattle.c_types_expressions.specs.Walks.{AreDecls, AreParts};
 ghost use Rattle.c_types_statements.specs.Pieces.{body_here as body_here_by_rules};
 ghost use Rattle.c_types_statements.specs.Typed.{BodyStands, IsSignature, IsTyped, declared_in, place_in};
@@ -20,9 +24,12 @@ use crate::signature::{Signature, nearest_params, signature_of};
 use crate::statements::{entries, statement};
 use c_syntax::{DeclId, Part, StmtId, StmtKind, Tree};
 use c_types_environment::Environment;
+use c_types_expressions::parameter_types;
+use c_types_nodes::NodeIds;
 use c_types_operators::TypeError;
 use c_types_program::{Body, Statement};
 use c_types_table::{TypeId, TypeIds};
+use std::alloc::AllocError;
 
 // The outermost block of a function, whose scope is the innermost one.
 fn outermost(
@@ -50,6 +57,29 @@ fn outermost(
     }
 }
 
+// The same, with what stands in it unevaluated.
+fn heard_block(
+    env: &mut Environment,
+    locals: &mut Vec<TypeId>,
+    tree: &Tree,
+    id: StmtId,
+    place: Surroundings,
+) -> Result<(Statement, NodeIds), TypeError>
+    requires id { IsStmt tree.now id }
+    requires place { IsBelow (length env.old.table.types) place.result }
+    requires locals { All (IsBelow (length env.old.table.types)) locals.old.items }
+    ensures agrees { (s : Stmt) → StandsStmt tree.now id s →
+        Finds env.old env.new (IsPart env.new (IsTyped env.new locals.new.items))
+        (heard (block_of s (place_in env.old place) (declared_in env.old locals.old.items))) result }
+    ensures kept { StaysAround env.old env.new }
+    ensures locals { All (IsBelow (length env.new.table.types)) locals.new.items }
+    ensures inside { IfOk result (λ y. AreNodes env.new.table y.1) }
+{
+    let before = env.set_aside();
+    let statement = outermost(env, locals, tree, id, place)?;
+    Ok((statement, env.part_unevaluated(before)))
+}
+
 // What a function of this signature does, whose parameters belong into the innermost scope.
 fn body_here(
     env: &mut Environment,
@@ -73,16 +103,79 @@ fn body_here(
         result: signature.result,
         in_loop: false,
     };
-    let statements = outermost(env, &mut locals, tree, id, place)?;
+    let (statements, unevaluated) = heard_block(env, &mut locals, tree, id, place)?;
     Ok(Body {
         from: tree.stmt(id).from,
         locals: TypeIds::from(locals),
         statements,
+        unevaluated,
+    })
+}
+
+// What a function of this type does in its block.
+fn block_body(
+    env: &mut Environment,
+    tree: &Tree,
+    ty: TypeId,
+    parts: &[Part],
+    id: StmtId,
+) -> Result<Body, TypeError>
+    requires ty { ty.0 < length env.old.table.types }
+    requires parts { AreParts tree.now parts.now }
+    requires id { IsStmt tree.now id }
+    ensures agrees { (ps : Parts) (s : Stmt) → StandParts tree.now parts.now ps →
+        StandsStmt tree.now id s → Finds env.old env.new (BodyStands env.new.table)
+        (block_body_by_rules env.old.env (type_at env.old.table.types ty) ps s) result }
+    ensures kept { Stays env.old env.new }
+{
+    let signature = signature_of(env, ty)?;
+    env.open_scope()?;
+    let body = body_here(env, tree, nearest_params(parts), signature, id);
+    env.close_scope();
+    body
+}
+
+// What stands unevaluated in parameters.
+fn heard_parameters(
+    env: &mut Environment,
+    tree: &Tree,
+    ids: &[DeclId],
+) -> Result<NodeIds, TypeError>
+    requires { AreDecls tree.now ids.now }
+    ensures agrees { (ds : Decls) → StandDecls tree.now ids.now ds →
+        Finds env.old env.new (λ x y. nodes_at env.new.table y ≡ x.1)
+        (heard (parameters_by_rules ds (inner env.old.env) 0)) result }
+    ensures kept { Stays env.old env.new }
+    ensures inside { IfOk result (AreNodes env.new.table) }
+{
+    let before = env.set_aside();
+    parameter_types(env, tree, ids)?;
+    Ok(env.part_unevaluated(before))
+}
+
+// The body with these nodes before those that stand in it unevaluated.
+fn with_nodes(env: &Environment, first: &NodeIds, body: Body) -> Result<Body, AllocError>
+    ensures { IfOk result (λ b. b ≡ record body { unevaluated = first.now ++ body.unevaluated }) }
+{
+    let Body {
+        from,
+        locals,
+        statements,
+        unevaluated,
+    } = body;
+    let mut all = Vec::new(env.alloc());
+    all.extend_from_slice(first.as_slice())?;
+    all.extend_from_slice(unevaluated.as_slice())?;
+    Ok(Body {
+        from,
+        locals,
+        statements,
+        unevaluated: NodeIds::from(all),
     })
 }
 
 /// What a function of this type does, by the parts of its declarator and its block. Its parameters are in the scope of that block
-/// (C11 6.2.1, 4).
+/// (C11 6.2.1, 4); they are typed once more for what stands in them unevaluated.
 ///
 /// `Rule` names the first rule that is broken in it, with the offset of the node that breaks it. Notes where an object is too large.
 pub fn body(
@@ -103,9 +196,7 @@ pub fn body(
     // What is declared, and what numbers stand for, is as before, also after an error.
     ensures kept { Stays env.old env.new }
 {
-    let signature = signature_of(env, ty)?;
-    env.open_scope()?;
-    let body = body_here(env, tree, nearest_params(parts), signature, id);
-    env.close_scope();
-    body
+    let first = heard_parameters(env, tree, nearest_params(parts))?;
+    let body = block_body(env, tree, ty, parts, id)?;
+    Ok(with_nodes(env, &first, body)?)
 }

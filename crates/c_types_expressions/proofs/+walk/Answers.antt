@@ -1,4 +1,5 @@
 use Rattle.std.proofs.Common.{◌≡◌, ◌+◌, ◌∷◌, [], map, Ok, Err, drop, length, FitsSigned, refl, sym, ap, ◌∙◌, arith, rules, subst}
+use Rattle.c_types_environment.specs.States.{notes_of}
 use Rattle.std.specs.Int.{w8}
 use Rattle.std.proofs.lemmas.Int.{to_z-of_z}
 use Rattle.std.proofs.lemmas.List.{drop_all}
@@ -30,7 +31,7 @@ use Rattle.c_types_expressions.proofs.Operands.{agrees_as}
 use Rattle.c_types_expressions.proofs.Constructs.{binary_parts, assign_parts, index_parts, cond_parts, prefix_parts, postfix_parts, sizeof_expr_parts, sizeof_type_parts, member_parts, arrow_parts, cast_parts, call_parts, name_is, number_is, char_is, text_is, expr_inside, decl_inside, decl_parts}
 use Rattle.c_types_expressions.proofs.Fits.{annots_fit, arguments_fit, callee_fits, cast_operand_fits, condition_fits, first_arm_fits, left_fits, operand_fits, parts_fit, right_fits, second_arm_fits, target_fits, type_fits}
 use Rattle.c_types_expressions.proofs.Arms.{both_found, left_stops, right_stops, type_goes_on}
-use Rattle.c_types_expressions.proofs.Wholes.{arms_fail, call_done, cast_done, last_arm_fails, failed, left_found, node_found, one_done, one_fails, right_found, same_answer, target_fails, three_done, two_done, two_fail, type_done, type_fails, type_found}
+use Rattle.c_types_expressions.proofs.Wholes.{arms_fail, call_done, cast_done, last_arm_fails, failed, left_found, node_found, one_done, one_noted, one_fails, right_found, same_answer, target_fails, three_done, two_done, two_fail, type_done, type_fails, type_found}
 use Rattle.c_types_expressions.proofs.Wholes as wholes
 use Rattle.c_types_expressions.proofs.Lower.{below_expr, below_annots, below_parts}
 use Rattle.c_types_expressions.proofs.CallSteps.{argument_made, argument_stops, arguments_fail, builtin_target, call_holds, call_made, callee_stops, callee_target, function_inside, target_stops, too_many}
@@ -52,7 +53,7 @@ pub expressions::expression-returns-in-Name-clause-agrees : goal.expressions::ex
 expressions::expression-returns-in-Name-clause-agrees t c =
     λ x h.
     let e = name_is c.args.tree.now c.args.id c.expr-node.result.now c.in-Name.name c.expr-node.ensures.node c.in-Name.is x h in
-    same_answer x _ c.args.env.now c.named.new.self _ c.named.result e (ap (named c.args.env.now.env c.expr-node.result.now.from) (sym c.as_slice.ensures.bytes)) c.named.ensures.agrees c.named.ensures.kept.large
+    same_answer x _ c.args.env.now c.named.new.self _ c.named.result e (ap (named c.args.env.now.env c.expr-node.result.now.from) (sym c.as_slice.ensures.bytes)) c.named.ensures.agrees c.named.ensures.kept.notes
 
 pub expressions::expression-returns-in-Name-clause-kept : goal.expressions::expression-returns-in-Name-clause-kept
 expressions::expression-returns-in-Name-clause-kept t c =
@@ -67,7 +68,7 @@ pub expressions::expression-returns-in-Number-clause-agrees : goal.expressions::
 expressions::expression-returns-in-Number-clause-agrees t c =
     λ x h.
     let e = number_is c.args.tree.now c.args.id c.expr-node.result.now c.in-Number.value c.in-Number.suffix c.in-Number.decimal c.expr-node.ensures.node c.in-Number.is x h in
-    same_answer x _ c.args.env.now c.number.new.env _ c.number.result e refl c.number.ensures.agrees c.number.ensures.kept.large
+    same_answer x _ c.args.env.now c.number.new.env _ c.number.result e refl c.number.ensures.agrees c.number.ensures.kept.notes
 
 pub expressions::expression-returns-in-Number-clause-kept : goal.expressions::expression-returns-in-Number-clause-kept
 expressions::expression-returns-in-Number-clause-kept t c =
@@ -78,7 +79,7 @@ expressions::expression-returns-in-Char-clause-agrees t c =
     let fits : FitsSigned w8 c.in-Char.value = search rules in
     λ x h.
     let e = char_is c.args.tree.now c.args.id c.expr-node.result.now c.in-Char.value c.expr-node.ensures.node c.in-Char.is x h in
-    same_answer x _ c.args.env.now c.character.new.env _ c.character.result e (ap (λ n. Fine (AValue (Constant I32 n))) (sym (to_z-of_z w8 c.in-Char.value fits))) c.character.ensures.agrees c.character.ensures.kept.large
+    same_answer x _ c.args.env.now c.character.new.env _ c.character.result e (ap (λ n. Fine (AValue (Constant I32 n))) (sym (to_z-of_z w8 c.in-Char.value fits))) c.character.ensures.agrees c.character.ensures.kept.notes
 
 pub expressions::expression-returns-in-Char-clause-kept : goal.expressions::expression-returns-in-Char-clause-kept
 expressions::expression-returns-in-Char-clause-kept t c =
@@ -88,7 +89,7 @@ pub expressions::expression-returns-in-Text-clause-agrees : goal.expressions::ex
 expressions::expression-returns-in-Text-clause-agrees t c =
     λ x h.
     let e = text_is c.args.tree.now c.args.id c.expr-node.result.now c.in-Text.text c.expr-node.ensures.node c.in-Text.is x h in
-    same_answer x _ c.args.env.now c.string.new.env _ c.string.result e refl c.string.ensures.agrees c.string.ensures.kept.large
+    same_answer x _ c.args.env.now c.string.new.env _ c.string.result e refl c.string.ensures.agrees c.string.ensures.kept.notes
 
 pub expressions::expression-returns-in-Text-clause-kept : goal.expressions::expression-returns-in-Text-clause-kept
 expressions::expression-returns-in-Text-clause-kept t c =
@@ -116,7 +117,7 @@ expressions::expression-returns-in_err-left-in-Binary-clause-kept t c =
 
 pub expressions::expression-returns-in_ok-left-in-Binary-clause-agrees : goal.expressions::expression-returns-in_ok-left-in-Binary-clause-agrees
 expressions::expression-returns-in_ok-left-in-Binary-clause-agrees t c =
-    λ x h. two_done c.args.env.now c.operands.new.env c.binary.new.env (binary_parts c.args.tree.now c.args.id c.expr-node.result.now c.in-Binary.sign c.in-Binary.left c.in-Binary.right c.expr-node.ensures.node c.in-Binary.is x h) c.in_ok-left-in-Binary.left c.in_ok-left-in-Binary.right c.binary.result c.in_ok-left-in-Binary.ensures.agrees c.in_ok-left-in-Binary.ensures.kept.env c.binary.ensures.agrees c.binary.ensures.kept.large
+    λ x h. two_done c.args.env.now c.operands.new.env c.binary.new.env (binary_parts c.args.tree.now c.args.id c.expr-node.result.now c.in-Binary.sign c.in-Binary.left c.in-Binary.right c.expr-node.ensures.node c.in-Binary.is x h) c.in_ok-left-in-Binary.left c.in_ok-left-in-Binary.right c.binary.result c.in_ok-left-in-Binary.ensures.agrees c.in_ok-left-in-Binary.ensures.kept.env c.binary.ensures.agrees c.binary.ensures.kept.notes
 
 pub expressions::expression-returns-in_ok-left-in-Binary-clause-kept : goal.expressions::expression-returns-in_ok-left-in-Binary-clause-kept
 expressions::expression-returns-in_ok-left-in-Binary-clause-kept t c =
@@ -144,7 +145,7 @@ expressions::expression-returns-in_err-left-in-Assign-clause-kept t c =
 
 pub expressions::expression-returns-in_ok-left-in-Assign-clause-agrees : goal.expressions::expression-returns-in_ok-left-in-Assign-clause-agrees
 expressions::expression-returns-in_ok-left-in-Assign-clause-agrees t c =
-    λ x h. two_done c.args.env.now c.operands-in-Assign.new.env c.assignment.new.env (assign_parts c.args.tree.now c.args.id c.expr-node.result.now c.in-Assign.sign c.in-Assign.left c.in-Assign.right c.expr-node.ensures.node c.in-Assign.is x h) c.in_ok-left-in-Assign.left c.in_ok-left-in-Assign.right c.assignment.result c.in_ok-left-in-Assign.ensures.agrees c.in_ok-left-in-Assign.ensures.kept.env c.assignment.ensures.agrees c.assignment.ensures.kept.large
+    λ x h. two_done c.args.env.now c.operands-in-Assign.new.env c.assignment.new.env (assign_parts c.args.tree.now c.args.id c.expr-node.result.now c.in-Assign.sign c.in-Assign.left c.in-Assign.right c.expr-node.ensures.node c.in-Assign.is x h) c.in_ok-left-in-Assign.left c.in_ok-left-in-Assign.right c.assignment.result c.in_ok-left-in-Assign.ensures.agrees c.in_ok-left-in-Assign.ensures.kept.env c.assignment.ensures.agrees c.assignment.ensures.kept.notes
 
 pub expressions::expression-returns-in_ok-left-in-Assign-clause-kept : goal.expressions::expression-returns-in_ok-left-in-Assign-clause-kept
 expressions::expression-returns-in_ok-left-in-Assign-clause-kept t c =
@@ -172,7 +173,7 @@ expressions::expression-returns-in_err-left-in-Index-clause-kept t c =
 
 pub expressions::expression-returns-in_ok-left-in-Index-clause-agrees : goal.expressions::expression-returns-in_ok-left-in-Index-clause-agrees
 expressions::expression-returns-in_ok-left-in-Index-clause-agrees t c =
-    λ x h. two_done c.args.env.now c.operands-in-Index.new.env c.subscript.new.env (index_parts c.args.tree.now c.args.id c.expr-node.result.now c.in-Index.left c.in-Index.right c.expr-node.ensures.node c.in-Index.is x h) c.in_ok-left-in-Index.left c.in_ok-left-in-Index.right c.subscript.result c.in_ok-left-in-Index.ensures.agrees c.in_ok-left-in-Index.ensures.kept.env c.subscript.ensures.agrees c.subscript.ensures.kept.large
+    λ x h. two_done c.args.env.now c.operands-in-Index.new.env c.subscript.new.env (index_parts c.args.tree.now c.args.id c.expr-node.result.now c.in-Index.left c.in-Index.right c.expr-node.ensures.node c.in-Index.is x h) c.in_ok-left-in-Index.left c.in_ok-left-in-Index.right c.subscript.result c.in_ok-left-in-Index.ensures.agrees c.in_ok-left-in-Index.ensures.kept.env c.subscript.ensures.agrees c.subscript.ensures.kept.notes
 
 pub expressions::expression-returns-in_ok-left-in-Index-clause-kept : goal.expressions::expression-returns-in_ok-left-in-Index-clause-kept
 expressions::expression-returns-in_ok-left-in-Index-clause-kept t c =
@@ -215,7 +216,7 @@ expressions::expression-returns-in_err-right-in-Cond-clause-kept t c =
 
 pub expressions::expression-returns-in_ok-right-in-Cond-clause-agrees : goal.expressions::expression-returns-in_ok-right-in-Cond-clause-agrees
 expressions::expression-returns-in_ok-right-in-Cond-clause-agrees t c =
-    λ x h. three_done c.args.env.now c.operands-in-Cond.new.env c.expression.new.env (cond_parts c.args.tree.now c.args.id c.expr-node.result.now c.in-Cond.condition c.in-Cond.left c.in-Cond.right c.expr-node.ensures.node c.in-Cond.is x h) c.choice.new.env c.in_ok-condition-in-Cond.condition c.in_ok-condition-in-Cond.left c.in_ok-right-in-Cond.right c.choice.result c.in_ok-condition-in-Cond.ensures.agrees c.in_ok-condition-in-Cond.ensures.kept c.in_ok-right-in-Cond.ensures.agrees c.in_ok-right-in-Cond.ensures.kept c.choice.ensures.agrees c.choice.ensures.kept.large
+    λ x h. three_done c.args.env.now c.operands-in-Cond.new.env c.expression.new.env (cond_parts c.args.tree.now c.args.id c.expr-node.result.now c.in-Cond.condition c.in-Cond.left c.in-Cond.right c.expr-node.ensures.node c.in-Cond.is x h) c.choice.new.env c.in_ok-condition-in-Cond.condition c.in_ok-condition-in-Cond.left c.in_ok-right-in-Cond.right c.choice.result c.in_ok-condition-in-Cond.ensures.agrees c.in_ok-condition-in-Cond.ensures.kept c.in_ok-right-in-Cond.ensures.agrees c.in_ok-right-in-Cond.ensures.kept c.choice.ensures.agrees c.choice.ensures.kept.notes
 
 pub expressions::expression-returns-in_ok-right-in-Cond-clause-kept : goal.expressions::expression-returns-in_ok-right-in-Cond-clause-kept
 expressions::expression-returns-in_ok-right-in-Cond-clause-kept t c =
@@ -242,7 +243,7 @@ expressions::expression-returns-in_err-operand-in-Prefix-clause-kept t c =
 
 pub expressions::expression-returns-in_ok-operand-in-Prefix-clause-agrees : goal.expressions::expression-returns-in_ok-operand-in-Prefix-clause-agrees
 expressions::expression-returns-in_ok-operand-in-Prefix-clause-agrees t c =
-    λ x h. one_done c.args.env.now c.expression-in-Prefix.new.env c.prefixed.new.self (prefix_parts c.args.tree.now c.args.id c.expr-node.result.now c.in-Prefix.sign c.in-Prefix.operand c.expr-node.ensures.node c.in-Prefix.is x h) c.in_ok-operand-in-Prefix.operand c.prefixed.result c.in_ok-operand-in-Prefix.ensures.agrees c.in_ok-operand-in-Prefix.ensures.kept.env c.prefixed.ensures.agrees c.prefixed.ensures.kept.large
+    λ x h. one_done c.args.env.now c.expression-in-Prefix.new.env c.prefixed.new.self (prefix_parts c.args.tree.now c.args.id c.expr-node.result.now c.in-Prefix.sign c.in-Prefix.operand c.expr-node.ensures.node c.in-Prefix.is x h) c.in_ok-operand-in-Prefix.operand c.prefixed.result c.in_ok-operand-in-Prefix.ensures.agrees c.in_ok-operand-in-Prefix.ensures.kept.env c.prefixed.ensures.agrees c.prefixed.ensures.kept.notes
 
 pub expressions::expression-returns-in_ok-operand-in-Prefix-clause-kept : goal.expressions::expression-returns-in_ok-operand-in-Prefix-clause-kept
 expressions::expression-returns-in_ok-operand-in-Prefix-clause-kept t c =
@@ -269,7 +270,7 @@ expressions::expression-returns-in_err-operand-in-Postfix-clause-kept t c =
 
 pub expressions::expression-returns-in_ok-operand-in-Postfix-clause-agrees : goal.expressions::expression-returns-in_ok-operand-in-Postfix-clause-agrees
 expressions::expression-returns-in_ok-operand-in-Postfix-clause-agrees t c =
-    λ x h. one_done c.args.env.now c.expression-in-Postfix.new.env c.postfixed.new.self (postfix_parts c.args.tree.now c.args.id c.expr-node.result.now c.in-Postfix.sign c.in-Postfix.operand c.expr-node.ensures.node c.in-Postfix.is x h) c.in_ok-operand-in-Postfix.operand c.postfixed.result c.in_ok-operand-in-Postfix.ensures.agrees c.in_ok-operand-in-Postfix.ensures.kept.env c.postfixed.ensures.agrees c.postfixed.ensures.kept.large
+    λ x h. one_done c.args.env.now c.expression-in-Postfix.new.env c.postfixed.new.self (postfix_parts c.args.tree.now c.args.id c.expr-node.result.now c.in-Postfix.sign c.in-Postfix.operand c.expr-node.ensures.node c.in-Postfix.is x h) c.in_ok-operand-in-Postfix.operand c.postfixed.result c.in_ok-operand-in-Postfix.ensures.agrees c.in_ok-operand-in-Postfix.ensures.kept.env c.postfixed.ensures.agrees c.postfixed.ensures.kept.notes
 
 pub expressions::expression-returns-in_ok-operand-in-Postfix-clause-kept : goal.expressions::expression-returns-in_ok-operand-in-Postfix-clause-kept
 expressions::expression-returns-in_ok-operand-in-Postfix-clause-kept t c =
@@ -280,8 +281,8 @@ expressions::expression-expression-requires-in-SizeofExpr t c =
     let p = (sizeof_expr_parts c.args.tree.now c.args.id c.expr-node.result.now c.in-SizeofExpr.operand c.expr-node.ensures.node c.in-SizeofExpr.is c.requires.0 c.requires.1) in
     (omega (arith, below_expr c.args.tree.now c.args.id c.expr-node.result.now (exprs.SizeofExpr c.in-SizeofExpr.operand) c.requires c.expr-node.ensures.node c.in-SizeofExpr.is), operand_fits p c.requires.2)
 
-pub expressions::expression-size_of_node-requires : goal.expressions::expression-size_of_node-requires
-expressions::expression-size_of_node-requires t c =
+pub expressions::expression-size_of_operand-requires : goal.expressions::expression-size_of_operand-requires
+expressions::expression-size_of_operand-requires t c =
     let p = (sizeof_expr_parts c.args.tree.now c.args.id c.expr-node.result.now c.in-SizeofExpr.operand c.expr-node.ensures.node c.in-SizeofExpr.is c.requires.0 c.requires.1) in
     node_found _ _ _ _ _ (c.in_ok-operand-in-SizeofExpr.ensures.agrees p.operand p.stand)
 
@@ -296,11 +297,11 @@ expressions::expression-returns-in_err-operand-in-SizeofExpr-clause-kept t c =
 
 pub expressions::expression-returns-in_ok-operand-in-SizeofExpr-clause-agrees : goal.expressions::expression-returns-in_ok-operand-in-SizeofExpr-clause-agrees
 expressions::expression-returns-in_ok-operand-in-SizeofExpr-clause-agrees t c =
-    λ x h. one_done c.args.env.now c.expression-in-SizeofExpr.new.env c.size_of_node.new.env (sizeof_expr_parts c.args.tree.now c.args.id c.expr-node.result.now c.in-SizeofExpr.operand c.expr-node.ensures.node c.in-SizeofExpr.is x h) c.in_ok-operand-in-SizeofExpr.operand c.size_of_node.result c.in_ok-operand-in-SizeofExpr.ensures.agrees c.in_ok-operand-in-SizeofExpr.ensures.kept.env c.size_of_node.ensures.agrees c.size_of_node.ensures.kept.large
+    λ x h. one_noted c.args.env.now c.expression-in-SizeofExpr.new.env c.size_of_operand.new.env (sizeof_expr_parts c.args.tree.now c.args.id c.expr-node.result.now c.in-SizeofExpr.operand c.expr-node.ensures.node c.in-SizeofExpr.is x h) c.in_ok-operand-in-SizeofExpr.operand c.size_of_operand.result c.in_ok-operand-in-SizeofExpr.ensures.agrees c.in_ok-operand-in-SizeofExpr.ensures.kept.env c.size_of_operand.ensures.agrees
 
 pub expressions::expression-returns-in_ok-operand-in-SizeofExpr-clause-kept : goal.expressions::expression-returns-in_ok-operand-in-SizeofExpr-clause-kept
 expressions::expression-returns-in_ok-operand-in-SizeofExpr-clause-kept t c =
-    then_stay _ _ _ c.in_ok-operand-in-SizeofExpr.ensures.kept (all_stay _ _ c.size_of_node.ensures.kept)
+    then_stay _ _ _ c.in_ok-operand-in-SizeofExpr.ensures.kept c.size_of_operand.ensures.kept
 
 pub expressions::expression-expression-requires-in-Member : goal.expressions::expression-expression-requires-in-Member
 expressions::expression-expression-requires-in-Member t c =
@@ -323,7 +324,7 @@ expressions::expression-returns-in_err-operand-in-Member-clause-kept t c =
 
 pub expressions::expression-returns-in_ok-operand-in-Member-clause-agrees : goal.expressions::expression-returns-in_ok-operand-in-Member-clause-agrees
 expressions::expression-returns-in_ok-operand-in-Member-clause-agrees t c =
-    λ x h. one_done c.args.env.now c.expression-in-Member.new.env c.member.new.self (member_parts c.args.tree.now c.args.id c.expr-node.result.now c.in-Member.operand c.in-Member.name c.expr-node.ensures.node c.in-Member.is x h) c.in_ok-operand-in-Member.operand c.member.result c.in_ok-operand-in-Member.ensures.agrees c.in_ok-operand-in-Member.ensures.kept.env (agrees_as (StandsAt c.member.new.self.table) _ _ c.member.result (ap (member c.expression-in-Member.new.env.env c.expr-node.result.now.from (node_at c.expression-in-Member.new.env.table c.in_ok-operand-in-Member.operand)) (sym c.as_slice-in-Member.ensures.bytes)) c.member.ensures.agrees) c.member.ensures.kept.large
+    λ x h. one_done c.args.env.now c.expression-in-Member.new.env c.member.new.self (member_parts c.args.tree.now c.args.id c.expr-node.result.now c.in-Member.operand c.in-Member.name c.expr-node.ensures.node c.in-Member.is x h) c.in_ok-operand-in-Member.operand c.member.result c.in_ok-operand-in-Member.ensures.agrees c.in_ok-operand-in-Member.ensures.kept.env (agrees_as (StandsAt c.member.new.self.table) _ _ c.member.result (ap (member c.expression-in-Member.new.env.env c.expr-node.result.now.from (node_at c.expression-in-Member.new.env.table c.in_ok-operand-in-Member.operand)) (sym c.as_slice-in-Member.ensures.bytes)) c.member.ensures.agrees) c.member.ensures.kept.notes
 
 pub expressions::expression-returns-in_ok-operand-in-Member-clause-kept : goal.expressions::expression-returns-in_ok-operand-in-Member-clause-kept
 expressions::expression-returns-in_ok-operand-in-Member-clause-kept t c =
@@ -350,7 +351,7 @@ expressions::expression-returns-in_err-operand-in-Arrow-clause-kept t c =
 
 pub expressions::expression-returns-in_ok-operand-in-Arrow-clause-agrees : goal.expressions::expression-returns-in_ok-operand-in-Arrow-clause-agrees
 expressions::expression-returns-in_ok-operand-in-Arrow-clause-agrees t c =
-    λ x h. one_done c.args.env.now c.expression-in-Arrow.new.env c.arrow.new.env (arrow_parts c.args.tree.now c.args.id c.expr-node.result.now c.in-Arrow.operand c.in-Arrow.name c.expr-node.ensures.node c.in-Arrow.is x h) c.in_ok-operand-in-Arrow.operand c.arrow.result c.in_ok-operand-in-Arrow.ensures.agrees c.in_ok-operand-in-Arrow.ensures.kept.env (agrees_as (StandsAt c.arrow.new.env.table) _ _ c.arrow.result (ap (arrow_from c.expression-in-Arrow.new.env.env c.expr-node.result.now.from (node_at c.expression-in-Arrow.new.env.table c.in_ok-operand-in-Arrow.operand)) (sym c.as_slice-in-Arrow.ensures.bytes)) c.arrow.ensures.agrees) c.arrow.ensures.kept.large
+    λ x h. one_done c.args.env.now c.expression-in-Arrow.new.env c.arrow.new.env (arrow_parts c.args.tree.now c.args.id c.expr-node.result.now c.in-Arrow.operand c.in-Arrow.name c.expr-node.ensures.node c.in-Arrow.is x h) c.in_ok-operand-in-Arrow.operand c.arrow.result c.in_ok-operand-in-Arrow.ensures.agrees c.in_ok-operand-in-Arrow.ensures.kept.env (agrees_as (StandsAt c.arrow.new.env.table) _ _ c.arrow.result (ap (arrow_from c.expression-in-Arrow.new.env.env c.expr-node.result.now.from (node_at c.expression-in-Arrow.new.env.table c.in_ok-operand-in-Arrow.operand)) (sym c.as_slice-in-Arrow.ensures.bytes)) c.arrow.ensures.agrees) c.arrow.ensures.kept.notes
 
 pub expressions::expression-returns-in_ok-operand-in-Arrow-clause-kept : goal.expressions::expression-returns-in_ok-operand-in-Arrow-clause-kept
 expressions::expression-returns-in_ok-operand-in-Arrow-clause-kept t c =
@@ -377,7 +378,7 @@ expressions::expression-returns-in_err-ty-in-SizeofType-clause-kept t c =
 
 pub expressions::expression-returns-in_ok-ty-in-SizeofType-clause-agrees : goal.expressions::expression-returns-in_ok-ty-in-SizeofType-clause-agrees
 expressions::expression-returns-in_ok-ty-in-SizeofType-clause-agrees t c =
-    λ x h. type_done c.args.env.now c.declared_type.new.env c.size_of_type.new.env (sizeof_type_parts c.args.tree.now c.args.id c.expr-node.result.now c.in-SizeofType.name c.expr-node.ensures.node c.in-SizeofType.is x h) c.in_ok-ty-in-SizeofType.ty c.size_of_type.result c.in_ok-ty-in-SizeofType.ensures.agrees c.in_ok-ty-in-SizeofType.ensures.kept.env c.size_of_type.ensures.agrees c.size_of_type.ensures.kept.large
+    λ x h. type_done c.args.env.now c.declared_type.new.env c.size_of_type.new.env (sizeof_type_parts c.args.tree.now c.args.id c.expr-node.result.now c.in-SizeofType.name c.expr-node.ensures.node c.in-SizeofType.is x h) c.in_ok-ty-in-SizeofType.ty c.size_of_type.result c.in_ok-ty-in-SizeofType.ensures.agrees c.in_ok-ty-in-SizeofType.ensures.kept.env c.size_of_type.ensures.agrees c.size_of_type.ensures.kept.notes
 
 pub expressions::expression-returns-in_ok-ty-in-SizeofType-clause-kept : goal.expressions::expression-returns-in_ok-ty-in-SizeofType-clause-kept
 expressions::expression-returns-in_ok-ty-in-SizeofType-clause-kept t c =
@@ -418,7 +419,7 @@ expressions::expression-returns-in_err-operand-in-Cast-clause-kept t c =
 
 pub expressions::expression-returns-in_ok-operand-in-Cast-clause-agrees : goal.expressions::expression-returns-in_ok-operand-in-Cast-clause-agrees
 expressions::expression-returns-in_ok-operand-in-Cast-clause-agrees t c =
-    λ x h. cast_done c.args.env.now c.declared_type-in-Cast.new.env c.expression-in-Cast.new.env (cast_parts c.args.tree.now c.args.id c.expr-node.result.now c.in-Cast.name c.in-Cast.operand c.expr-node.ensures.node c.in-Cast.is x h) c.cast.new.env c.in_ok-ty-in-Cast.ty c.in_ok-operand-in-Cast.operand c.cast.result c.in_ok-ty-in-Cast.ensures.agrees c.in_ok-ty-in-Cast.ensures.kept c.in_ok-operand-in-Cast.ensures.agrees c.in_ok-operand-in-Cast.ensures.kept c.cast.ensures.agrees c.cast.ensures.kept.large
+    λ x h. cast_done c.args.env.now c.declared_type-in-Cast.new.env c.expression-in-Cast.new.env (cast_parts c.args.tree.now c.args.id c.expr-node.result.now c.in-Cast.name c.in-Cast.operand c.expr-node.ensures.node c.in-Cast.is x h) c.cast.new.env c.in_ok-ty-in-Cast.ty c.in_ok-operand-in-Cast.operand c.cast.result c.in_ok-ty-in-Cast.ensures.agrees c.in_ok-ty-in-Cast.ensures.kept c.in_ok-operand-in-Cast.ensures.agrees c.in_ok-operand-in-Cast.ensures.kept c.cast.ensures.agrees c.cast.ensures.kept.notes
 
 pub expressions::expression-returns-in_ok-operand-in-Cast-clause-kept : goal.expressions::expression-returns-in_ok-operand-in-Cast-clause-kept
 expressions::expression-returns-in_ok-operand-in-Cast-clause-kept t c =
@@ -449,7 +450,7 @@ expressions::operands-expression-requires-2 t c =
 pub expressions::operands-returns-in_err-left-clause-agrees : goal.expressions::operands-returns-in_err-left-clause-agrees
 expressions::operands-returns-in_err-left-clause-agrees t c =
     let q = err_from_is_err_and c.from_residual.result c.from_residual.ensures.1 in
-    λ x y h k. failed _ _ (AreBoth c.expression.new.env.table) (operands x y c.args.env.now.env) c.from_residual.result c.in_err-left.field-0.0 (q.1 ∙ ap Err q.2) (left_stops c.args.env.now.found_large c.expression.new.env.found_large c.expression.new.env.found_large c.expression.new.env.table c.expression.new.env.table (expression x c.args.env.now.env) (expression y c.args.env.now.env) c.in_err-left.field-0.0 (c.in_err-left.ensures.agrees x h))
+    λ x y h k. failed _ _ (AreBoth c.expression.new.env.table) (operands x y c.args.env.now.env) c.from_residual.result c.in_err-left.field-0.0 (q.1 ∙ ap Err q.2) (left_stops (notes_of c.args.env.now) (notes_of c.expression.new.env) (notes_of c.expression.new.env) c.expression.new.env.table c.expression.new.env.table (expression x c.args.env.now.env) (expression y c.args.env.now.env) c.in_err-left.field-0.0 (c.in_err-left.ensures.agrees x h))
 
 pub expressions::operands-returns-in_err-left-clause-kept : goal.expressions::operands-returns-in_err-left-clause-kept
 expressions::operands-returns-in_err-left-clause-kept t c =
@@ -504,7 +505,7 @@ calls::call-add-requires t c =
 
 pub calls::call-returns-clause-agrees : goal.calls::call-returns-clause-agrees
 calls::call-returns-clause-agrees t c =
-    λ x xs h k. call_made c.args.env.now c.call_target.new.env c.arguments.new.env c.add.new.self c.args.from x xs c.in_ok-target.target c.in_ok-arguments.arguments c.in_ok-add.field-0 (c.in_ok-target.ensures.agrees x h) c.in_ok-target.ensures.kept.env (c.in_ok-arguments.ensures.agrees xs k) c.in_ok-arguments.ensures.kept c.in_ok-add.ensures.added c.in_ok-add.ensures.kept.large
+    λ x xs h k. call_made c.args.env.now c.call_target.new.env c.arguments.new.env c.add.new.self c.args.from x xs c.in_ok-target.target c.in_ok-arguments.arguments c.in_ok-add.field-0 (c.in_ok-target.ensures.agrees x h) c.in_ok-target.ensures.kept.env (c.in_ok-arguments.ensures.agrees xs k) c.in_ok-arguments.ensures.kept c.in_ok-add.ensures.added c.in_ok-add.ensures.kept.notes
 
 pub calls::call-returns-clause-kept : goal.calls::call-returns-clause-kept
 calls::call-returns-clause-kept t c =
@@ -532,7 +533,7 @@ calls::call_target-called-requires t c =
 
 pub calls::call_target-returns-in-Some-clause-agrees : goal.calls::call_target-returns-in-Some-clause-agrees
 calls::call_target-returns-in-Some-clause-agrees t c =
-    λ x h. builtin_target c.in-Some.builtin x c.args.env.now c.builtin_called.new.self c.args.from c.start.result c.builtin_called.result (c.in-Some.ensures x h) (c.start.ensures x h) c.builtin_called.ensures.agrees c.builtin_called.ensures.kept.large
+    λ x h. builtin_target c.in-Some.builtin x c.args.env.now c.builtin_called.new.self c.args.from c.start.result c.builtin_called.result (c.in-Some.ensures x h) (c.start.ensures x h) c.builtin_called.ensures.agrees c.builtin_called.ensures.kept.notes
 
 pub calls::call_target-returns-in-Some-clause-kept : goal.calls::call_target-returns-in-Some-clause-kept
 calls::call_target-returns-in-Some-clause-kept t c =
@@ -549,7 +550,7 @@ calls::call_target-returns-in_err-callee-in-None-clause-kept t c =
 
 pub calls::call_target-returns-in_ok-callee-in-None-clause-agrees : goal.calls::call_target-returns-in_ok-callee-in-None-clause-agrees
 calls::call_target-returns-in_ok-callee-in-None-clause-agrees t c =
-    λ x h. callee_target x c.args.env.now c.expression.new.env c.called.new.self c.args.from c.in_ok-callee-in-None.callee c.called.result (c.in-None.ensures x h) (c.in_ok-callee-in-None.ensures.agrees x h) c.in_ok-callee-in-None.ensures.kept.env c.called.ensures.agrees c.called.ensures.kept.large
+    λ x h. callee_target x c.args.env.now c.expression.new.env c.called.new.self c.args.from c.in_ok-callee-in-None.callee c.called.result (c.in-None.ensures x h) (c.in_ok-callee-in-None.ensures.agrees x h) c.in_ok-callee-in-None.ensures.kept.env c.called.ensures.agrees c.called.ensures.kept.notes
 
 pub calls::call_target-returns-in_ok-callee-in-None-clause-kept : goal.calls::call_target-returns-in_ok-callee-in-None-clause-kept
 calls::call_target-returns-in_ok-callee-in-None-clause-kept t c =
@@ -582,7 +583,7 @@ calls::argument-returns-in_err-operand-in-Some-clause-kept t c =
 
 pub calls::argument-returns-in_ok-operand-in-Some-clause-agrees : goal.calls::argument-returns-in_ok-operand-in-Some-clause-agrees
 calls::argument-returns-in_ok-operand-in-Some-clause-agrees t c =
-    λ x h. argument_made x c.args.env.now c.expression.new.env c.converted.new.env c.args.from c.start.result (types_after c.args.number (params_of (type_at c.args.env.now.table.types c.args.function))) _ _ _ c.in_ok-operand-in-Some.operand c.converted.result c.in-Some.ensures.1 (type_stays c.args.env.now.table c.expression.new.env.table c.in-Some.ty c.in_ok-operand-in-Some.ensures.kept.numbers c.in-Some.ensures.0) (c.start.ensures x h) (c.in_ok-operand-in-Some.ensures.agrees x h) c.in_ok-operand-in-Some.ensures.kept.env c.converted.ensures.agrees c.converted.ensures.kept.large
+    λ x h. argument_made x c.args.env.now c.expression.new.env c.converted.new.env c.args.from c.start.result (types_after c.args.number (params_of (type_at c.args.env.now.table.types c.args.function))) _ _ _ c.in_ok-operand-in-Some.operand c.converted.result c.in-Some.ensures.1 (type_stays c.args.env.now.table c.expression.new.env.table c.in-Some.ty c.in_ok-operand-in-Some.ensures.kept.numbers c.in-Some.ensures.0) (c.start.ensures x h) (c.in_ok-operand-in-Some.ensures.agrees x h) c.in_ok-operand-in-Some.ensures.kept.env c.converted.ensures.agrees c.converted.ensures.kept.notes
 
 pub calls::argument-returns-in_ok-operand-in-Some-clause-kept : goal.calls::argument-returns-in_ok-operand-in-Some-clause-kept
 calls::argument-returns-in_ok-operand-in-Some-clause-kept t c =
@@ -600,7 +601,7 @@ pub calls::arguments-loop-number-init : goal.calls::arguments-loop-number-init
 calls::arguments-loop-number-init t c =
     record {
       kept = stay c.args.env.now;
-      rest = λ xs h. rw c.in_ok-values.ensures.items (arguments_begin c.args.tree.now c.args.env.now.env c.args.from c.args.env.now.found_large c.args.env.now.table c.args.ids.now xs (params_of (type_at c.args.env.now.table.types c.args.function)) h);
+      rest = λ xs h. rw c.in_ok-values.ensures.items (arguments_begin c.args.tree.now c.args.env.now.env c.args.from (notes_of c.args.env.now) c.args.env.now.table c.args.ids.now xs (params_of (type_at c.args.env.now.table.types c.args.function)) h);
     }
 
 pub calls::arguments-argument-requires : goal.calls::arguments-argument-requires
@@ -611,13 +612,13 @@ pub calls::arguments-loop-number-preserved : goal.calls::arguments-loop-number-p
 calls::arguments-loop-number-preserved t c =
     record {
       kept = then_stay _ _ _ c.loop-number.invariant.kept c.in_ok-value.ensures.kept;
-      rest = λ xs h. rw c.in_ok-append.ensures (arguments_next c.args.tree.now c.args.env.now.env c.args.from c.args.env.now.found_large c.loop-number.env c.argument.new.env c.loop-number.values.items _ _ _ xs (params_of (type_at c.args.env.now.table.types c.args.function)) c.loop-number.number c.in_ok-value.value (from_here c.args.ids.now c.loop-number.number (record { 0 = 0 }) (omega arith)) c.in_ok-value.ensures.kept.numbers c.loop-number.invariant.kept.env (c.loop-number.invariant.rest xs h) (λ y s. passed c.loop-number.env.found_large c.argument.new.env.found_large (IsAt c.argument.new.env.table) _ _ (Ok c.in_ok-value.value) (ap (λ u. argument_of y c.loop-number.env.env c.args.from (types_after c.loop-number.number (params_of u))) (sym (type_stays c.args.env.now.table c.loop-number.env.table c.args.function c.loop-number.invariant.kept.numbers c.requires.function))) (c.in_ok-value.ensures.agrees y s)));
+      rest = λ xs h. rw c.in_ok-append.ensures (arguments_next c.args.tree.now c.args.env.now.env c.args.from (notes_of c.args.env.now) c.loop-number.env c.argument.new.env c.loop-number.values.items _ _ _ xs (params_of (type_at c.args.env.now.table.types c.args.function)) c.loop-number.number c.in_ok-value.value (from_here c.args.ids.now c.loop-number.number (record { 0 = 0 }) (omega arith)) c.in_ok-value.ensures.kept.numbers c.loop-number.invariant.kept.env (c.loop-number.invariant.rest xs h) (λ y s. passed (notes_of c.loop-number.env) (notes_of c.argument.new.env) (IsAt c.argument.new.env.table) _ _ (Ok c.in_ok-value.value) (ap (λ u. argument_of y c.loop-number.env.env c.args.from (types_after c.loop-number.number (params_of u))) (sym (type_stays c.args.env.now.table c.loop-number.env.table c.args.function c.loop-number.invariant.kept.numbers c.requires.function))) (c.in_ok-value.ensures.agrees y s)));
     }
 
 pub calls::arguments-returns-in_err-value-clause-agrees : goal.calls::arguments-returns-in_err-value-clause-agrees
 calls::arguments-returns-in_err-value-clause-agrees t c =
     let q = err_from_is_err_and c.from_residual-in_err-value.result c.from_residual-in_err-value.ensures.1 in
-    λ xs h. failed _ _ (AreValues c.argument.new.env.table) (arguments xs c.args.env.now.env c.args.from (params_of (type_at c.args.env.now.table.types c.args.function))) c.from_residual-in_err-value.result c.in_err-value.field-0.0 (q.1 ∙ ap Err q.2) (arguments_stop c.args.tree.now c.args.env.now.env c.args.from c.args.env.now.found_large c.loop-number.env c.argument.new.env c.loop-number.values.items _ _ _ xs (params_of (type_at c.args.env.now.table.types c.args.function)) c.loop-number.number c.in_err-value.field-0.0 (from_here c.args.ids.now c.loop-number.number (record { 0 = 0 }) (omega arith)) c.loop-number.invariant.kept.env (c.loop-number.invariant.rest xs h) (λ y s. passed c.loop-number.env.found_large c.argument.new.env.found_large (IsAt c.argument.new.env.table) _ _ (Err c.in_err-value.field-0.0) (ap (λ u. argument_of y c.loop-number.env.env c.args.from (types_after c.loop-number.number (params_of u))) (sym (type_stays c.args.env.now.table c.loop-number.env.table c.args.function c.loop-number.invariant.kept.numbers c.requires.function))) (c.in_err-value.ensures.agrees y s)))
+    λ xs h. failed _ _ (AreValues c.argument.new.env.table) (arguments xs c.args.env.now.env c.args.from (params_of (type_at c.args.env.now.table.types c.args.function))) c.from_residual-in_err-value.result c.in_err-value.field-0.0 (q.1 ∙ ap Err q.2) (arguments_stop c.args.tree.now c.args.env.now.env c.args.from (notes_of c.args.env.now) c.loop-number.env c.argument.new.env c.loop-number.values.items _ _ _ xs (params_of (type_at c.args.env.now.table.types c.args.function)) c.loop-number.number c.in_err-value.field-0.0 (from_here c.args.ids.now c.loop-number.number (record { 0 = 0 }) (omega arith)) c.loop-number.invariant.kept.env (c.loop-number.invariant.rest xs h) (λ y s. passed (notes_of c.loop-number.env) (notes_of c.argument.new.env) (IsAt c.argument.new.env.table) _ _ (Err c.in_err-value.field-0.0) (ap (λ u. argument_of y c.loop-number.env.env c.args.from (types_after c.loop-number.number (params_of u))) (sym (type_stays c.args.env.now.table c.loop-number.env.table c.args.function c.loop-number.invariant.kept.numbers c.requires.function))) (c.in_err-value.ensures.agrees y s)))
 
 pub calls::arguments-returns-in_err-value-clause-kept : goal.calls::arguments-returns-in_err-value-clause-kept
 calls::arguments-returns-in_err-value-clause-kept t c =
@@ -638,7 +639,7 @@ calls::arguments-parameter-requires t c =
 pub calls::arguments-returns-in-Some-clause-agrees : goal.calls::arguments-returns-in-Some-clause-agrees
 calls::arguments-returns-in-Some-clause-agrees t c =
     let at_end : c.loop-number.number ≡ length c.args.ids.now = omega arith in
-    λ xs h. too_few c.args.tree.now c.args.env.now.env c.args.from c.args.env.now.found_large c.loop-number.env c.loop-number.values.items _ xs (params_of (type_at c.args.env.now.table.types c.args.function)) c.loop-number.number _ _ (drop_all c.loop-number.number c.args.ids.now (omega arith)) (ap (λ u. types_after c.loop-number.number (params_of u)) (sym (type_stays c.args.env.now.table c.loop-number.env.table c.args.function c.loop-number.invariant.kept.numbers c.requires.function)) ∙ (ap (λ n. types_after n (params_of (type_at c.loop-number.env.table.types c.args.function))) (at_end) ∙ c.in-Some.ensures.1)) (c.loop-number.invariant.rest xs h)
+    λ xs h. too_few c.args.tree.now c.args.env.now.env c.args.from (notes_of c.args.env.now) c.loop-number.env c.loop-number.values.items _ xs (params_of (type_at c.args.env.now.table.types c.args.function)) c.loop-number.number _ _ (drop_all c.loop-number.number c.args.ids.now (omega arith)) (ap (λ u. types_after c.loop-number.number (params_of u)) (sym (type_stays c.args.env.now.table c.loop-number.env.table c.args.function c.loop-number.invariant.kept.numbers c.requires.function)) ∙ (ap (λ n. types_after n (params_of (type_at c.loop-number.env.table.types c.args.function))) (at_end) ∙ c.in-Some.ensures.1)) (c.loop-number.invariant.rest xs h)
 
 pub calls::arguments-returns-in-Some-clause-kept : goal.calls::arguments-returns-in-Some-clause-kept
 calls::arguments-returns-in-Some-clause-kept t c =
@@ -647,7 +648,7 @@ calls::arguments-returns-in-Some-clause-kept t c =
 pub calls::arguments-returns-in-None-clause-agrees : goal.calls::arguments-returns-in-None-clause-agrees
 calls::arguments-returns-in-None-clause-agrees t c =
     let at_end : c.loop-number.number ≡ length c.args.ids.now = omega arith in
-    λ xs h. rw c.from.ensures (arguments_end c.args.tree.now c.args.env.now.env c.args.from c.args.env.now.found_large c.loop-number.env c.loop-number.values.items _ xs (params_of (type_at c.args.env.now.table.types c.args.function)) c.loop-number.number (drop_all c.loop-number.number c.args.ids.now (omega arith)) (ap (λ u. types_after c.loop-number.number (params_of u)) (sym (type_stays c.args.env.now.table c.loop-number.env.table c.args.function c.loop-number.invariant.kept.numbers c.requires.function)) ∙ (ap (λ n. types_after n (params_of (type_at c.loop-number.env.table.types c.args.function))) (at_end) ∙ c.in-None.ensures)) (c.loop-number.invariant.rest xs h))
+    λ xs h. rw c.from.ensures (arguments_end c.args.tree.now c.args.env.now.env c.args.from (notes_of c.args.env.now) c.loop-number.env c.loop-number.values.items _ xs (params_of (type_at c.args.env.now.table.types c.args.function)) c.loop-number.number (drop_all c.loop-number.number c.args.ids.now (omega arith)) (ap (λ u. types_after c.loop-number.number (params_of u)) (sym (type_stays c.args.env.now.table c.loop-number.env.table c.args.function c.loop-number.invariant.kept.numbers c.requires.function)) ∙ (ap (λ n. types_after n (params_of (type_at c.loop-number.env.table.types c.args.function))) (at_end) ∙ c.in-None.ensures)) (c.loop-number.invariant.rest xs h))
 
 pub calls::arguments-returns-in-None-clause-kept : goal.calls::arguments-returns-in-None-clause-kept
 calls::arguments-returns-in-None-clause-kept t c =
@@ -674,7 +675,7 @@ declarators::declared_type-returns-in_err-ty-clause-agrees t c =
     λ e h.
     let p = decl_parts c.args.tree.now c.args.id c.decl-decl.result.now c.decl-decl.ensures.node e h in
     failed _ _ (IsType c.declarator.new.env.table) (declared_type e c.args.env.now.env) c.from_residual-in_err-ty.result c.in_err-ty.field-0.0 (q.1 ∙ ap Err q.2)
-    (passed c.args.env.now.found_large c.declarator.new.env.found_large (IsType c.declarator.new.env.table) _ _ (Err c.in_err-ty.field-0.0) (p.declared c.args.env.now.env)
+    (passed (notes_of c.args.env.now) (notes_of c.declarator.new.env) (IsType c.declarator.new.env.table) _ _ (Err c.in_err-ty.field-0.0) (p.declared c.args.env.now.env)
     (declared_stops c.args.env.now c.base_type.new.self c.declarator.new.env p.parts (base_type c.args.env.now.env c.decl-decl.result.now.base) c.in_ok-base.base c.in_ok-base.ensures.names c.in_ok-base.ensures.kept c.in_err-ty.field-0.0
     (c.in_err-ty.ensures.agrees p.parts (subst (λ vs. StandParts c.args.tree.now vs p.parts) (sym c.as_slice.ensures.items) p.on_parts))))
 
@@ -686,7 +687,7 @@ pub declarators::declared_type-returns-clause-agrees : goal.declarators::declare
 declarators::declared_type-returns-clause-agrees t c =
     λ e h.
     let p = decl_parts c.args.tree.now c.args.id c.decl-decl.result.now c.decl-decl.ensures.node e h in
-    passed c.args.env.now.found_large c.note_size.new.env.found_large (IsType c.note_size.new.env.table) _ _ (Ok c.in_ok-ty.ty) (p.declared c.args.env.now.env)
+    passed (notes_of c.args.env.now) (notes_of c.note_size.new.env) (IsType c.note_size.new.env.table) _ _ (Ok c.in_ok-ty.ty) (p.declared c.args.env.now.env)
     (declared_made c.args.env.now c.base_type.new.self c.declarator.new.env p.parts (base_type c.args.env.now.env c.decl-decl.result.now.base) c.in_ok-base.base c.in_ok-base.ensures.names c.in_ok-base.ensures.kept c.note_size.new.env c.in_ok-ty.ty
     (c.in_ok-ty.ensures.agrees p.parts (subst (λ vs. StandParts c.args.tree.now vs p.parts) (sym c.as_slice.ensures.items) p.on_parts)) c.in_ok-ty.ensures.kept.env c.note_size.ensures.table c.note_size.ensures.noted)
 
@@ -703,7 +704,7 @@ declarators::declarator-loop-part-init t c =
     record {
       kept = stay c.args.env.now;
       inside = c.requires.ty;
-      rest = λ ps h. parts_begin c.args.tree.now c.args.env.now.env c.args.env.now.found_large c.args.parts.now ps (type_at c.args.env.now.table.types c.args.ty) h;
+      rest = λ ps h. parts_begin c.args.tree.now c.args.env.now.env (notes_of c.args.env.now) c.args.parts.now ps (type_at c.args.env.now.table.types c.args.ty) h;
     }
 
 pub declarators::declarator-part_type-requires : goal.declarators::declarator-part_type-requires
@@ -716,13 +717,13 @@ declarators::declarator-loop-part-preserved t c =
     record {
       kept = then_stay _ _ _ c.loop-part.invariant.kept c.in_ok-made.ensures.kept;
       inside = (let one = subst (λ (w : Part). AreParts c.args.tree.now (w ∷ [])) (sym c.part-item.is) (part_at c.args.tree.now c.args.parts.now c.loop-part.part-index c.part-item.result (omega arith) c.requires.parts) in type_found _ _ c.part_type.new.env.table _ _ (c.in_ok-made.ensures.agrees one.0 one.1));
-      rest = λ ps h. parts_next c.args.tree.now c.args.env.now.env c.args.env.now.found_large c.loop-part.env c.part_type.new.env c.part-item.result _ _ ps (type_at c.args.env.now.table.types c.args.ty) (type_at c.loop-part.env.table.types c.loop-part.made) c.in_ok-made.made (from_here c.args.parts.now c.loop-part.part-index c.part-item.result (omega arith) ∙ ap (λ w. w ∷ drop (c.loop-part.part-index + 1) c.args.parts.now) (sym c.part-item.is)) c.loop-part.invariant.kept.env (c.loop-part.invariant.rest ps h) c.in_ok-made.ensures.agrees;
+      rest = λ ps h. parts_next c.args.tree.now c.args.env.now.env (notes_of c.args.env.now) c.loop-part.env c.part_type.new.env c.part-item.result _ _ ps (type_at c.args.env.now.table.types c.args.ty) (type_at c.loop-part.env.table.types c.loop-part.made) c.in_ok-made.made (from_here c.args.parts.now c.loop-part.part-index c.part-item.result (omega arith) ∙ ap (λ w. w ∷ drop (c.loop-part.part-index + 1) c.args.parts.now) (sym c.part-item.is)) c.loop-part.invariant.kept.env (c.loop-part.invariant.rest ps h) c.in_ok-made.ensures.agrees;
     }
 
 pub declarators::declarator-returns-in_err-made-clause-agrees : goal.declarators::declarator-returns-in_err-made-clause-agrees
 declarators::declarator-returns-in_err-made-clause-agrees t c =
     let q = err_from_is_err_and c.from_residual.result c.from_residual.ensures.1 in
-    λ ps h. failed _ _ (IsType c.part_type.new.env.table) (declarator_type ps c.args.env.now.env (type_at c.args.env.now.table.types c.args.ty)) c.from_residual.result c.in_err-made.field-0.0 (q.1 ∙ ap Err q.2) (parts_stop c.args.tree.now c.args.env.now.env c.args.env.now.found_large c.loop-part.env c.part_type.new.env c.part-item.result _ _ ps (type_at c.args.env.now.table.types c.args.ty) (type_at c.loop-part.env.table.types c.loop-part.made) c.in_err-made.field-0.0 (from_here c.args.parts.now c.loop-part.part-index c.part-item.result (omega arith) ∙ ap (λ w. w ∷ drop (c.loop-part.part-index + 1) c.args.parts.now) (sym c.part-item.is)) c.loop-part.invariant.kept.env (c.loop-part.invariant.rest ps h) c.in_err-made.ensures.agrees)
+    λ ps h. failed _ _ (IsType c.part_type.new.env.table) (declarator_type ps c.args.env.now.env (type_at c.args.env.now.table.types c.args.ty)) c.from_residual.result c.in_err-made.field-0.0 (q.1 ∙ ap Err q.2) (parts_stop c.args.tree.now c.args.env.now.env (notes_of c.args.env.now) c.loop-part.env c.part_type.new.env c.part-item.result _ _ ps (type_at c.args.env.now.table.types c.args.ty) (type_at c.loop-part.env.table.types c.loop-part.made) c.in_err-made.field-0.0 (from_here c.args.parts.now c.loop-part.part-index c.part-item.result (omega arith) ∙ ap (λ w. w ∷ drop (c.loop-part.part-index + 1) c.args.parts.now) (sym c.part-item.is)) c.loop-part.invariant.kept.env (c.loop-part.invariant.rest ps h) c.in_err-made.ensures.agrees)
 
 pub declarators::declarator-returns-in_err-made-clause-kept : goal.declarators::declarator-returns-in_err-made-clause-kept
 declarators::declarator-returns-in_err-made-clause-kept t c =
@@ -730,7 +731,7 @@ declarators::declarator-returns-in_err-made-clause-kept t c =
 
 pub declarators::declarator-returns-clause-agrees : goal.declarators::declarator-returns-clause-agrees
 declarators::declarator-returns-clause-agrees t c =
-    λ ps h. parts_end c.args.tree.now c.args.env.now.env c.args.env.now.found_large c.loop-part.env _ ps (type_at c.args.env.now.table.types c.args.ty) c.loop-part.made (drop_all c.loop-part.part-index c.args.parts.now (omega arith)) c.loop-part.invariant.inside (c.loop-part.invariant.rest ps h)
+    λ ps h. parts_end c.args.tree.now c.args.env.now.env (notes_of c.args.env.now) c.loop-part.env _ ps (type_at c.args.env.now.table.types c.args.ty) c.loop-part.made (drop_all c.loop-part.part-index c.args.parts.now (omega arith)) c.loop-part.invariant.inside (c.loop-part.invariant.rest ps h)
 
 pub declarators::declarator-returns-clause-kept : goal.declarators::declarator-returns-clause-kept
 declarators::declarator-returns-clause-kept t c =
@@ -746,7 +747,7 @@ declarators::part_type-add_type-requires t c =
 
 pub declarators::part_type-returns-in_ok-add_type-in-Pointer-clause-agrees : goal.declarators::part_type-returns-in_ok-add_type-in-Pointer-clause-agrees
 declarators::part_type-returns-in_ok-add_type-in-Pointer-clause-agrees t c =
-    λ ps h. pointer_made c.args.tree.now c.args.part.now ps c.args.env.now c.note_size.new.env c.add_type.new.self c.args.ty c.in_ok-add_type-in-Pointer.field-0 c.in-Pointer.is h c.note_size.ensures.table c.note_size.ensures.noted c.in_ok-add_type-in-Pointer.ensures.names c.in_ok-add_type-in-Pointer.ensures.kept.large
+    λ ps h. pointer_made c.args.tree.now c.args.part.now ps c.args.env.now c.note_size.new.env c.add_type.new.self c.args.ty c.in_ok-add_type-in-Pointer.field-0 c.in-Pointer.is h c.note_size.ensures.table c.note_size.ensures.noted c.in_ok-add_type-in-Pointer.ensures.names c.in_ok-add_type-in-Pointer.ensures.kept.notes
 
 pub declarators::part_type-returns-in_ok-add_type-in-Pointer-clause-kept : goal.declarators::part_type-returns-in_ok-add_type-in-Pointer-clause-kept
 declarators::part_type-returns-in_ok-add_type-in-Pointer-clause-kept t c =
@@ -800,8 +801,8 @@ pub declarators::array-expression-requires : goal.declarators::array-expression-
 declarators::array-expression-requires t c =
     (omega arith, c.requires.size)
 
-pub declarators::array-array_of_length-requires : goal.declarators::array-array_of_length-requires
-declarators::array-array_of_length-requires t c =
+pub declarators::array-array_with_length-requires : goal.declarators::array-array_with_length-requires
+declarators::array-array_with_length-requires t c =
     let inside : IsBelow (length c.note_size.new.env.table.types) c.args.element = subst (λ (u : Table). IsBelow (length u.types) c.args.element) (sym c.note_size.ensures.table) c.requires.element in
     record { element = type_inside _ _ _ c.in_ok-size.ensures.kept.numbers inside; size = node_found _ _ _ _ _ (c.in_ok-size.ensures.agrees c.requires.size.0 c.requires.size.1) }
 
@@ -830,11 +831,11 @@ declarators::array-returns-clause-agrees t c =
     let type : type_at c.expression.new.env.table.types c.args.element ≡ type_at c.args.env.now.table.types c.args.element =
     type_stays c.note_size.new.env.table c.expression.new.env.table c.args.element c.in_ok-size.ensures.kept.numbers inside ∙ ap (λ (u : Table). type_at u.types c.args.element) c.note_size.ensures.table in
     λ x h. array_made c.args.env.now c.note_size.new.env c.args.from x (type_at c.args.env.now.table.types c.args.element) c.in_ok-complete.ensures.agrees c.note_size.ensures.env c.note_size.ensures.noted
-    c.expression.new.env c.array_of_length.new.env c.args.element c.in_ok-size.size c.array_of_length.result (c.in_ok-size.ensures.agrees x h) type c.array_of_length.ensures.agrees c.array_of_length.ensures.kept.large
+    c.expression.new.env c.array_with_length.new.env c.args.element c.in_ok-size.size c.array_with_length.result (c.in_ok-size.ensures.agrees x h) type c.array_with_length.ensures.agrees
 
 pub declarators::array-returns-clause-kept : goal.declarators::array-returns-clause-kept
 declarators::array-returns-clause-kept t c =
-    then_stay _ _ _ (sized_stays _ _ c.note_size.ensures.table c.note_size.ensures.env) (then_stay _ _ _ c.in_ok-size.ensures.kept (all_stay _ _ c.array_of_length.ensures.kept))
+    then_stay _ _ _ (sized_stays _ _ c.note_size.ensures.table c.note_size.ensures.env) (then_stay _ _ _ c.in_ok-size.ensures.kept c.array_with_length.ensures.kept)
 
 pub declarators::function-is_result-requires : goal.declarators::function-is_result-requires
 declarators::function-is_result-requires t c =
@@ -867,7 +868,7 @@ declarators::function-returns-in_err-params-clause-kept t c =
 
 pub declarators::function-returns-clause-agrees : goal.declarators::function-returns-clause-agrees
 declarators::function-returns-clause-agrees t c =
-    λ ds h. function_made c.args.env.now c.parameter_types.new.env c.add_type.new.self c.args.from ds c.args.ty c.in_ok-params.params c.in_ok-add_type.field-0 c.requires.ty (sym c.is_result.ensures ∙ c.if-not-is_result.false) (c.in_ok-params.ensures.agrees ds h) c.in_ok-params.ensures.kept c.in_ok-add_type.ensures.names c.in_ok-add_type.ensures.kept.large
+    λ ds h. function_made c.args.env.now c.parameter_types.new.env c.add_type.new.self c.args.from ds c.args.ty c.in_ok-params.params c.in_ok-add_type.field-0 c.requires.ty (sym c.is_result.ensures ∙ c.if-not-is_result.false) (c.in_ok-params.ensures.agrees ds h) c.in_ok-params.ensures.kept c.in_ok-add_type.ensures.names c.in_ok-add_type.ensures.kept.notes
 
 pub declarators::function-returns-clause-kept : goal.declarators::function-returns-clause-kept
 declarators::function-returns-clause-kept t c =
@@ -901,7 +902,7 @@ pub parameters::types_here-loop-place-init : goal.parameters::types_here-loop-pl
 parameters::types_here-loop-place-init t c =
     record {
       kept = stay_around _ _ (stay c.args.env.now);
-      rest = λ ds h. rw c.in_ok-types.ensures.items (parameters_begin c.args.tree.now c.args.env.now.env c.args.env.now.found_large c.args.env.now.table c.args.ids.now ds h);
+      rest = λ ds h. rw c.in_ok-types.ensures.items (parameters_begin c.args.tree.now c.args.env.now.env (notes_of c.args.env.now) c.args.env.now.table c.args.ids.now ds h);
     }
 
 pub parameters::types_here-parameter_type-requires : goal.parameters::types_here-parameter_type-requires
@@ -917,13 +918,13 @@ pub parameters::types_here-loop-place-preserved : goal.parameters::types_here-lo
 parameters::types_here-loop-place-preserved t c =
     record {
       kept = then_stay_around _ _ _ c.loop-place.invariant.kept (then_stay_around _ _ _ (stay_around _ _ c.in_ok-ty.ensures.kept) c.in_ok-declare.ensures.kept);
-      rest = λ ds h. rw c.in_ok-append.ensures (parameters_next c.args.tree.now c.args.env.now.env c.args.env.now.found_large c.loop-place.env c.parameter_type.new.env c.declare.new.env c.loop-place.types.items c.loop-place.place _ _ _ ds c.in_ok-ty.ty (from_here c.args.ids.now c.loop-place.place (record { 0 = 0 }) (omega arith)) c.in_ok-ty.ensures.kept.numbers c.in_ok-declare.ensures.kept.numbers c.in_ok-ty.ensures.kept.env (c.loop-place.invariant.rest ds h) c.in_ok-ty.ensures.agrees c.in_ok-declare.ensures.agrees);
+      rest = λ ds h. rw c.in_ok-append.ensures (parameters_next c.args.tree.now c.args.env.now.env (notes_of c.args.env.now) c.loop-place.env c.parameter_type.new.env c.declare.new.env c.loop-place.types.items c.loop-place.place _ _ _ ds c.in_ok-ty.ty (from_here c.args.ids.now c.loop-place.place (record { 0 = 0 }) (omega arith)) c.in_ok-ty.ensures.kept.numbers c.in_ok-declare.ensures.kept.numbers c.in_ok-ty.ensures.kept.env (c.loop-place.invariant.rest ds h) c.in_ok-ty.ensures.agrees c.in_ok-declare.ensures.agrees);
     }
 
 pub parameters::types_here-returns-in_err-ty-clause-agrees : goal.parameters::types_here-returns-in_err-ty-clause-agrees
 parameters::types_here-returns-in_err-ty-clause-agrees t c =
     let q = err_from_is_err_and c.from_residual-in_err-ty.result c.from_residual-in_err-ty.ensures.1 in
-    λ ds h. failed _ _ (AreTypes c.parameter_type.new.env.table) (parameter_types ds c.args.env.now.env 0) c.from_residual-in_err-ty.result c.in_err-ty.field-0.0 (q.1 ∙ ap Err q.2) (type_stops c.args.tree.now c.args.env.now.env c.args.env.now.found_large c.loop-place.env c.parameter_type.new.env c.parameter_type.new.env.table c.loop-place.types.items c.loop-place.place _ _ _ ds c.in_err-ty.field-0.0 (from_here c.args.ids.now c.loop-place.place (record { 0 = 0 }) (omega arith)) (c.loop-place.invariant.rest ds h) c.in_err-ty.ensures.agrees)
+    λ ds h. failed _ _ (AreTypes c.parameter_type.new.env.table) (parameter_types ds c.args.env.now.env 0) c.from_residual-in_err-ty.result c.in_err-ty.field-0.0 (q.1 ∙ ap Err q.2) (type_stops c.args.tree.now c.args.env.now.env (notes_of c.args.env.now) c.loop-place.env c.parameter_type.new.env c.parameter_type.new.env.table c.loop-place.types.items c.loop-place.place _ _ _ ds c.in_err-ty.field-0.0 (from_here c.args.ids.now c.loop-place.place (record { 0 = 0 }) (omega arith)) (c.loop-place.invariant.rest ds h) c.in_err-ty.ensures.agrees)
 
 pub parameters::types_here-returns-in_err-ty-clause-kept : goal.parameters::types_here-returns-in_err-ty-clause-kept
 parameters::types_here-returns-in_err-ty-clause-kept t c =
@@ -932,7 +933,7 @@ parameters::types_here-returns-in_err-ty-clause-kept t c =
 pub parameters::types_here-returns-in_err-declare-clause-agrees : goal.parameters::types_here-returns-in_err-declare-clause-agrees
 parameters::types_here-returns-in_err-declare-clause-agrees t c =
     let q = err_from_is_err_and c.from_residual-in_err-declare.result c.from_residual-in_err-declare.ensures.1 in
-    λ ds h. failed _ _ (AreTypes c.declare.new.env.table) (parameter_types ds c.args.env.now.env 0) c.from_residual-in_err-declare.result c.in_err-declare.field-0.0 (q.1 ∙ ap Err q.2) (scope_stops c.args.tree.now c.args.env.now.env c.args.env.now.found_large c.loop-place.env c.parameter_type.new.env c.declare.new.env c.loop-place.types.items c.loop-place.place _ _ _ ds c.in_ok-ty.ty c.in_err-declare.field-0.0 (from_here c.args.ids.now c.loop-place.place (record { 0 = 0 }) (omega arith)) c.in_ok-ty.ensures.kept.env (c.loop-place.invariant.rest ds h) c.in_ok-ty.ensures.agrees c.in_err-declare.ensures.agrees)
+    λ ds h. failed _ _ (AreTypes c.declare.new.env.table) (parameter_types ds c.args.env.now.env 0) c.from_residual-in_err-declare.result c.in_err-declare.field-0.0 (q.1 ∙ ap Err q.2) (scope_stops c.args.tree.now c.args.env.now.env (notes_of c.args.env.now) c.loop-place.env c.parameter_type.new.env c.declare.new.env c.loop-place.types.items c.loop-place.place _ _ _ ds c.in_ok-ty.ty c.in_err-declare.field-0.0 (from_here c.args.ids.now c.loop-place.place (record { 0 = 0 }) (omega arith)) c.in_ok-ty.ensures.kept.env (c.loop-place.invariant.rest ds h) c.in_ok-ty.ensures.agrees c.in_err-declare.ensures.agrees)
 
 pub parameters::types_here-returns-in_err-declare-clause-kept : goal.parameters::types_here-returns-in_err-declare-clause-kept
 parameters::types_here-returns-in_err-declare-clause-kept t c =
@@ -948,7 +949,7 @@ parameters::types_here-returns-in_err-types-clause-kept t c =
 
 pub parameters::types_here-returns-clause-agrees : goal.parameters::types_here-returns-clause-agrees
 parameters::types_here-returns-clause-agrees t c =
-    λ ds h. rw c.from.ensures (parameters_end c.args.tree.now c.args.env.now.env c.args.env.now.found_large c.loop-place.env c.loop-place.types.items c.loop-place.place _ ds (drop_all c.loop-place.place c.args.ids.now (omega arith)) (c.loop-place.invariant.rest ds h))
+    λ ds h. rw c.from.ensures (parameters_end c.args.tree.now c.args.env.now.env (notes_of c.args.env.now) c.loop-place.env c.loop-place.types.items c.loop-place.place _ ds (drop_all c.loop-place.place c.args.ids.now (omega arith)) (c.loop-place.invariant.rest ds h))
 
 pub parameters::types_here-returns-clause-kept : goal.parameters::types_here-returns-clause-kept
 parameters::types_here-returns-clause-kept t c =
@@ -980,7 +981,7 @@ parameters::parameter_type-returns-in_err-annotation_types-clause-agrees t c =
     let q = err_from_is_err_and c.from_residual.result c.from_residual.ensures.1 in
     λ e h.
     let p = decl_parts c.args.tree.now c.args.id c.decl-decl.result.now c.decl-decl.ensures.node e h in
-    failed _ _ (IsType c.annotation_types.new.env.table) (parameter_type e c.args.env.now.env) c.from_residual.result c.in_err-annotation_types.field-0.0 (q.1 ∙ ap Err q.2) (passed c.args.env.now.found_large c.annotation_types.new.env.found_large (IsType c.annotation_types.new.env.table) _ _ (Err c.in_err-annotation_types.field-0.0) (p.as_parameter c.args.env.now.env) (annotations_stop p.annots p.parts (base_type c.args.env.now.env c.decl-decl.result.now.base) c.decl-decl.result.now.from c.args.env.now c.annotation_types.new.env c.in_err-annotation_types.field-0.0 (c.in_err-annotation_types.ensures.agrees p.annots (subst (λ vs. StandAnnots c.args.tree.now vs p.annots) (sym c.as_slice.ensures.items) p.on_annots))))
+    failed _ _ (IsType c.annotation_types.new.env.table) (parameter_type e c.args.env.now.env) c.from_residual.result c.in_err-annotation_types.field-0.0 (q.1 ∙ ap Err q.2) (passed (notes_of c.args.env.now) (notes_of c.annotation_types.new.env) (IsType c.annotation_types.new.env.table) _ _ (Err c.in_err-annotation_types.field-0.0) (p.as_parameter c.args.env.now.env) (annotations_stop p.annots p.parts (base_type c.args.env.now.env c.decl-decl.result.now.base) c.decl-decl.result.now.from c.args.env.now c.annotation_types.new.env c.in_err-annotation_types.field-0.0 (c.in_err-annotation_types.ensures.agrees p.annots (subst (λ vs. StandAnnots c.args.tree.now vs p.annots) (sym c.as_slice.ensures.items) p.on_annots))))
 
 pub parameters::parameter_type-returns-in_err-annotation_types-clause-kept : goal.parameters::parameter_type-returns-in_err-annotation_types-clause-kept
 parameters::parameter_type-returns-in_err-annotation_types-clause-kept t c =
@@ -996,7 +997,7 @@ parameters::parameter_type-returns-in_err-ty-clause-agrees t c =
     let names = subst (λ F. Names c.base_type.new.self.table.types c.in_ok-base.base (base_type F c.decl-decl.result.now.base)) c.in_ok-annotation_types.ensures.kept.env c.in_ok-base.ensures.names in
     λ e h.
     let p = decl_parts c.args.tree.now c.args.id c.decl-decl.result.now c.decl-decl.ensures.node e h in
-    failed _ _ (IsType c.declarator.new.env.table) (parameter_type e c.args.env.now.env) c.from_residual-in_err-ty.result c.in_err-ty.field-0.0 (q.1 ∙ ap Err q.2) (passed c.args.env.now.found_large c.declarator.new.env.found_large (IsType c.declarator.new.env.table) _ _ (Err c.in_err-ty.field-0.0) (p.as_parameter c.args.env.now.env) (declarator_stops p.annots p.parts (base_type c.args.env.now.env c.decl-decl.result.now.base) c.decl-decl.result.now.from c.args.env.now c.annotation_types.new.env c.base_type.new.self c.in_ok-base.base (c.in_ok-annotation_types.ensures.agrees p.annots (subst (λ vs. StandAnnots c.args.tree.now vs p.annots) (sym c.as_slice.ensures.items) p.on_annots)) c.in_ok-annotation_types.ensures.kept.env names c.in_ok-base.ensures.kept c.declarator.new.env c.in_err-ty.field-0.0 (c.in_err-ty.ensures.agrees p.parts (subst (λ vs. StandParts c.args.tree.now vs p.parts) (sym c.as_slice-2.ensures.items) p.on_parts))))
+    failed _ _ (IsType c.declarator.new.env.table) (parameter_type e c.args.env.now.env) c.from_residual-in_err-ty.result c.in_err-ty.field-0.0 (q.1 ∙ ap Err q.2) (passed (notes_of c.args.env.now) (notes_of c.declarator.new.env) (IsType c.declarator.new.env.table) _ _ (Err c.in_err-ty.field-0.0) (p.as_parameter c.args.env.now.env) (declarator_stops p.annots p.parts (base_type c.args.env.now.env c.decl-decl.result.now.base) c.decl-decl.result.now.from c.args.env.now c.annotation_types.new.env c.base_type.new.self c.in_ok-base.base (c.in_ok-annotation_types.ensures.agrees p.annots (subst (λ vs. StandAnnots c.args.tree.now vs p.annots) (sym c.as_slice.ensures.items) p.on_annots)) c.in_ok-annotation_types.ensures.kept.env names c.in_ok-base.ensures.kept c.declarator.new.env c.in_err-ty.field-0.0 (c.in_err-ty.ensures.agrees p.parts (subst (λ vs. StandParts c.args.tree.now vs p.parts) (sym c.as_slice-2.ensures.items) p.on_parts))))
 
 pub parameters::parameter_type-returns-in_err-ty-clause-kept : goal.parameters::parameter_type-returns-in_err-ty-clause-kept
 parameters::parameter_type-returns-in_err-ty-clause-kept t c =
@@ -1007,7 +1008,7 @@ parameters::parameter_type-returns-clause-agrees t c =
     let names = subst (λ F. Names c.base_type.new.self.table.types c.in_ok-base.base (base_type F c.decl-decl.result.now.base)) c.in_ok-annotation_types.ensures.kept.env c.in_ok-base.ensures.names in
     λ e h.
     let p = decl_parts c.args.tree.now c.args.id c.decl-decl.result.now c.decl-decl.ensures.node e h in
-    passed _ _ (IsType c.adjusted.new.env.table) _ _ c.adjusted.result (p.as_parameter c.args.env.now.env) (parameter_made p.annots p.parts (base_type c.args.env.now.env c.decl-decl.result.now.base) c.decl-decl.result.now.from c.args.env.now c.annotation_types.new.env c.base_type.new.self c.in_ok-base.base (c.in_ok-annotation_types.ensures.agrees p.annots (subst (λ vs. StandAnnots c.args.tree.now vs p.annots) (sym c.as_slice.ensures.items) p.on_annots)) c.in_ok-annotation_types.ensures.kept.env names c.in_ok-base.ensures.kept c.declarator.new.env c.adjusted.new.env c.in_ok-ty.ty c.adjusted.result (c.in_ok-ty.ensures.agrees p.parts (subst (λ vs. StandParts c.args.tree.now vs p.parts) (sym c.as_slice-2.ensures.items) p.on_parts)) c.adjusted.ensures.agrees c.adjusted.ensures.kept.large)
+    passed _ _ (IsType c.adjusted.new.env.table) _ _ c.adjusted.result (p.as_parameter c.args.env.now.env) (parameter_made p.annots p.parts (base_type c.args.env.now.env c.decl-decl.result.now.base) c.decl-decl.result.now.from c.args.env.now c.annotation_types.new.env c.base_type.new.self c.in_ok-base.base (c.in_ok-annotation_types.ensures.agrees p.annots (subst (λ vs. StandAnnots c.args.tree.now vs p.annots) (sym c.as_slice.ensures.items) p.on_annots)) c.in_ok-annotation_types.ensures.kept.env names c.in_ok-base.ensures.kept c.declarator.new.env c.adjusted.new.env c.in_ok-ty.ty c.adjusted.result (c.in_ok-ty.ensures.agrees p.parts (subst (λ vs. StandParts c.args.tree.now vs p.parts) (sym c.as_slice-2.ensures.items) p.on_parts)) c.adjusted.ensures.agrees c.adjusted.ensures.kept.notes)
 
 pub parameters::parameter_type-returns-clause-kept : goal.parameters::parameter_type-returns-clause-kept
 parameters::parameter_type-returns-clause-kept t c =
@@ -1017,7 +1018,7 @@ pub annotations::annotation_types-loop-annot-init : goal.annotations::annotation
 annotations::annotation_types-loop-annot-init t c =
     record {
       kept = stay c.args.env.now;
-      rest = λ xs h. annots_begin c.args.tree.now c.args.env.now.env c.args.env.now.found_large c.args.annots.now xs h;
+      rest = λ xs h. annots_begin c.args.tree.now c.args.env.now.env (notes_of c.args.env.now) c.args.annots.now xs h;
     }
 
 pub annotations::annotation_types-item_types-requires : goal.annotations::annotation_types-item_types-requires
@@ -1030,13 +1031,13 @@ pub annotations::annotation_types-loop-annot-preserved : goal.annotations::annot
 annotations::annotation_types-loop-annot-preserved t c =
     record {
       kept = then_stay _ _ _ c.loop-annot.invariant.kept c.in_ok-item_types.ensures.kept;
-      rest = λ xs h. annots_next c.args.tree.now c.args.env.now.env c.args.env.now.found_large c.loop-annot.env c.item_types.new.env c.annot-item.result _ _ xs (from_here c.args.annots.now c.loop-annot.annot-index c.annot-item.result (omega arith) ∙ ap (λ w. w ∷ drop (c.loop-annot.annot-index + 1) c.args.annots.now) (sym c.annot-item.is)) c.loop-annot.invariant.kept.env (c.loop-annot.invariant.rest xs h) (λ is s. c.in_ok-item_types.ensures.agrees is (subst (λ ws. StandItems c.args.tree.now ws is) (sym c.as_slice.ensures.items) s));
+      rest = λ xs h. annots_next c.args.tree.now c.args.env.now.env (notes_of c.args.env.now) c.loop-annot.env c.item_types.new.env c.annot-item.result _ _ xs (from_here c.args.annots.now c.loop-annot.annot-index c.annot-item.result (omega arith) ∙ ap (λ w. w ∷ drop (c.loop-annot.annot-index + 1) c.args.annots.now) (sym c.annot-item.is)) c.loop-annot.invariant.kept.env (c.loop-annot.invariant.rest xs h) (λ is s. c.in_ok-item_types.ensures.agrees is (subst (λ ws. StandItems c.args.tree.now ws is) (sym c.as_slice.ensures.items) s));
     }
 
 pub annotations::annotation_types-returns-in_err-item_types-clause-agrees : goal.annotations::annotation_types-returns-in_err-item_types-clause-agrees
 annotations::annotation_types-returns-in_err-item_types-clause-agrees t c =
     let q = err_from_is_err_and c.from_residual.result c.from_residual.ensures.1 in
-    λ xs h. failed _ _ IsNothing (annotation_types xs c.args.env.now.env) c.from_residual.result c.in_err-item_types.field-0.0 (q.1 ∙ ap Err q.2) (annots_stop c.args.tree.now c.args.env.now.env c.args.env.now.found_large c.loop-annot.env c.item_types.new.env c.annot-item.result _ _ xs c.in_err-item_types.field-0.0 (from_here c.args.annots.now c.loop-annot.annot-index c.annot-item.result (omega arith) ∙ ap (λ w. w ∷ drop (c.loop-annot.annot-index + 1) c.args.annots.now) (sym c.annot-item.is)) c.loop-annot.invariant.kept.env (c.loop-annot.invariant.rest xs h) (λ is s. c.in_err-item_types.ensures.agrees is (subst (λ ws. StandItems c.args.tree.now ws is) (sym c.as_slice.ensures.items) s)))
+    λ xs h. failed _ _ IsNothing (annotation_types xs c.args.env.now.env) c.from_residual.result c.in_err-item_types.field-0.0 (q.1 ∙ ap Err q.2) (annots_stop c.args.tree.now c.args.env.now.env (notes_of c.args.env.now) c.loop-annot.env c.item_types.new.env c.annot-item.result _ _ xs c.in_err-item_types.field-0.0 (from_here c.args.annots.now c.loop-annot.annot-index c.annot-item.result (omega arith) ∙ ap (λ w. w ∷ drop (c.loop-annot.annot-index + 1) c.args.annots.now) (sym c.annot-item.is)) c.loop-annot.invariant.kept.env (c.loop-annot.invariant.rest xs h) (λ is s. c.in_err-item_types.ensures.agrees is (subst (λ ws. StandItems c.args.tree.now ws is) (sym c.as_slice.ensures.items) s)))
 
 pub annotations::annotation_types-returns-in_err-item_types-clause-kept : goal.annotations::annotation_types-returns-in_err-item_types-clause-kept
 annotations::annotation_types-returns-in_err-item_types-clause-kept t c =
@@ -1044,7 +1045,7 @@ annotations::annotation_types-returns-in_err-item_types-clause-kept t c =
 
 pub annotations::annotation_types-returns-clause-agrees : goal.annotations::annotation_types-returns-clause-agrees
 annotations::annotation_types-returns-clause-agrees t c =
-    λ xs h. annots_end c.args.tree.now c.args.env.now.env c.args.env.now.found_large c.loop-annot.env.found_large _ xs (drop_all c.loop-annot.annot-index c.args.annots.now (omega arith)) (c.loop-annot.invariant.rest xs h)
+    λ xs h. annots_end c.args.tree.now c.args.env.now.env (notes_of c.args.env.now) (notes_of c.loop-annot.env) _ xs (drop_all c.loop-annot.annot-index c.args.annots.now (omega arith)) (c.loop-annot.invariant.rest xs h)
 
 pub annotations::annotation_types-returns-clause-kept : goal.annotations::annotation_types-returns-clause-kept
 annotations::annotation_types-returns-clause-kept t c =
@@ -1054,7 +1055,7 @@ pub annotations::item_types-loop-item-init : goal.annotations::item_types-loop-i
 annotations::item_types-loop-item-init t c =
     record {
       kept = stay c.args.env.now;
-      rest = λ xs h. items_begin c.args.tree.now c.args.env.now.env c.args.env.now.found_large c.args.items.now xs h;
+      rest = λ xs h. items_begin c.args.tree.now c.args.env.now.env (notes_of c.args.env.now) c.args.items.now xs h;
     }
 
 pub annotations::item_types-item_type-requires : goal.annotations::item_types-item_type-requires
@@ -1067,13 +1068,13 @@ pub annotations::item_types-loop-item-preserved : goal.annotations::item_types-l
 annotations::item_types-loop-item-preserved t c =
     record {
       kept = then_stay _ _ _ c.loop-item.invariant.kept c.in_ok-item_type.ensures.kept;
-      rest = λ xs h. items_next c.args.tree.now c.args.env.now.env c.args.env.now.found_large c.loop-item.env c.item_type.new.env c.item-item.result _ _ xs (from_here c.args.items.now c.loop-item.item-index c.item-item.result (omega arith) ∙ ap (λ w. w ∷ drop (c.loop-item.item-index + 1) c.args.items.now) (sym c.item-item.is)) c.loop-item.invariant.kept.env (c.loop-item.invariant.rest xs h) c.in_ok-item_type.ensures.agrees;
+      rest = λ xs h. items_next c.args.tree.now c.args.env.now.env (notes_of c.args.env.now) c.loop-item.env c.item_type.new.env c.item-item.result _ _ xs (from_here c.args.items.now c.loop-item.item-index c.item-item.result (omega arith) ∙ ap (λ w. w ∷ drop (c.loop-item.item-index + 1) c.args.items.now) (sym c.item-item.is)) c.loop-item.invariant.kept.env (c.loop-item.invariant.rest xs h) c.in_ok-item_type.ensures.agrees;
     }
 
 pub annotations::item_types-returns-in_err-item_type-clause-agrees : goal.annotations::item_types-returns-in_err-item_type-clause-agrees
 annotations::item_types-returns-in_err-item_type-clause-agrees t c =
     let q = err_from_is_err_and c.from_residual.result c.from_residual.ensures.1 in
-    λ xs h. failed _ _ IsNothing (item_types xs c.args.env.now.env) c.from_residual.result c.in_err-item_type.field-0.0 (q.1 ∙ ap Err q.2) (items_stop c.args.tree.now c.args.env.now.env c.args.env.now.found_large c.loop-item.env c.item_type.new.env c.item-item.result _ _ xs c.in_err-item_type.field-0.0 (from_here c.args.items.now c.loop-item.item-index c.item-item.result (omega arith) ∙ ap (λ w. w ∷ drop (c.loop-item.item-index + 1) c.args.items.now) (sym c.item-item.is)) c.loop-item.invariant.kept.env (c.loop-item.invariant.rest xs h) c.in_err-item_type.ensures.agrees)
+    λ xs h. failed _ _ IsNothing (item_types xs c.args.env.now.env) c.from_residual.result c.in_err-item_type.field-0.0 (q.1 ∙ ap Err q.2) (items_stop c.args.tree.now c.args.env.now.env (notes_of c.args.env.now) c.loop-item.env c.item_type.new.env c.item-item.result _ _ xs c.in_err-item_type.field-0.0 (from_here c.args.items.now c.loop-item.item-index c.item-item.result (omega arith) ∙ ap (λ w. w ∷ drop (c.loop-item.item-index + 1) c.args.items.now) (sym c.item-item.is)) c.loop-item.invariant.kept.env (c.loop-item.invariant.rest xs h) c.in_err-item_type.ensures.agrees)
 
 pub annotations::item_types-returns-in_err-item_type-clause-kept : goal.annotations::item_types-returns-in_err-item_type-clause-kept
 annotations::item_types-returns-in_err-item_type-clause-kept t c =
@@ -1081,7 +1082,7 @@ annotations::item_types-returns-in_err-item_type-clause-kept t c =
 
 pub annotations::item_types-returns-clause-agrees : goal.annotations::item_types-returns-clause-agrees
 annotations::item_types-returns-clause-agrees t c =
-    λ xs h. items_end c.args.tree.now c.args.env.now.env c.args.env.now.found_large c.loop-item.env.found_large _ xs (drop_all c.loop-item.item-index c.args.items.now (omega arith)) (c.loop-item.invariant.rest xs h)
+    λ xs h. items_end c.args.tree.now c.args.env.now.env (notes_of c.args.env.now) (notes_of c.loop-item.env) _ xs (drop_all c.loop-item.item-index c.args.items.now (omega arith)) (c.loop-item.invariant.rest xs h)
 
 pub annotations::item_types-returns-clause-kept : goal.annotations::item_types-returns-clause-kept
 annotations::item_types-returns-clause-kept t c =
@@ -1134,8 +1135,8 @@ annotations::atom_type-returns-in_err-ty-in-Sizeof-clause-agrees t c =
     let q = err_from_is_err_and c.from_residual.result c.from_residual.ensures.1 in
     λ x h.
     let p = sizeof_atom c.args.tree.now c.args.atom.now c.in-Sizeof.name x c.in-Sizeof.is h in
-    failed _ _ IsNothing (atom_type x c.args.env.now.env c.args.from) c.from_residual.result c.in_err-ty-in-Sizeof.field-0.0 (q.1 ∙ ap Err q.2) (passed c.args.env.now.found_large c.declared_type.new.env.found_large IsNothing _ _ (Err c.in_err-ty-in-Sizeof.field-0.0) (ap (λ a. atom_type a c.args.env.now.env c.args.from) p.1)
-    (stopped_in c.args.env.now.found_large c.declared_type.new.env.found_large c.declared_type.new.env.found_large (IsType c.declared_type.new.env.table) IsNothing (declared_type p.0 c.args.env.now.env) (sized (extents c.args.env.now.env) c.args.from) c.in_err-ty-in-Sizeof.field-0.0 (c.in_err-ty-in-Sizeof.ensures.agrees p.0 p.2)))
+    failed _ _ IsNothing (atom_type x c.args.env.now.env c.args.from) c.from_residual.result c.in_err-ty-in-Sizeof.field-0.0 (q.1 ∙ ap Err q.2) (passed (notes_of c.args.env.now) (notes_of c.declared_type.new.env) IsNothing _ _ (Err c.in_err-ty-in-Sizeof.field-0.0) (ap (λ a. atom_type a c.args.env.now.env c.args.from) p.1)
+    (stopped_in (notes_of c.args.env.now) (notes_of c.declared_type.new.env) (notes_of c.declared_type.new.env) (IsType c.declared_type.new.env.table) IsNothing (declared_type p.0 c.args.env.now.env) (sized (extents c.args.env.now.env) c.args.from) c.in_err-ty-in-Sizeof.field-0.0 (c.in_err-ty-in-Sizeof.ensures.agrees p.0 p.2)))
 
 pub annotations::atom_type-returns-in_err-ty-in-Sizeof-clause-kept : goal.annotations::atom_type-returns-in_err-ty-in-Sizeof-clause-kept
 annotations::atom_type-returns-in_err-ty-in-Sizeof-clause-kept t c =

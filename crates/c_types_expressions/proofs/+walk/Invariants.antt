@@ -1,4 +1,5 @@
 use Rattle.std.proofs.Common.{◌+◌, ◌*◌, ◌<◌, length, [], ◌∷◌, map, drop}
+use Rattle.c_types_environment.specs.States.{notes_of}
 use Rattle.c_syntax.specs.Stands.{StandAnnots, StandItems, StandParts, StandDecls, StandExprs}
 use Rattle.c_syntax.specs.Syntax.{Annots, Items, Parts, Decls, Exprs}
 use Rattle.c_builtins.specs.Table.{params_of}
@@ -69,26 +70,26 @@ decreases-annotations::atom_type l = 16 * greatest (height_in l.tree.now) (by_at
 abbrev pub invariant-annotations::annotation_types-loop-annot : goal.invariant-annotations::annotation_types-loop-annot
 invariant-annotations::annotation_types-loop-annot l = record {
   kept : Stays l.fn.env l.env;
-  rest : (xs : Annots) → StandAnnots l.tree l.annots xs → RestOfAnnots l.tree l.fn.env.env l.fn.env.found_large l.env.found_large (drop l.annot-index l.annots) xs;
+  rest : (xs : Annots) → StandAnnots l.tree l.annots xs → RestOfAnnots l.tree l.fn.env.env (notes_of l.fn.env) (notes_of l.env) (drop l.annot-index l.annots) xs;
 }
 
 abbrev pub invariant-annotations::item_types-loop-item : goal.invariant-annotations::item_types-loop-item
 invariant-annotations::item_types-loop-item l = record {
   kept : Stays l.fn.env l.env;
-  rest : (xs : Items) → StandItems l.tree l.items xs → RestOfItems l.tree l.fn.env.env l.fn.env.found_large l.env.found_large (drop l.item-index l.items) xs;
+  rest : (xs : Items) → StandItems l.tree l.items xs → RestOfItems l.tree l.fn.env.env (notes_of l.fn.env) (notes_of l.env) (drop l.item-index l.items) xs;
 }
 
 abbrev pub invariant-declarators::declarator-loop-part : goal.invariant-declarators::declarator-loop-part
 invariant-declarators::declarator-loop-part l = record {
   kept : Stays l.fn.env l.env;
   inside : l.made.0 < length l.env.table.types;
-  rest : (ps : Parts) → StandParts l.tree l.parts ps → RestOfParts l.tree l.fn.env.env l.fn.env.found_large l.env.found_large (drop l.part-index l.parts) ps (type_at l.fn.env.table.types l.fn.ty) (type_at l.env.table.types l.made);
+  rest : (ps : Parts) → StandParts l.tree l.parts ps → RestOfParts l.tree l.fn.env.env (notes_of l.fn.env) (notes_of l.env) (drop l.part-index l.parts) ps (type_at l.fn.env.table.types l.fn.ty) (type_at l.env.table.types l.made);
 }
 
 abbrev pub invariant-parameters::types_here-loop-place : goal.invariant-parameters::types_here-loop-place
 invariant-parameters::types_here-loop-place l = record {
   kept : StaysAround l.fn.env l.env;
-  rest : (ds : Decls) → StandDecls l.tree l.ids ds → RestOfParameters l.tree l.fn.env.env l.env.env l.fn.env.found_large l.env.found_large l.env.table l.types.items l.place (drop l.place l.ids) ds;
+  rest : (ds : Decls) → StandDecls l.tree l.ids ds → RestOfParameters l.tree l.fn.env.env l.env.env (notes_of l.fn.env) (notes_of l.env) l.env.table l.types.items l.place (drop l.place l.ids) ds;
 }
 
 abbrev pub invariant-calls::arguments-loop-number : goal.invariant-calls::arguments-loop-number
@@ -96,5 +97,5 @@ invariant-calls::arguments-loop-number l =
     let ts = params_of (type_at l.fn.env.table.types l.function) in
     record {
       kept : Stays l.fn.env l.env;
-      rest : (xs : Exprs) → StandExprs l.tree l.ids xs → RestOfArguments l.tree l.fn.env.env l.from l.fn.env.found_large l.env.found_large l.env.table l.values.items (drop l.number l.ids) xs ts (types_after l.number ts);
+      rest : (xs : Exprs) → StandExprs l.tree l.ids xs → RestOfArguments l.tree l.fn.env.env l.from (notes_of l.fn.env) (notes_of l.env) l.env.table l.values.items (drop l.number l.ids) xs ts (types_after l.number ts);
     }

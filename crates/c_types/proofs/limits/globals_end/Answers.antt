@@ -28,7 +28,7 @@ returns c =
     let types = env.table.types in
     let gs = c.args.globals.now in
     λ p same read.
-    let seen = ap (map type_of) read ∙ types_seen types gs in
+    let seen = ap (map type_of) read ∙ types_seen env.table gs in
     let all = extents_are env.env p (types_of_globals types gs) same in
     ends_there (extents env.env) (types_of_globals types gs) c.loop-global.global-index c.loop-global.end _ (mapped_end (λ x. type_at types x.ty) gs c.loop-global.global-index c.loop-global-test.false) c.loop-global.invariant.fits c.loop-global.invariant.ends
     ∙ (ap (λ es. capped (end_from 0 es)) (sym all) ∙ ap (λ ts. capped (end_from 0 (extents_in p ts))) (sym seen))

@@ -1,4 +1,5 @@
 use Rattle.std.proofs.Common.{◌≡◌, Err, ap, ◌∙◌, subst}
+use Rattle.c_types_environment.specs.States.{notes_of}
 use Rattle.std.proofs.lemmas.Result.{err_from_is_err_and}
 use Rattle.c_types_table.specs.Tables.{type_at}
 use Rattle.c_types_operators.specs.Answers.{Agrees}
@@ -19,7 +20,7 @@ returns-in_err-complete-clause-agrees c =
     let b = c.declared_type.new.env in
     let ms = c.args.members.now in
     let is = MemberIs (members_in a.table ms) (members_in b.table ms) in
-    λ y z. found_failed a.found_large b.found_large is _ c.from_residual-in_err-complete.result c.in_err-complete.field-0.0 (q.1 ∙ ap Err q.2)
+    λ y z. found_failed (notes_of a) (notes_of b) is _ c.from_residual-in_err-complete.result c.in_err-complete.field-0.0 (q.1 ∙ ap Err q.2)
     (member_incomplete c.args.tree.now c.args.id c.decl-decl.result.now c.decl-decl.ensures.node a b (members_in a.table ms) c.in_ok-ty.ty c.in_ok-ty.ensures.agrees c.in_ok-ty.ensures.kept is c.in_err-complete.field-0.0 c.in_err-complete.ensures.agrees y z)
 
 pub returns-clause-agrees : goal.returns-clause-agrees

@@ -1,4 +1,5 @@
 use Rattle.std.proofs.Common.{drop}
+use Rattle.c_types_environment.specs.States.{notes_of}
 use Rattle.c_syntax.specs.Syntax.{Decls}
 use Rattle.c_syntax.specs.Stands.{StandDecls}
 use Rattle.c_types_expressions.specs.Found.{Stays}
@@ -10,5 +11,5 @@ abbrev pub invariant-loop-id : goal.invariant-loop-id
 invariant-loop-id l = record {
   kept : Stays l.fn.env l.env;
   below : AreBelow l.env.table l.members;
-  rest : (ds : Decls) → StandDecls l.tree l.ids ds → RestOfMembers l.tree l.fn.env.env l.fn.env.found_large l.env.found_large (drop l.id-index l.ids) ds (members_in l.env.table l.members);
+  rest : (ds : Decls) → StandDecls l.tree l.ids ds → RestOfMembers l.tree l.fn.env.env (notes_of l.fn.env) (notes_of l.env) (drop l.id-index l.ids) ds (members_in l.env.table l.members);
 }

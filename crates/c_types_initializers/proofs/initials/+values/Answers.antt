@@ -1,4 +1,5 @@
 use Rattle.std.proofs.Common.{◌≡◌, ◌+◌, List, [], ◌∷◌, ◌++◌, drop, true, Ok, Err, refl, sym, ap, ◌∙◌, subst, arith}
+use Rattle.c_types_environment.specs.States.{notes_of}
 use Rattle.std.specs.Prelude.{replicate}
 use Rattle.std.specs.Result.{is_ok}
 use Rattle.c_types_operators.specs.declared.error.TypeError.TheVariants.{Rule}
@@ -62,7 +63,7 @@ elements-returns-in_err-one-clause-agrees t c xs s =
     let type = type_at a.table.types c.args.element in
     let kept = c.loop-place.invariant.kept in
     let wrong = c.in_err-one.field-0.0 in
-    handed_on a.found_large n.found_large InVector (elements xs a.env c.args.count type) c.from_residual-in_err-one.result wrong c.from_residual-in_err-one.ensures.1
+    handed_on (notes_of a) (notes_of n) InVector (elements xs a.env c.args.count type) c.from_residual-in_err-one.result wrong c.from_residual-in_err-one.ensures.1
     (as_elements a n xs c.args.count type (Err wrong)
     (value_off N a b c.args.values.now k xs (replicate c.args.count type) c.loop-place.found.items kept (c.loop-place.invariant.rest xs s) d c.loop-place-test.true c.args.element
     (element_type a b c.args.count k c.args.element kept c.requires.element c.if-place-count.false) n wrong (λ x q. c.in_err-one.ensures.agrees x (subst (λ (v : Value). StandsValue N v x) (sym c.index-values-place.is) q))))
@@ -89,7 +90,7 @@ elements-loop-place-preserved t c =
     let items : c.push.new.self.items ≡ c.loop-place.found.items ++ one ∷ [] = pushed c.push.result c.loop-place.found.items (c.loop-place.found.items ++ one ∷ []) ok c.push.ensures.items in
     record {
       kept = then_stay _ _ _ kept c.in_ok-one.ensures.kept;
-      rest = λ xs s. subst (λ (l : List Initial). RestOfValues N a.env a.found_large n.found_large (drop (k + 1) vs) (drop (k + 1) all) xs all l) (sym items)
+      rest = λ xs s. subst (λ (l : List Initial). RestOfValues N a.env (notes_of a) (notes_of n) (drop (k + 1) vs) (drop (k + 1) all) xs all l) (sym items)
           (value_on N a b vs k xs all c.loop-place.found.items kept (c.loop-place.invariant.rest xs s) d c.loop-place-test.true c.args.element
           (element_type a b c.args.count k c.args.element kept c.requires.element c.if-place-count.false) n one (λ x q. c.in_ok-one.ensures.agrees x (subst (λ (v : Value). StandsValue N v x) (sym c.index-values-place.is) q)));
     }
@@ -198,7 +199,7 @@ members-returns-in_err-one-clause-agrees t c xs s =
     let all = types_in a.env.structs c.args.number.0 in
     let kept = c.loop-place.invariant.kept in
     let wrong = c.in_err-one.field-0.0 in
-    handed_on a.found_large n.found_large InVector (members xs a.env all) c.from_residual-in_err-one.result wrong c.from_residual-in_err-one.ensures.1
+    handed_on (notes_of a) (notes_of n) InVector (members xs a.env all) c.from_residual-in_err-one.result wrong c.from_residual-in_err-one.ensures.1
     (value_off N a b c.args.values.now k xs all c.loop-place.found.items kept (c.loop-place.invariant.rest xs s) d c.loop-place-test.true c.in-Some.ty
     (member_type a b c.args.number.0 k c.member_type.result c.in-Some.ty kept c.member_type.ensures.ty c.in-Some.is) n wrong (λ x q. c.in_err-one.ensures.agrees x (subst (λ (v : Value). StandsValue N v x) (sym c.index-values-place.is) q)))
 
@@ -224,7 +225,7 @@ members-loop-place-preserved t c =
     let items : c.push.new.self.items ≡ c.loop-place.found.items ++ one ∷ [] = pushed c.push.result c.loop-place.found.items (c.loop-place.found.items ++ one ∷ []) ok c.push.ensures.items in
     record {
       kept = then_stay _ _ _ kept c.in_ok-one.ensures.kept;
-      rest = λ xs s. subst (λ (l : List Initial). RestOfValues N a.env a.found_large n.found_large (drop (k + 1) vs) (drop (k + 1) all) xs all l) (sym items)
+      rest = λ xs s. subst (λ (l : List Initial). RestOfValues N a.env (notes_of a) (notes_of n) (drop (k + 1) vs) (drop (k + 1) all) xs all l) (sym items)
           (value_on N a b vs k xs all c.loop-place.found.items kept (c.loop-place.invariant.rest xs s) d c.loop-place-test.true c.in-Some.ty
           (member_type a b c.args.number.0 k c.member_type.result c.in-Some.ty kept c.member_type.ensures.ty c.in-Some.is) n one (λ x q. c.in_ok-one.ensures.agrees x (subst (λ (v : Value). StandsValue N v x) (sym c.index-values-place.is) q)));
     }

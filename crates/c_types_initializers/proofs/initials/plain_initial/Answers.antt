@@ -1,4 +1,5 @@
 use Rattle.std.proofs.Common.{◌≡◌, List, ap, ◌∙◌, refl, subst}
+use Rattle.c_types_environment.specs.States.{notes_of}
 use Rattle.c_types_table.specs.declared.ty.Ty.{Ty}
 use Rattle.c_types_table.specs.Tables.{made, type_at, types_of}
 use Rattle.c_types_rules.specs.Initials.{plain_initial}
@@ -20,7 +21,7 @@ returns-in_err-known-in_default c =
     let same : c.types.result.now ≡ a.table.types = c.types.ensures ∙ ap (λ t. t.types) c.table.ensures in
     let P : List Ty → Type 0 = λ z. made (types_of z) n ≡ type_at z c.args.ty in
     record {
-      agrees = λ x h. handed_on a.found_large b.found_large IsInitial (plain_initial a.env (type_at a.table.types c.args.ty) x) c.from_residual.result wrong c.from_residual.ensures.1
+      agrees = λ x h. handed_on (notes_of a) (notes_of b) IsInitial (plain_initial a.env (type_at a.table.types c.args.ty) x) c.from_residual.result wrong c.from_residual.ensures.1
           (scalar_broken a b x (types_of a.table.types) n (type_at a.table.types c.args.ty) (subst P same c.get.ensures.meaning) (λ e l q. c.in_default.not-Array e l q) (λ s q. c.in_default.not-Struct s q) wrong (c.in_err-known-in_default.ensures.agrees x h));
       kept = c.in_err-known-in_default.ensures.kept;
     }

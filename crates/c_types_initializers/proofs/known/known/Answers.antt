@@ -1,4 +1,5 @@
 use Rattle.c_types_table.specs.Tables.{type_at}
+use Rattle.c_types_environment.specs.States.{notes_of}
 use Rattle.c_types_rules.specs.Initials.{known}
 use Rattle.c_types_initializers.proofs.Starts.{expr_inside}
 use Rattle.c_types_expressions.proofs.Kept.{all_stay, then_stay}
@@ -15,7 +16,7 @@ returns-in_err-known-clause-agrees c x h =
     let a = c.args.env.now in
     let s = c.known_before.new.env in
     let wrong = c.in_err-known.field-0.0 in
-    handed_on a.found_large s.found_large IsKnown (known a.env (type_at a.table.types c.args.ty) x) c.from_residual-in_err-known.result wrong c.from_residual-in_err-known.ensures.1
+    handed_on (notes_of a) (notes_of s) IsKnown (known a.env (type_at a.table.types c.args.ty) x) c.from_residual-in_err-known.result wrong c.from_residual-in_err-known.ensures.1
     (known_broken a c.expression.new.env x c.args.ty c.in_ok-node.node (c.in_ok-node.ensures.agrees x h) c.in_ok-node.ensures.kept c.requires.ty s wrong (c.in_err-known.ensures.agrees x h))
 
 pub returns-in_err-assigned-clause-agrees : goal.returns-in_err-assigned-clause-agrees
@@ -23,7 +24,7 @@ returns-in_err-assigned-clause-agrees c x h =
     let a = c.args.env.now in
     let e = c.assigned.new.self in
     let wrong = c.in_err-assigned.field-0.0 in
-    handed_on a.found_large e.found_large IsKnown (known a.env (type_at a.table.types c.args.ty) x) c.from_residual-in_err-assigned.result wrong c.from_residual-in_err-assigned.ensures.1
+    handed_on (notes_of a) (notes_of e) IsKnown (known a.env (type_at a.table.types c.args.ty) x) c.from_residual-in_err-assigned.result wrong c.from_residual-in_err-assigned.ensures.1
     (assigned_broken a c.expression.new.env x c.args.ty c.in_ok-node.node (c.in_ok-node.ensures.agrees x h) c.in_ok-node.ensures.kept c.requires.ty c.known_before.new.env c.value_of.new.self e c.in_ok-known.known
     (c.in_ok-known.ensures.agrees x h) c.in_ok-known.ensures.kept c.in_ok-value.ensures.kept c.in_ok-value.value c.in_ok-value.ensures.value c.expr.result.now.from (start_is c.args.tree.now c.args.id x c.expr.result.now h c.expr.ensures.node)
     c.in_err-assigned.ensures.kept wrong c.in_err-assigned.ensures.agrees)

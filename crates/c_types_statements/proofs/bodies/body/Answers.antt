@@ -1,35 +1,50 @@
-use Rattle.std.proofs.Common.{sym, subst}
+use Rattle.std.proofs.Common.{Err, sym, ap, ◌∙◌, subst}
+use Rattle.std.proofs.lemmas.Result.{err_from_is_err_and}
 use Rattle.c_types_table.specs.Tables.{type_at}
-use Rattle.c_types_rules.specs.Sources.{nearest}
-use Rattle.c_types_expressions.specs.Found.{Stays}
-use Rattle.c_types_expressions.proofs.Kept.{stay}
-use Rattle.c_types_statements.proofs.Scoped.{scope_signature, scope_stays, scoped_body, still_open}
+use Rattle.c_types_rules.specs.Sources.{body_of, nearest}
+use Rattle.c_types_expressions.proofs.Kept.{then_stay, type_inside, type_stays}
+use Rattle.c_types_expressions.proofs.Wholes.{failed}
+use Rattle.c_types_statements.specs.Typed.{BodyStands}
+use Rattle.c_types_statements.proofs.WithParameters.{block_stops, body_made, first_broken}
 use Rattle.c_types_statements.proofs.bodies.body.Goals as goal
 
-pub body_here-body-requires : goal.body_here-body-requires
-body_here-body-requires c =
-    let sig = c.in_ok-signature.signature in
-    let is = scope_signature c.args.env.now c.open_scope.new.self c.in_ok-open_scope.ensures.opened (type_at c.args.env.now.table.types c.args.ty) sig c.in_ok-signature.ensures in
-    record { ids = c.nearest_params.ensures.inside c.args.tree.now c.requires.parts; id = c.requires.id; result = is.result.inside; params = is.inside }
+pub heard_parameters-requires : goal.heard_parameters-requires
+heard_parameters-requires c = c.nearest_params.ensures.inside c.args.tree.now c.requires.parts
 
-pub close_scope-requires : goal.close_scope-requires
-close_scope-requires c = still_open c.open_scope.new.self c.body_here-body.new.env c.in_ok-open_scope.ensures.within c.body_here-body.ensures.kept
+pub block_body-requires : goal.block_body-requires
+block_body-requires c = record { ty = type_inside _ _ _ c.in_ok-first.ensures.kept.numbers c.requires.ty; parts = c.requires.parts; id = c.requires.id }
+
+pub returns-in_err-first-clause-agrees : goal.returns-in_err-first-clause-agrees
+returns-in_err-first-clause-agrees c =
+    let q = err_from_is_err_and c.from_residual.result c.from_residual.ensures.1 in
+    let a = c.args.env.now in
+    let b = c.heard_parameters.new.env in
+    λ ps s h k. failed _ _ (BodyStands b.table) (body_of a.env (type_at a.table.types c.args.ty) ps s) c.from_residual.result c.in_err-first.field-0.0 (q.1 ∙ ap Err q.2)
+    (first_broken a b b c.args.ty ps s c.in_err-first.field-0.0 (c.in_err-first.ensures.agrees (nearest ps) (c.nearest_params.ensures.stand c.args.tree.now ps h)))
+
+pub returns-in_err-body-clause-agrees : goal.returns-in_err-body-clause-agrees
+returns-in_err-body-clause-agrees c =
+    let q = err_from_is_err_and c.from_residual-in_err-body.result c.from_residual-in_err-body.ensures.1 in
+    let a = c.args.env.now in
+    let b = c.heard_parameters.new.env in
+    let d = c.block_body.new.env in
+    λ ps s h k. failed _ _ (BodyStands d.table) (body_of a.env (type_at a.table.types c.args.ty) ps s) c.from_residual-in_err-body.result c.in_err-body.field-0.0 (q.1 ∙ ap Err q.2)
+    (block_stops a b d c.args.ty ps s c.in_ok-first.first (c.in_ok-first.ensures.agrees (nearest ps) (c.nearest_params.ensures.stand c.args.tree.now ps h)) c.in_ok-first.ensures.kept (type_stays a.table b.table c.args.ty c.in_ok-first.ensures.kept.numbers c.requires.ty)
+    c.in_err-body.field-0.0 (c.in_err-body.ensures.agrees ps s h k))
+
+pub returns-in_err-body-clause-kept : goal.returns-in_err-body-clause-kept
+returns-in_err-body-clause-kept c = then_stay _ _ _ c.in_ok-first.ensures.kept c.in_err-body.ensures.kept
 
 pub returns-clause-agrees : goal.returns-clause-agrees
 returns-clause-agrees c =
     let a = c.args.env.now in
-    let o = c.open_scope.new.self in
-    let b = c.body_here-body.new.env in
-    let e = c.close_scope.new.self in
-    let t = type_at a.table.types c.args.ty in
-    λ ps s h k. scoped_body a o b e c.in_ok-open_scope.ensures.opened c.close_scope.ensures t ps s c.body_here-body.result
-    (c.body_here-body.ensures.agrees t (nearest ps) s (scope_signature a o c.in_ok-open_scope.ensures.opened t c.in_ok-signature.signature c.in_ok-signature.ensures) (c.nearest_params.ensures.stand c.args.tree.now ps h) k)
+    let b = c.heard_parameters.new.env in
+    let d = c.block_body.new.env in
+    λ ps s h k. body_made a b d c.args.ty ps s c.in_ok-first.first (c.in_ok-first.ensures.agrees (nearest ps) (c.nearest_params.ensures.stand c.args.tree.now ps h)) c.in_ok-first.ensures.kept (type_stays a.table b.table c.args.ty c.in_ok-first.ensures.kept.numbers c.requires.ty)
+    c.in_ok-body.body c.in_ok-with_nodes.field-0 c.in_ok-first.ensures.inside c.in_ok-body.ensures.kept.numbers c.in_ok-with_nodes.ensures (c.in_ok-body.ensures.agrees ps s h k)
 
 pub returns-clause-kept : goal.returns-clause-kept
-returns-clause-kept c = scope_stays c.args.env.now c.open_scope.new.self c.body_here-body.new.env c.close_scope.new.self c.in_ok-open_scope.ensures.opened c.close_scope.ensures c.body_here-body.ensures.kept
+returns-clause-kept c = then_stay _ _ _ c.in_ok-first.ensures.kept c.in_ok-body.ensures.kept
 
-pub returns-in_err-open_scope-clause-kept : goal.returns-in_err-open_scope-clause-kept
-returns-in_err-open_scope-clause-kept c = subst (Stays c.args.env.now) (sym c.in_err-open_scope.ensures.err) (stay c.args.env.now)
-
-pub returns-in_err-signature-clause-kept : goal.returns-in_err-signature-clause-kept
-returns-in_err-signature-clause-kept c = stay c.args.env.now
+pub returns-in_err-with_nodes-clause-kept : goal.returns-in_err-with_nodes-clause-kept
+returns-in_err-with_nodes-clause-kept c = then_stay _ _ _ c.in_ok-first.ensures.kept c.in_ok-body.ensures.kept

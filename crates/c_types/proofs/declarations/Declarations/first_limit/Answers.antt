@@ -59,7 +59,7 @@ returns-then-globals_end-gt-GREATEST_OBJECT c =
     let l = length-map d.functions.items (function_in d.env.table) in
     let some_functions = le_holds (length p.functions) most_functions (omega (arith, c.len.ensures)) in
     let params : all_keep few_params p.functions ≡ true = ap (λ fs. all_keep few_params (map (function_in d.env.table) fs)) (sym c.deref.ensures.value) ∙ (sym c.few_params.ensures ∙ c.if-not-few_params.false) in
-    let ends = c.globals_end.ensures p refl (ap (map (global_in d.env.table.types)) (sym c.deref-else-found_large.ensures.value)) in
+    let ends = c.globals_end.ensures p refl (ap (map (global_in d.env.table)) (sym c.deref-else-found_large.ensures.value)) in
     let large : nat_le (globals_end p) greatest_object ≡ false = sym (capped_le (globals_end p) greatest_object (omega arith)) ∙ (ap (λ n. nat_le n greatest_object) (sym ends) ∙ le_fails c.globals_end.result greatest_object c.if-globals_end-gt-GREATEST_OBJECT.true) in
     sym (large_globals (not d.env.found_large) p some_functions params (sym c.requires.sound.members ∙ c.if-not-self.false) (ap not (sym c.found_large.ensures ∙ c.if-found_large.false)) large)
 
@@ -70,7 +70,7 @@ returns-then-not-small_frames c =
     let l = length-map d.functions.items (function_in d.env.table) in
     let some_functions = le_holds (length p.functions) most_functions (omega (arith, c.len.ensures)) in
     let params : all_keep few_params p.functions ≡ true = ap (λ fs. all_keep few_params (map (function_in d.env.table) fs)) (sym c.deref.ensures.value) ∙ (sym c.few_params.ensures ∙ c.if-not-few_params.false) in
-    let ends = c.globals_end.ensures p refl (ap (map (global_in d.env.table.types)) (sym c.deref-else-found_large.ensures.value)) in
+    let ends = c.globals_end.ensures p refl (ap (map (global_in d.env.table)) (sym c.deref-else-found_large.ensures.value)) in
     let small : nat_le (globals_end p) greatest_object ≡ true = sym (capped_le (globals_end p) greatest_object (omega arith)) ∙ (ap (λ n. nat_le n greatest_object) (sym ends) ∙ le_holds c.globals_end.result greatest_object c.if-globals_end-gt-GREATEST_OBJECT.false) in
     let frames : all_keep (small_frame p) p.functions ≡ false = ap (λ fs. all_keep (small_frame p) (map (function_in d.env.table) fs)) (sym c.deref-else-globals_end-gt-GREATEST_OBJECT.ensures.value) ∙ (sym (c.small_frames.ensures p refl) ∙ c.if-not-small_frames.true) in
     sym (by_frames (not d.env.found_large) p _ false some_functions params (sym c.requires.sound.members ∙ c.if-not-self.false) (ap not (sym c.found_large.ensures ∙ c.if-found_large.false)) small frames refl)
@@ -82,7 +82,7 @@ returns-else-not-small_frames c =
     let l = length-map d.functions.items (function_in d.env.table) in
     let some_functions = le_holds (length p.functions) most_functions (omega (arith, c.len.ensures)) in
     let params : all_keep few_params p.functions ≡ true = ap (λ fs. all_keep few_params (map (function_in d.env.table) fs)) (sym c.deref.ensures.value) ∙ (sym c.few_params.ensures ∙ c.if-not-few_params.false) in
-    let ends = c.globals_end.ensures p refl (ap (map (global_in d.env.table.types)) (sym c.deref-else-found_large.ensures.value)) in
+    let ends = c.globals_end.ensures p refl (ap (map (global_in d.env.table)) (sym c.deref-else-found_large.ensures.value)) in
     let small : nat_le (globals_end p) greatest_object ≡ true = sym (capped_le (globals_end p) greatest_object (omega arith)) ∙ (ap (λ n. nat_le n greatest_object) (sym ends) ∙ le_holds c.globals_end.result greatest_object c.if-globals_end-gt-GREATEST_OBJECT.false) in
     let frames : all_keep (small_frame p) p.functions ≡ true = ap (λ fs. all_keep (small_frame p) (map (function_in d.env.table) fs)) (sym c.deref-else-globals_end-gt-GREATEST_OBJECT.ensures.value) ∙ (sym (c.small_frames.ensures p refl) ∙ c.if-not-small_frames.false) in
     sym (by_frames (not d.env.found_large) p _ true some_functions params (sym c.requires.sound.members ∙ c.if-not-self.false) (ap not (sym c.found_large.ensures ∙ c.if-found_large.false)) small frames refl)

@@ -13,8 +13,8 @@ invariant_of-self-2 c =
     let ms = c.args.members in
     let below : State → Type 0 = λ s. All (IsMemberBelow (length s.table.types)) ms in
     let sized : State → Type 0 = λ s. c.in_ok-extent.extent ≡ capped_extent (struct_with (extents s.env) (members_by (types_of s.table.types) ms)).extent in
-    defined_sound c.self.inside.table.types c.self.inside.structs c.define.new.self c.self.inside.scopes ms c.in_ok-extent.extent c.self.invariant (subst below (sym c.self.view_is) c.requires.types) (subst sized (sym c.self.view_is) c.in_ok-extent.ensures) c.in_ok-define.ensures.members c.in_ok-define.ensures.extents
+    (defined_sound c.self.inside.table.types c.self.inside.structs c.define.new.self c.self.inside.scopes ms c.in_ok-extent.extent c.self.invariant.0 (subst below (sym c.self.view_is) c.requires.types) (subst sized (sym c.self.view_is) c.in_ok-extent.ensures) c.in_ok-define.ensures.members c.in_ok-define.ensures.extents, c.self.invariant.1)
 
 pub returns-clause-defined : goal.returns-clause-defined
 returns-clause-defined c =
-    defined_state c.self.inside.table c.self.inside.tags c.self.inside.structs c.define.new.self c.self.inside.scopes c.self.inside.found_large c.args.self.now c.args.members c.self.view_is c.in_ok-define.ensures.members
+    defined_state c.self.inside.table c.self.inside.tags c.self.inside.structs c.define.new.self c.self.inside.scopes c.self.inside.found_large c.self.inside.unevaluated.items c.args.self.now c.args.members c.self.view_is c.in_ok-define.ensures.members

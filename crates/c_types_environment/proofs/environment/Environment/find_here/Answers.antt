@@ -18,4 +18,4 @@ returns-clause-inside c =
     let few = length c.self.inside.table.types in
     let there : State → Type 0 = λ s. IfSome c.find_here.result (IsMeaningBelow (length s.table.types)) in
     let by : Option Meaning → Type 0 = λ o. IfSome o (IsMeaningBelow few) in
-    subst there c.self.view_is (subst by (sym c.find_here.ensures) (here_below few c.args.name.now c.self.inside.scopes c.self.invariant.names))
+    subst there c.self.view_is (subst by (sym c.find_here.ensures) (here_below few c.args.name.now c.self.inside.scopes c.self.invariant.0.names))

@@ -28,7 +28,7 @@ add-requires c =
     let number = c.args.number.0 in
     let there : State → Type 0 = λ s. c.in-Some.ty.0 < length s.table.types in
     let by : Option TypeId → Type 0 = λ o. IfSome o (IsBelow few) in
-    let below : IfSome (Some c.in-Some.ty) (IsBelow few) = subst by c.in-Some.ensures.stands (type_below few (members_at mss number) c.in-Some.place (members_below few mss number c.self.invariant.members)) in
+    let below : IfSome (Some c.in-Some.ty) (IsBelow few) = subst by c.in-Some.ensures.stands (type_below few (members_at mss number) c.in-Some.place (members_below few mss number c.self.invariant.0.members)) in
     record { parts = (c.requires.object, subst there c.self.view_is below) }
 
 pub returns-clause-agrees : goal.returns-clause-agrees

@@ -23,4 +23,4 @@ returns-clause-inside c =
     let there : State → Type 0 = λ s. IfSome c.member_type.result (IsBelow (length s.table.types)) in
     let by : Option TypeId → Type 0 = λ o. IfSome o (IsBelow few) in
     subst there c.self.view_is
-    (subst by (sym c.member_type.ensures) (type_below few (members_at mss number) c.args.place (members_below few mss number c.self.invariant.members)))
+    (subst by (sym c.member_type.ensures) (type_below few (members_at mss number) c.args.place (members_below few mss number c.self.invariant.0.members)))

@@ -1,3 +1,4 @@
+use Rattle.c_types_nodes.proofs.Lists.{are_nodes_kept}
 use Rattle.c_types_rules.specs.Operators.{step}
 use Rattle.c_types_nodes.specs.Parts.{given_in, way_in}
 use Rattle.c_types_nodes.specs.Tables.{node_at}
@@ -8,11 +9,11 @@ use Rattle.c_types_environment.proofs.Kept.{sound_kept, table_grown}
 use Rattle.c_types_environment.proofs.environment.Environment.step.Goals as goal
 
 pub invariant_of-self : goal.invariant_of-self
-invariant_of-self c = sound_kept c.self.inside.table.types c.step.new.table.types c.self.inside.structs c.self.inside.scopes c.step.ensures.kept.types c.self.invariant
+invariant_of-self c = (sound_kept c.self.inside.table.types c.step.new.table.types c.self.inside.structs c.self.inside.scopes c.step.ensures.kept.types c.self.invariant.0, are_nodes_kept c.self.inside.table c.step.new.table c.step.ensures.kept c.self.inside.unevaluated.items c.self.invariant.1)
 
 pub returns-clause-agrees : goal.returns-clause-agrees
 returns-clause-agrees c =
-    agreed_by_sizes (IsAt c.step.new.table) c.step.result c.self.inside.table c.self.inside.tags c.self.inside.structs c.self.inside.scopes c.self.inside.found_large c.args.self.now (λ es u. step es c.args.from (way_in c.args.way) (given_in c.args.given) (node_at u c.args.operand)) (λ es u. step_capped es c.args.from (way_in c.args.way) (given_in c.args.given) (node_at u c.args.operand)) c.extents.result.now c.extents.ensures c.self.view_is c.self.invariant c.step.ensures.agrees
+    agreed_by_sizes (IsAt c.step.new.table) c.step.result c.self.inside.table c.self.inside.tags c.self.inside.structs c.self.inside.scopes c.self.inside.found_large c.self.inside.unevaluated.items c.args.self.now (λ es u. step es c.args.from (way_in c.args.way) (given_in c.args.given) (node_at u c.args.operand)) (λ es u. step_capped es c.args.from (way_in c.args.way) (given_in c.args.given) (node_at u c.args.operand)) c.extents.result.now c.extents.ensures c.self.view_is c.self.invariant.0 c.step.ensures.agrees
 
 pub returns-clause-kept : goal.returns-clause-kept
-returns-clause-kept c = table_grown c.self.inside.table c.step.new.table c.self.inside.tags c.self.inside.structs c.self.inside.scopes c.self.inside.found_large c.args.self.now c.self.view_is c.self.invariant c.step.ensures.kept
+returns-clause-kept c = table_grown c.self.inside.table c.step.new.table c.self.inside.tags c.self.inside.structs c.self.inside.scopes c.self.inside.found_large c.self.inside.unevaluated.items c.args.self.now c.self.view_is c.self.invariant.0 c.self.invariant.1 c.step.ensures.kept

@@ -1,3 +1,4 @@
+use Rattle.c_types_nodes.proofs.Lists.{are_nodes_kept}
 use Rattle.c_types_rules.specs.Expressions.{subscript}
 use Rattle.c_types_nodes.specs.Tables.{value_at}
 use Rattle.c_types_operators.specs.Answers.{StandsAt}
@@ -7,11 +8,11 @@ use Rattle.c_types_environment.proofs.Kept.{sound_kept, table_grown}
 use Rattle.c_types_environment.proofs.environment.Environment.subscript.Goals as goal
 
 pub invariant_of-self : goal.invariant_of-self
-invariant_of-self c = sound_kept c.self.inside.table.types c.subscript.new.table.types c.self.inside.structs c.self.inside.scopes c.subscript.ensures.kept.types c.self.invariant
+invariant_of-self c = (sound_kept c.self.inside.table.types c.subscript.new.table.types c.self.inside.structs c.self.inside.scopes c.subscript.ensures.kept.types c.self.invariant.0, are_nodes_kept c.self.inside.table c.subscript.new.table c.subscript.ensures.kept c.self.inside.unevaluated.items c.self.invariant.1)
 
 pub returns-clause-agrees : goal.returns-clause-agrees
 returns-clause-agrees c =
-    agreed_by_sizes (StandsAt c.subscript.new.table) c.subscript.result c.self.inside.table c.self.inside.tags c.self.inside.structs c.self.inside.scopes c.self.inside.found_large c.args.self.now (λ es u. subscript es c.args.from (value_at u c.args.left) (value_at u c.args.right)) (λ es u. subscript_capped es c.args.from (value_at u c.args.left) (value_at u c.args.right)) c.extents.result.now c.extents.ensures c.self.view_is c.self.invariant c.subscript.ensures.agrees
+    agreed_by_sizes (StandsAt c.subscript.new.table) c.subscript.result c.self.inside.table c.self.inside.tags c.self.inside.structs c.self.inside.scopes c.self.inside.found_large c.self.inside.unevaluated.items c.args.self.now (λ es u. subscript es c.args.from (value_at u c.args.left) (value_at u c.args.right)) (λ es u. subscript_capped es c.args.from (value_at u c.args.left) (value_at u c.args.right)) c.extents.result.now c.extents.ensures c.self.view_is c.self.invariant.0 c.subscript.ensures.agrees
 
 pub returns-clause-kept : goal.returns-clause-kept
-returns-clause-kept c = table_grown c.self.inside.table c.subscript.new.table c.self.inside.tags c.self.inside.structs c.self.inside.scopes c.self.inside.found_large c.args.self.now c.self.view_is c.self.invariant c.subscript.ensures.kept
+returns-clause-kept c = table_grown c.self.inside.table c.subscript.new.table c.self.inside.tags c.self.inside.structs c.self.inside.scopes c.self.inside.found_large c.self.inside.unevaluated.items c.args.self.now c.self.view_is c.self.invariant.0 c.self.invariant.1 c.subscript.ensures.kept

@@ -1,8 +1,9 @@
+use Rattle.c_types_nodes.proofs.Lists.{are_nodes_kept}
 use Rattle.c_types_environment.proofs.Kept.{sound_kept, table_grown}
 use Rattle.c_types_environment.proofs.environment.Environment.value_of.Goals as goal
 
 pub invariant_of-self : goal.invariant_of-self
-invariant_of-self c = sound_kept c.self.inside.table.types c.value_of.new.self.types c.self.inside.structs c.self.inside.scopes c.value_of.ensures.kept.types c.self.invariant
+invariant_of-self c = (sound_kept c.self.inside.table.types c.value_of.new.self.types c.self.inside.structs c.self.inside.scopes c.value_of.ensures.kept.types c.self.invariant.0, are_nodes_kept c.self.inside.table c.value_of.new.self c.value_of.ensures.kept c.self.inside.unevaluated.items c.self.invariant.1)
 
 pub returns-clause-kept : goal.returns-clause-kept
-returns-clause-kept c = table_grown c.self.inside.table c.value_of.new.self c.self.inside.tags c.self.inside.structs c.self.inside.scopes c.self.inside.found_large c.args.self.now c.self.view_is c.self.invariant c.value_of.ensures.kept
+returns-clause-kept c = table_grown c.self.inside.table c.value_of.new.self c.self.inside.tags c.self.inside.structs c.self.inside.scopes c.self.inside.found_large c.self.inside.unevaluated.items c.args.self.now c.self.view_is c.self.invariant.0 c.self.invariant.1 c.value_of.ensures.kept
