@@ -1,6 +1,7 @@
 //! The memory of a run: two separate sides, and what open calls hold of it.
 #![tactic(auto)]
 
+mod accesses;
 mod cell;
 mod error;
 mod frames;

@@ -4,7 +4,7 @@ ghost use Rattle.marks.specs.declared.side.Side.TheVariants.{Replay};
 ghost use Rattle.memory_map.specs.declared.areas.TheConstants.{THREADS, REPLAY_STACKS, REPLAY_POOL, SYSTEM_STACKS, SYSTEM_POOL};
 ghost use Rattle.marks.specs.Ranges.{IsFirstIn};
 ghost use Rattle.space_memory_bytes.specs.Areas.{byte_at, extents, LiesIn};
-ghost use Rattle.space_memory_bytes.specs.Numbers.{HasNumber, SameOutside, FillsWith};
+ghost use Rattle.space_memory_bytes.specs.Numbers.{FillsWith};
 ghost use Rattle.space_memory.specs.StackFrames.{stack_of, end_of};
 ghost use Rattle.pool_list.specs.Blocks.{length_at, with_block, without_block};
 ghost use Rattle.pool_list.specs.Places.{IsPlace, IsLeastPlace};
@@ -28,7 +28,7 @@ use crate::release::{check_release, committed_key};
 use crate::{HoldError, Sides};
 use marks::Side;
 use memory_map::{Placed, REPLAY_MEMORY, Range, SYSTEM_MEMORY};
-use space_memory_access::{Access, Holder, Refusal, Regions, check_access, is_plain_word};
+use space_memory_access::{Holder, Refusal, Regions};
 use space_memory_bytes::LiveBytes;
 use std::alloc::{AllocError, Global};
 use std::marker::Model;
@@ -79,89 +79,6 @@ impl Spaces {
         let held = Regions::new(alloc)?;
         let sides = Sides::new(alloc)?;
         Ok(Spaces { bytes, held, sides })
-    }
-
-    /// The number in `width` bytes, 1 to 8, from the address on, the lowest first, for code of the side. `OtherSpace` for a
-    /// byte of the other side, `NotLive` for a dead byte, `Pending` for one that replay code may not touch: the first of
-    /// these that some byte meets, with the least such byte.
-    #[inline(always)]
-    pub fn load(&self, side: Side, thread: u8, addr: u64, width: u8) -> Result<u64, Refusal>
-        requires some { 1 ≤ width }
-        requires at_most_8 { width ≤ 8 }
-        ensures number { IfOk result (HasNumber self.now.bytes addr width) }
-        ensures fits { IfOk result (λ value. value < 256 ^ width) }
-        ensures allowed { IsOk result ↔ IsAllowed self.now.bytes self.now.held.regions
-            (record {
-              side = side;
-              thread = thread;
-              range = record { addr = addr; len = width };
-              write =
-                  false;
-            }) }
-        ensures refused { (r : Refusal) → (result ≡ Err r) ↔ IsRefused self.now.bytes self.now.held.regions
-            (record {
-              side = side;
-              thread = thread;
-              range = record { addr = addr; len = width };
-              write =
-                  false;
-            }) r }
-    {
-        let len = width as u64;
-        let range = Range { addr, len };
-        if self.is_plain(side, thread, range, false) {
-            return Ok(self.bytes.read(addr, width));
-        }
-        match self.check(side, thread, range, false) {
-            Ok(()) => Ok(self.bytes.read(addr, width)),
-            Err(refusal) => Err(refusal),
-        }
-    }
-
-    /// Writes the low `width` bytes of the value, 1 to 8, from the address on, the lowest first, for code of the side. It is
-    /// refused as a load is, and last of all with `ReadOnly` for a constant.
-    #[inline(always)]
-    pub fn store(
-        &mut self,
-        side: Side,
-        thread: u8,
-        addr: u64,
-        width: u8,
-        value: u64,
-    ) -> Result<(), Refusal>
-        requires some { 1 ≤ width }
-        requires at_most_8 { width ≤ 8 }
-        ensures number { OnOk result (HasNumber self.new.bytes addr width value) }
-        ensures others { OnOk result (SameOutside (record { addr = addr; len = width }) self.old.bytes
-            self.new.bytes) }
-        ensures rest { self.new ≡ record self.old { bytes = self.new.bytes } }
-        ensures allowed { IsOk result ↔ IsAllowed self.old.bytes self.old.held.regions
-            (record {
-              side = side;
-              thread = thread;
-              range = record { addr = addr; len = width };
-              write =
-                  true;
-            }) }
-        ensures refused { (r : Refusal) → (result ≡ Err r) ↔ IsRefused self.old.bytes self.old.held.regions
-            (record {
-              side = side;
-              thread = thread;
-              range = record { addr = addr; len = width };
-              write =
-                  true;
-            }) r }
-        ensures unchanged { OnErr result (self.new ≡ self.old) }
-    {
-        let len = width as u64;
-        let range = Range { addr, len };
-        if self.is_plain(side, thread, range, true) {
-            self.bytes.write(addr, width, value);
-            return Ok(());
-        }
-        self.check(side, thread, range, true)?;
-        self.bytes.write(addr, width, value);
-        Ok(())
     }
 
     /// A new frame of the thread on the side, of `size` zero bytes: the address of its first byte. `StackFull` where it would
@@ -413,51 +330,6 @@ impl Spaces {
         self.sides.give(side, addr);
         self.bytes.fill(Range { addr, len }, None);
         Ok(len)
-    }
-
-    // Whether an access of code of the side is one that passes each test, as far as a glance shows it.
-    #[inline(always)]
-    fn is_plain(&self, side: Side, thread: u8, range: Range, write: bool) -> bool
-        ensures allowed { IsTrue result → IsAllowed self.now.bytes self.now.held.regions
-            (record { side = side; thread = thread; range = range; write = write }) }
-        ensures not_refused { IsTrue result → (r : Refusal) →
-            ¬ IsRefused self.now.bytes self.now.held.regions
-            (record { side = side; thread = thread; range = range; write = write }) r }
-        ensures ends { IsTrue result → range.addr + range.len < 2 ^ 64 }
-        ensures one_area { IsTrue result → LiesIn range (extents self.now.bytes) }
-    {
-        let access = Access {
-            side,
-            thread,
-            range,
-            write,
-        };
-        is_plain_word(&self.bytes, &self.held, access)
-    }
-
-    // Tests an access of code of the side: the first test that fails refuses it, at its least byte.
-    #[inline(never)]
-    pub(crate) fn check(
-        &self,
-        side: Side,
-        thread: u8,
-        range: Range,
-        write: bool,
-    ) -> Result<(), Refusal>
-        ensures allowed { IsOk result ↔ IsAllowed self.now.bytes self.now.held.regions
-            (record { side = side; thread = thread; range = range; write = write }) }
-        ensures refused { (r : Refusal) → (result ≡ Err r) ↔ IsRefused self.now.bytes self.now.held.regions
-            (record { side = side; thread = thread; range = range; write = write }) r }
-        ensures ends { IfOk result (λ _. range.addr + range.len < 2 ^ 64) }
-        ensures one_area { IfOk result (λ _. 1 ≤ range.len → LiesIn range (extents self.now.bytes)) }
-    {
-        let access = Access {
-            side,
-            thread,
-            range,
-            write,
-        };
-        check_access(&self.bytes, &self.held, access)
     }
 
     // The least byte of the thread's innermost frame on the side that its code may not touch.

@@ -1,2 +1,4 @@
 mod Causes
 mod Firsts
+mod Open
+mod Rights

@@ -1,12 +1,12 @@
 -- What an access to memory may touch, and the first test that it fails.
-use Rattle.std.specs.Prelude.{◌≡◌, ℕ, ◌+◌, ◌<◌, ◌≤◌, Bool, true, false, List, []}
+use Rattle.std.specs.Prelude.{◌≡◌, ◌⊎◌, ℕ, ◌+◌, ◌≤◌, Bool, true, false, List, []}
 use Rattle.marks.specs.declared.side.Side.{Side}
 use Rattle.marks.specs.declared.side.Side.TheVariants.{Replay, System}
 use Rattle.memory_map.specs.declared.areas.TheConstants.{CONSTANTS, REPLAY_MEMORY, SYSTEM_MEMORY}
 use Rattle.marks.specs.Ranges.{IsInRange, NoneIn, IsLeastIn}
-use Rattle.space_memory_bytes.specs.Areas.{AreaState, IsDead, AllLive}
+use Rattle.space_memory_bytes.specs.Areas.{AreaState, IsDead}
 use Rattle.space_memory_access.specs.declared.holder.Region.{Region}
-use Rattle.space_memory_access.specs.Held.{IsPending, IsServed}
+use Rattle.space_memory_access.specs.Held.{IsPending, IsServed, IsServedWhole}
 use Rattle.space_memory_access.specs.declared.access.Access.{Access}
 use Rattle.space_memory_access.specs.declared.refusal.Refusal.{Refusal}
 use Rattle.space_memory_access.specs.declared.refusal.Refusal.TheVariants.{NotLive, Pending, OtherSpace, ReadOnly, StackFull, KeyInUse, NoKey, Size}
@@ -62,11 +62,16 @@ IsRefused bytes regions a (KeyInUse x) = ⊥
 IsRefused bytes regions a (NoKey x) = ⊥
 IsRefused bytes regions a (Size x) = ⊥
 
--- replay code touches eight live bytes of its own memory, other than the last eight, and none is pending
-pub record IsPlainWord (bytes : List AreaState) (regions : List Region) (a : Access) : Type 0 where
-  pub by : a.side ≡ Replay
-  pub word : a.range.len ≡ 8
-  pub from : REPLAY_MEMORY.addr ≤ a.range.addr
-  pub to : a.range.addr + 8 < REPLAY_MEMORY.addr + REPLAY_MEMORY.len
-  pub live : AllLive bytes a.range.addr 8
-  pub free : NoneIn a.range (IsPending regions)
+-- the access keeps to its side, wherever it may be dead: replay code stays before system memory and off all
+-- pending bytes; system code stays out of replay memory, or in one region that serves it there
+abbrev pub IsOwnTo : Side → List Region → Access → Type 0
+IsOwnTo Replay regions a = (a.range.addr + a.range.len ≤ SYSTEM_MEMORY.addr) ×
+    NoneIn a.range (IsPending regions)
+IsOwnTo System regions a = (REPLAY_MEMORY.addr + REPLAY_MEMORY.len ≤ a.range.addr) ⊎
+    (a.range.addr + a.range.len ≤ REPLAY_MEMORY.addr) ⊎
+    IsServedWhole regions a.thread a.write a.range
+
+-- so no test but that of dead bytes can fail, if a write stays past the constants too
+pub record IsOpen (regions : List Region) (a : Access) : Type 0 where
+  pub own : IsOwnTo a.side regions a
+  pub writable : a.write ≡ true → REPLAY_MEMORY.addr ≤ a.range.addr

@@ -1,6 +1,7 @@
 -- The regions that are held, and how many calls each thread has open.
-use Rattle.std.specs.Prelude.{◌≡◌, ℕ, Bool, true, not, ◌&&◌, List, [], ◌∷◌, map, filter, Option, Some, None, if◌then◌else◌, slice_index, min}
+use Rattle.std.specs.Prelude.{◌≡◌, ℕ, ◌+◌, nat_le, Bool, true, not, ◌&&◌, List, [], ◌∷◌, map, filter, Option, Some, None, if◌then◌else◌, slice_index, min}
 use Rattle.std.specs.List.{list_any}
+use Rattle.marks.specs.declared.range.Range.{Range}
 use Rattle.marks.specs.Ranges.{covers}
 use Rattle.space_memory_access.specs.declared.holder.OpenCall.{OpenCall}
 use Rattle.space_memory_access.specs.declared.holder.Region.{Region}
@@ -23,6 +24,15 @@ IsPending regions x = list_any (λ r. is_pending r.holder && covers r.range x) r
 abbrev pub IsServed : List Region → ℕ → Bool → ℕ → Type 0
 IsServed regions thread write x = list_any (λ r. serves thread write r.holder &&
     covers r.range x) regions ≡ true
+
+-- whether a range lies whole in another
+abbrev pub is_part : Range → Range → Bool
+is_part outer inner = nat_le outer.addr inner.addr && nat_le (inner.addr + inner.len) (outer.addr + outer.len)
+
+-- one region lets system code of the thread read the whole range, or write it, while its bytes live
+abbrev pub IsServedWhole : List Region → ℕ → Bool → Range → Type 0
+IsServedWhole regions thread write range = list_any (λ r. serves thread write r.holder &&
+    is_part r.range range) regions ≡ true
 
 -- the region that is prepared under the key
 abbrev pub prepared_region : List Region → ℕ → Option Region

@@ -6,7 +6,7 @@ mod holder;
 mod refusal;
 mod regions;
 
-pub use access::{Access, check_access, is_plain_word};
+pub use access::{Access, check_access, is_open};
 pub use holder::{Holder, OpenCall, Region};
 pub use refusal::Refusal;
 pub use regions::Regions;

@@ -1,9 +1,9 @@
 // The regions, in the order in which they were held.
-ghost use Rattle.std.specs.Prelude.{◌≡◌, ℕ, ◌+◌, ◌-◌, ◌^◌, ◌<◌, ◌≤◌, ◌↔◌, [], ◌∷◌, ◌++◌, length, map, replicate, IsTrue, IfOk, OnOk, OnErr, slice_index, slice_set, option_map};
+ghost use Rattle.std.specs.Prelude.{◌≡◌, ℕ, ◌+◌, ◌-◌, ◌^◌, ◌<◌, ◌≤◌, ◌↔◌, [], ◌∷◌, ◌++◌, length, map, replicate, IsTrue, IfOk, IfSome, IfNone, OnOk, OnErr, slice_index, slice_set, option_map};
 ghost use Rattle.marks.specs.Ranges.{IsFirstIn, NoneIn};
 ghost use Rattle.memory_map.specs.declared.areas.TheConstants.{THREADS};
 ghost use Rattle.space_memory_access.specs.declared.holder.Region.{Region};
-ghost use Rattle.space_memory_access.specs.Held.{innermost, IsPending, IsServed, prepared_region, without_call, without_closed, disown, earlier};
+ghost use Rattle.space_memory_access.specs.Held.{innermost, IsPending, IsServed, IsServedWhole, is_part, prepared_region, without_call, without_closed, disown, earlier};
 
 use crate::{OpenCall, Region};
 use memory_map::{Range, THREADS};
@@ -104,16 +104,49 @@ impl Regions {
         self.regions.is_empty() || self.first_pending(range).is_none()
     }
 
-    /// Whether system code of the thread may read the byte at the address, or write it, while it lives.
-    pub fn serves(&self, thread: u8, write: bool, addr: u64) -> bool
-        ensures { IsTrue result ↔ IsServed self.now.regions thread write addr }
+    /// Whether one region lets system code of the thread read the whole range, or write it, while its bytes live.
+    #[inline(never)]
+    pub fn serves_whole(&self, thread: u8, write: bool, range: Range) -> bool
+        ensures { IsTrue result ↔ IsServedWhole self.now.regions thread write range }
     {
         for region in &self.regions {
-            if region.holder.serves(thread, write) && region.range.has(addr) {
+            if region.holder.serves(thread, write) && is_part(region.range, range) {
                 return true;
             }
         }
         false
+    }
+
+    /// The least byte of the range that no region lets system code of the thread read, or write, while it lives.
+    pub fn first_unserved(&self, thread: u8, write: bool, range: Range) -> Option<u64>
+        requires { range.addr + range.len < 2 ^ 64 }
+        ensures { IsFirstIn range (λ x. ¬ IsServed self.now.regions thread write x) result }
+    {
+        let end = range.addr + range.len;
+        let mut addr = range.addr;
+        while addr < end {
+            match self.served_to(thread, write, addr) {
+                Some(next) => addr = next,
+                None => return Some(addr),
+            }
+        }
+        None
+    }
+
+    // Where the first region ends that lets system code of the thread read or write the byte at the address.
+    fn served_to(&self, thread: u8, write: bool, addr: u64) -> Option<u64>
+        requires { addr + 1 < 2 ^ 64 }
+        ensures none { IfNone result (¬ IsServed self.now.regions thread write addr) }
+        ensures on { IfSome result (λ next. addr < next) }
+        ensures served { IfSome result (λ next. (x : ℕ) → addr ≤ x → x < next →
+            IsServed self.now.regions thread write x) }
+    {
+        for region in &self.regions {
+            if region.holder.serves(thread, write) && region.range.has(addr) {
+                return Some(region.range.addr.saturating_add(region.range.len));
+            }
+        }
+        None
     }
 
     /// The region that is prepared under the key, if there is one.
@@ -169,8 +202,19 @@ fn disown_all(regions: &mut [Region], call: OpenCall)
     }
 }
 
-// The lesser of two numbers, where there are some.
-fn earlier(a: Option<u64>, b: Option<u64>) -> Option<u64>
+// Whether a range lies whole in another.
+fn is_part(outer: Range, inner: Range) -> bool
+    ensures { result ≡ is_part outer inner }
+{
+    if inner.addr < outer.addr {
+        return false;
+    }
+    let before = inner.addr - outer.addr;
+    before <= outer.len && inner.len <= outer.len - before
+}
+
+/// The lesser of two numbers, where there are some.
+pub fn earlier(a: Option<u64>, b: Option<u64>) -> Option<u64>
     ensures { result ≡ earlier a b }
 {
     match (a, b) {

@@ -1,13 +1,14 @@
--- One byte more of an area is filled, written or looked at.
-use Rattle.std.proofs.Common.{◌≡◌, ℕ, zero, suc, ◌+◌, ◌-◌, ◌*◌, ◌/◌, ◌%◌, ◌^◌, ◌<◌, ◌≤◌, ◌≢◌, ◌⊎◌, true, false, cond, ltb, leb, length, set, Option, Some, None, refl, ap, sym, ◌∙◌, inl, inr, arith, add-one, lit<, unwrap_or, length-set, get_or-set_same, get_or-set_other}
+-- What an area has at its addresses, and numbers by their bytes.
+use Rattle.std.proofs.Common.{◌≡◌, ◌≢◌, ◌↔◌, ℕ, zero, suc, ◌+◌, ◌-◌, ◌*◌, ◌/◌, ◌%◌, ◌^◌, ◌<◌, ◌≤◌, ◌⊎◌, true, false, cond, ltb, leb, List, length, get_or, Option, Some, None, refl, ap, sym, ◌∙◌, inl, inr, arith, add-one, lit<}
 use native.Mathlib.Nat.{pow-suc, pow-succ', pow-le-pow_right}
-use Rattle.std.proofs.Math.Nat.{div-div-eq-div-mul}
-use Rattle.std.proofs.lemmas.Bool.{cases_eq, cases_lt, lt-ltb, le-ltb, le-leb, lt-leb, cond-true, cond-false, and_from, and_left, and_right}
+use Rattle.std.proofs.Math.Nat.{div-div-eq-div-mul, div-eq_of_lt}
+use Rattle.std.proofs.lemmas.Bool.{cases_lt, lt-ltb, le-ltb, le-leb, lt-leb, cond-true, cond-false, and_from, and_left, and_right}
 use Rattle.marks.specs.declared.range.Range.{Range}
 use Rattle.marks.specs.Ranges.{covers}
-use Rattle.space_memory_bytes.specs.Areas.{AreaState, cell}
 use Rattle.space_memory_bytes.specs.Numbers.{digit}
-use Rattle.space_memory_bytes.specs.AreaChanges.{FillsArea, WritesArea}
+use Rattle.space_memory_bytes.specs.Areas.{cell}
+use Rattle.space_memory_bytes.specs.Marks.{AreLive, HasDigits, PutsAt}
+use Rattle.space_memory_bytes.specs.AreaChanges.{IsLiveRun, IsNumber, ChangesArea}
 
 -- an address is covered by a range or lies before or after it
 pub cover_cases : (r : Range) (x : ℕ) → record { is : covers r x ≡ true; from : r.addr ≤ x; below : x < r.addr + r.len } ⊎ record { is : covers r x ≡ false; out : (x < r.addr) ⊎ (r.addr + r.len ≤ x) }
@@ -19,86 +20,38 @@ cover_cases r x = elim (cases_lt x r.addr) [
   ]
 ]
 
--- the area with one byte written
-abbrev pub with_cell : AreaState → ℕ → Option ℕ → AreaState
-with_cell a at byte = record { base = a.base; cells = set a.cells at byte }
-
--- only that byte changes
-pub cell-with_cell : (a : AreaState) (at : ℕ) (byte : Option ℕ) (x : ℕ) → a.base ≤ x → at < length a.cells → ((x ≡ a.base + at) × (cell (with_cell a at byte) x ≡ byte)) ⊎ ((x ≢ a.base + at) × (cell (with_cell a at byte) x ≡ cell a x))
-cell-with_cell a at byte x from lt = elim (cases_eq (x - a.base) at) [
-  | inl same ↦ inl (omega arith, rw same (get_or-set_same a.cells at byte None lt))
-  | inr other ↦ inr (λ is. other (omega arith), get_or-set_other a.cells at (x - a.base) byte None other)
-]
-
--- nothing is filled yet
-pub fills_none : (addr n : ℕ) (byte : Option ℕ) (old now : AreaState) → n ≡ 0 → now ≡ old → FillsArea (record { addr = addr; len = n }) byte old now
-fills_none addr n byte old now none same =
-    let r : Range = record { addr = addr; len = n } in
-    record {
-      extent = record { base = ap (λ (a : AreaState). a.base) same; size = ap (λ (a : AreaState). length a.cells) same };
-      bytes = λ x from. ap (λ (a : AreaState). cell a x) same ∙ elim (cover_cases r x) as (λ _. cell old x ≡ cond (covers r x) byte (cell old x)) [
-        | inl in' ↦ absurd (omega (arith, in'.from, in'.below))
-        | inr out ↦ sym (cond-false (covers r x) byte (cell old x) out.is)
-      ];
-    }
-
--- one byte more is filled
-pub fills_more : (addr n m at : ℕ) (byte : Option ℕ) (old now : AreaState) → m ≡ n + 1 → now.base + at ≡ addr + n → at < length now.cells → FillsArea (record { addr = addr; len = n }) byte old now → FillsArea (record { addr = addr; len = m }) byte old (with_cell now at byte)
-fills_more addr n m at byte old now one place lt so_far = record {
-  extent = record { base = so_far.extent.base; size = length-set now.cells at byte ∙ so_far.extent.size };
-  bytes = λ x from.
+-- a change of its cells is one of the area
+pub changes_area : (base at addr n m : ℕ) (bytes : ℕ → Option ℕ) (old new : List (Option ℕ)) → base + at ≡ addr → m ≡ n → PutsAt at m bytes old new → ChangesArea addr n bytes (record { base = base; cells = old }) (record { base = base; cells = new })
+changes_area base at addr n m bytes old new place same puts = record {
+  extent = record { base = refl; size = puts.size };
+  bytes_are = λ x from.
       let r : Range = record { addr = addr; len = n } in
-      let more : Range = record { addr = addr; len = m } in
-      let before : cell now x ≡ cond (covers r x) byte (cell old x) = so_far.bytes x from in
-      elim (cell-with_cell now at byte x (omega (arith, so_far.extent.base)) lt) [
-        | inl same ↦ elim (cover_cases more x) [
-          | inl in' ↦ same.1 ∙ sym (cond-true (covers more x) byte (cell old x) in'.is)
-          | inr out ↦ absurd (elim out.out [ inl a ↦ omega (arith, same.0) | inr b ↦ omega (arith, same.0) ])
+      let q : Range = record { addr = at; len = m } in
+      let before : Option ℕ = get_or old (x - base) None in
+      puts.cells (x - base) ∙ elim (cover_cases r x) as (λ _. cond (covers q (x - base)) (bytes (x - base - at)) before ≡ cond (covers r x) (bytes (x - addr)) before) [
+        | inl in' ↦ elim (cover_cases q (x - base)) as (λ _. cond (covers q (x - base)) (bytes (x - base - at)) before ≡ cond (covers r x) (bytes (x - addr)) before) [
+          | inl in'' ↦ cond-true (covers q (x - base)) (bytes (x - base - at)) before in''.is ∙ ap bytes (omega arith) ∙ sym (cond-true (covers r x) (bytes (x - addr)) before in'.is)
+          | inr out ↦ absurd (elim out.out [ inl low ↦ omega (arith, in'.from) | inr high ↦ omega (arith, in'.below) ])
         ]
-        | inr other ↦ elim (cover_cases r x) [
-          | inl in' ↦ elim (cover_cases more x) [
-            | inl in'' ↦ other.1 ∙ before ∙ cond-true (covers r x) byte (cell old x) in'.is ∙ sym (cond-true (covers more x) byte (cell old x) in''.is)
-            | inr out ↦ absurd (elim out.out [ inl a ↦ omega (arith, in'.from) | inr b ↦ omega (arith, in'.below) ])
-          ]
-          | inr out ↦ elim (cover_cases more x) [
-            | inl in'' ↦ absurd (elim out.out [ inl a ↦ omega (arith, in''.from) | inr b ↦ other.0 (omega (arith, in''.below)) ])
-            | inr out' ↦ other.1 ∙ before ∙ cond-false (covers r x) byte (cell old x) out.is ∙ sym (cond-false (covers more x) byte (cell old x) out'.is)
-          ]
+        | inr out ↦ elim (cover_cases q (x - base)) as (λ _. cond (covers q (x - base)) (bytes (x - base - at)) before ≡ cond (covers r x) (bytes (x - addr)) before) [
+          | inl in'' ↦ absurd (elim out.out [ inl low ↦ omega (arith, in''.from) | inr high ↦ omega (arith, in''.below) ])
+          | inr out' ↦ cond-false (covers q (x - base)) (bytes (x - base - at)) before out'.is ∙ sym (cond-false (covers r x) (bytes (x - addr)) before out.is)
         ]
       ];
 }
 
--- the rest of a number after one byte more
-pub quotient_more : (value n m : ℕ) → m ≡ n + 1 → value / 256 ^ n / 256 ≡ value / 256 ^ m
-quotient_more value n m one = div-div-eq-div-mul value (256 ^ n) 256 ∙ ap (λ d. value / d) (sym (rw (one, add-one, pow-suc) refl))
+-- what its cells have from a place on, it has from an address on
+pub run_is : (base at addr n : ℕ) (cells : List (Option ℕ)) → base + at ≡ addr → AreLive cells at n ↔ IsLiveRun (record { base = base; cells = cells }) addr n
+run_is base at addr n cells place = (
+  λ live i lt none. live i lt (ap (λ k. get_or cells k None) (omega arith) ∙ none),
+  λ live i lt none. live i lt (ap (λ k. get_or cells k None) (omega arith) ∙ none),
+)
 
--- one byte more is written
-pub writes_more : (addr n m at value rest : ℕ) (old now : AreaState) → m ≡ n + 1 → rest ≡ value / 256 ^ n → now.base + at ≡ addr + n → at < length now.cells → WritesArea addr n value old now → WritesArea addr m value old (with_cell now at (Some (rest % 256)))
-writes_more addr n m at value rest old now one left place lt so_far = record {
-  extent = record { base = so_far.extent.base; size = length-set now.cells at (Some (rest % 256)) ∙ so_far.extent.size };
-  bytes = λ x from.
-      let r : Range = record { addr = addr; len = n } in
-      let more : Range = record { addr = addr; len = m } in
-      let before : cell now x ≡ cond (covers r x) (Some (digit value (x - addr))) (cell old x) = so_far.bytes x from in
-      elim (cell-with_cell now at (Some (rest % 256)) x (omega (arith, so_far.extent.base)) lt) [
-        | inl same ↦ elim (cover_cases more x) [
-          | inl in' ↦
-              let last : x - addr ≡ n = omega (arith, same.0) in
-              same.1 ∙ ap (λ q. Some (q % 256)) left ∙ ap (λ k. Some (digit value k)) (sym last) ∙ sym (cond-true (covers more x) (Some (digit value (x - addr))) (cell old x) in'.is)
-          | inr out ↦ absurd (elim out.out [ inl a ↦ omega (arith, same.0) | inr b ↦ omega (arith, same.0) ])
-        ]
-        | inr other ↦ elim (cover_cases r x) [
-          | inl in' ↦ elim (cover_cases more x) [
-            | inl in'' ↦ other.1 ∙ before ∙ cond-true (covers r x) (Some (digit value (x - addr))) (cell old x) in'.is ∙ sym (cond-true (covers more x) (Some (digit value (x - addr))) (cell old x) in''.is)
-            | inr out ↦ absurd (elim out.out [ inl a ↦ omega (arith, in'.from) | inr b ↦ omega (arith, in'.below) ])
-          ]
-          | inr out ↦ elim (cover_cases more x) [
-            | inl in'' ↦ absurd (elim out.out [ inl a ↦ omega (arith, in''.from) | inr b ↦ other.0 (omega (arith, in''.below)) ])
-            | inr out' ↦ other.1 ∙ before ∙ cond-false (covers r x) (Some (digit value (x - addr))) (cell old x) out.is ∙ sym (cond-false (covers more x) (Some (digit value (x - addr))) (cell old x) out'.is)
-          ]
-        ]
-      ];
-}
+pub cell_from : (base at addr i : ℕ) (cells : List (Option ℕ)) → base + at ≡ addr → cell (record { base = base; cells = cells }) (addr + i) ≡ get_or cells (at + i) None
+cell_from base at addr i cells place = ap (λ k. get_or cells k None) (omega arith)
+
+pub number_from : (base at addr n value : ℕ) (cells : List (Option ℕ)) → base + at ≡ addr → HasDigits cells at n value → IsNumber (record { base = base; cells = cells }) addr n value
+number_from base at addr n value cells place digits i lt = cell_from base at addr i cells place ∙ digits i lt
 
 -- a number with one low byte more
 pub digit_low : (byte high : ℕ) → byte < 256 → digit (high * 256 + byte) 0 ≡ byte
@@ -121,14 +74,33 @@ fits_word value n few fits =
     let bound : 256 ^ n ≤ 256 ^ 7 = pow-le-pow_right (lit< tt) {i = n} {j = 7} (omega arith) in
     omega arith
 
--- a byte that is there is the one that is read
-pub byte_there : (found : Option ℕ) → (found ≡ None → ⊥) → found ≡ Some (unwrap_or found 0)
-byte_there None there = absurd (there refl)
-byte_there (Some byte) there = refl
+-- the digits of a number with one low byte more
+pub digits_more : (bytes : List ℕ) (at place n m value byte : ℕ) → m ≡ n + 1 → place + 1 ≡ at → byte < 256 → byte ≡ get_or bytes place 0 → ((i : ℕ) → i < n → digit value i ≡ get_or bytes (at + i) 0) → (i : ℕ) → i < m → digit (value * 256 + byte) i ≡ get_or bytes (place + i) 0
+digits_more bytes at place n m value byte one next small here above zero lt =
+    digit_low byte value small ∙ here ∙ ap (λ k. get_or bytes k 0) (omega arith)
+digits_more bytes at place n m value byte one next small here above (suc i) lt =
+    ap (λ k. digit (value * 256 + byte) k) (sym (add-one i)) ∙ digit_high byte value i small ∙ above i (omega arith) ∙ ap (λ k. get_or bytes k 0) (omega arith)
 
--- the digits of one byte more
-pub digits_more : (a : AreaState) (at place n m value byte : ℕ) → m ≡ n + 1 → place + 1 ≡ at → byte < 256 → cell a (a.base + place) ≡ Some byte → ((i : ℕ) → i < n → cell a (a.base + at + i) ≡ Some (digit value i)) → (i : ℕ) → i < m → cell a (a.base + place + i) ≡ Some (digit (value * 256 + byte) i)
-digits_more a at place n m value byte one next small here above zero lt =
-    ap (λ x. cell a x) (omega arith) ∙ here ∙ ap (λ d. Some d) (sym (digit_low byte value small))
-digits_more a at place n m value byte one next small here above (suc i) lt =
-    ap (λ x. cell a x) (omega arith) ∙ above i (omega arith) ∙ ap (λ d. Some d) (sym (digit_high byte value i small) ∙ ap (λ k. digit (value * 256 + byte) k) (add-one i))
+-- a number without its low byte
+digit_rest : (value i : ℕ) → digit (value / 256) i ≡ digit value (i + 1)
+digit_rest value i = ap (λ q. q % 256) (div-div-eq-div-mul value 256 (256 ^ i) ∙ ap (λ d. value / d) (sym (rw (add-one, pow-succ') refl)))
+
+rest_fits : (value n : ℕ) → value < 256 ^ suc n → value / 256 < 256 ^ n
+rest_fits value n fits =
+    let more : 256 ^ suc n ≡ 256 ^ n * 256 = rw pow-suc (omega arith) in
+    omega (arith, more, fits)
+
+-- numbers of so many bytes with the same bytes are the same
+pub same_digits : (n a b : ℕ) → a < 256 ^ n → b < 256 ^ n → ((i : ℕ) → i < n → digit a i ≡ digit b i) → a ≡ b
+same_digits zero a b fits_a fits_b same = omega (arith, fits_a, fits_b)
+same_digits (suc n) a b fits_a fits_b same =
+    let low : a % 256 ≡ b % 256 = omega (arith, same 0 (omega arith)) in
+    let high : a / 256 ≡ b / 256 = same_digits n (a / 256) (b / 256) (rest_fits a n fits_a) (rest_fits b n fits_b) (λ i lt. digit_rest a i ∙ same (i + 1) (omega arith) ∙ sym (digit_rest b i)) in
+    omega (arith, low, high)
+
+-- a number of 64 bits has no byte past the eighth
+pub digit_past : (value i : ℕ) → value < 2 ^ 64 → 8 ≤ i → digit value i ≡ 0
+digit_past value i fits past =
+    let bound : 256 ^ 8 ≤ 256 ^ i = pow-le-pow_right (lit< tt) {i = 8} {j = i} past in
+    let none : value / 256 ^ i ≡ 0 = div-eq_of_lt (omega (arith, bound)) in
+    ap (λ q. q % 256) none

@@ -1,13 +1,14 @@
--- What one area says of all: the first dead byte, a run of live bytes, a range that is filled, a number that is written.
-use Rattle.std.proofs.Common.{◌≡◌, ℕ, ◌+◌, ◌-◌, ◌^◌, ◌<◌, ◌≤◌, ◌⊎◌, true, false, List, [], length, get_or, set, Option, Some, None, IfNone, All, refl, ap, sym, ◌∙◌, subst, inl, inr, arith, length-set, get_or-set_same}
+-- What one area says of all: the first dead byte, live bytes and what they are, and changes.
+use Rattle.std.proofs.Common.{◌≡◌, ◌↔◌, ℕ, ◌+◌, ◌-◌, ◌^◌, ◌<◌, ◌≤◌, ◌⊎◌, true, false, List, [], length, get_or, set, Option, Some, None, IfNone, All, refl, ap, sym, ◌∙◌, subst, inl, inr, arith, length-set, get_or-set_same}
+use Rattle.std.specs.Prelude.{min}
 use Rattle.std.proofs.lemmas.Bool.{cases_lt, cases_order, cases_Bool, cond-true, cond-false, both_ways}
-use Rattle.std.proofs.lemmas.List.{length-map, get_or-map}
+use Rattle.std.proofs.lemmas.List.{length-map, get_or-map, get_or_past}
 use Rattle.marks.specs.declared.range.Range.{Range}
 use Rattle.marks.specs.Ranges.{NoneIn, IsFirstIn, covers}
 use Rattle.space_memory_bytes.specs.Areas.{AreaState, holds, cell, byte_at, extent, extents, RiseFrom, LiesIn, IsHolder, IsDead, AllLive}
-use Rattle.space_memory_bytes.specs.Numbers.{digit, HasNumber, SameOutside, FillsWith}
-use Rattle.space_memory_bytes.specs.AreaChanges.{IsDeadIn, SameExtent, FillsArea, WritesArea}
-use Rattle.space_memory_bytes.proofs.Cells.{cover_cases}
+use Rattle.space_memory_bytes.specs.Numbers.{digit, HasNumber, HasBytes, SameOutside, FillsWith}
+use Rattle.space_memory_bytes.specs.AreaChanges.{IsDeadIn, IsLiveRun, IsNumber, SameExtent, ChangesArea, FillsArea, PutsInArea, WritesArea}
+use Rattle.space_memory_bytes.proofs.Cells.{cover_cases, digit_past}
 use Rattle.space_memory_bytes.proofs.Lookup.{holds_from, holds_parts, misses_after, rise_ends, rise_order, byte_at_absent, byte_at_held, byte_at_end, byte_at_set_other, extents_set}
 
 -- an address in a range is covered, and one out of it isn't
@@ -16,6 +17,12 @@ covered_by r x from below = elim (cover_cases r x) [ inl in' ↦ in'.is | inr ou
 
 pub missed_by : (r : Range) (x : ℕ) → (x < r.addr) ⊎ (r.addr + r.len ≤ x) → covers r x ≡ false
 missed_by r x out = elim (cover_cases r x) [ inl in' ↦ absurd (elim out [ inl low ↦ omega (arith, in'.from) | inr high ↦ omega (arith, in'.below) ]) | inr is ↦ is.is ]
+
+-- a byte with a value lives
+pub some_live : (found : Option ℕ) (value : ℕ) → found ≡ Some value → found ≡ None → ⊥
+some_live found value is none =
+    let wrong : Some value ≡ None = sym is ∙ none in
+    absurd (cc)
 
 -- the range that lies in an area is one area's
 room_in : (areas : List AreaState) (r : Range) (d : AreaState) → LiesIn r (extents areas) → (k : ℕ) × (k < length areas) × ((get_or areas k d).base ≤ r.addr) × (r.addr + r.len ≤ (get_or areas k d).base + length (get_or areas k d).cells)
@@ -135,41 +142,78 @@ module _ (areas : List AreaState) (rise : RiseFrom 0 (extents areas)) (at : ℕ)
         let size = ap (λ (b : AreaState). length b.cells) is in
         byte_at_set_other areas at a new x lt (extent.base ∙ base) (extent.size ∙ size) (subst (λ (b : AreaState). holds b x ≡ false) is out)
 
+  -- a byte that the area has at an address of its own is there
+  pub cell_held : (x : ℕ) → a.base ≤ x → (cell a x ≡ None → ⊥) → holds a x ≡ true
+  cell_held x from live = elim (cases_lt x (a.base + length a.cells)) [
+    | inl inner ↦ holds_from a x from inner
+    | inr past ↦ absurd (live (get_or_past a.cells (x - a.base) None (omega arith)))
+  ]
+
+  -- and is that of all
+  pub cell_is : (x : ℕ) → a.base ≤ x → (cell a x ≡ None → ⊥) → byte_at areas x ≡ cell a x
+  cell_is x from live = held_is x (cell_held x from live)
+
+  -- bytes from an address of the area on live where they live in the area
+  pub live_run : (addr n : ℕ) → holds a addr ≡ true → AllLive areas addr n ↔ IsLiveRun a addr n
+  live_run addr n held =
+      let inside = holds_parts a addr held in (
+        λ live i lt none.
+            let room = run_in_area addr n held live in
+            live i lt (held_is (addr + i) (holds_from a (addr + i) (omega arith) (omega arith)) ∙ none),
+        λ live i lt dead. live i lt (sym (cell_is (addr + i) (omega arith) (live i lt)) ∙ dead),
+      )
+
+  -- and so does a number, and a list of bytes
+  pub number_run : (addr n value : ℕ) → holds a addr ≡ true → IsNumber a addr n value → HasNumber areas addr n value
+  number_run addr n value held number i lt =
+      let inside = holds_parts a addr held in
+      cell_is (addr + i) (omega arith) (some_live (cell a (addr + i)) (digit value i) (number i lt)) ∙ number i lt
+
+  pub bytes_run : (addr : ℕ) (bytes : List ℕ) → holds a addr ≡ true → HasBytes areas addr bytes ↔ ((i : ℕ) → i < length bytes → cell a (addr + i) ≡ Some (get_or bytes i 0))
+  bytes_run addr bytes held =
+      let inside = holds_parts a addr held in (
+        λ has i lt.
+            let live : AllLive areas addr (length bytes) = λ j few. some_live (byte_at areas (addr + j)) (get_or bytes j 0) (has j few) in
+            let room = run_in_area addr (length bytes) held live in
+            sym (held_is (addr + i) (holds_from a (addr + i) (omega arith) (omega arith))) ∙ has i lt,
+        λ has i lt. cell_is (addr + i) (omega arith) (some_live (cell a (addr + i)) (get_or bytes i 0) (has i lt)) ∙ has i lt,
+      )
+
+  module _ (addr n : ℕ) (bytes : ℕ → Option ℕ) (new : AreaState) (changes : ChangesArea addr n bytes a new) where
+    -- the area that is changed changes all there
+    pub changed_there : (x : ℕ) → a.base ≤ addr → addr + n ≤ a.base + length a.cells → addr ≤ x → x < addr + n → byte_at (set areas at new) x ≡ bytes (x - addr)
+    changed_there x from within low high =
+        let r : Range = record { addr = addr; len = n } in
+        held_new new changes.extent x (holds_from a x (omega arith) (omega arith)) ∙ changes.bytes_are x (omega arith) ∙ cond-true (covers r x) (bytes (x - addr)) (cell a x) (covered_by r x low high)
+
+    -- and nothing else
+    pub changed_others : SameOutside (record { addr = addr; len = n }) areas (set areas at new)
+    changed_others = record {
+      areas = extents_kept new changes.extent;
+      bytes = λ x missed. elim (cases_Bool (holds a x)) [
+        | inl here ↦ held_new new changes.extent x here ∙ changes.bytes_are x (holds_parts a x here).0 ∙ cond-false (covers (record { addr = addr; len = n }) x) (bytes (x - addr)) (cell a x) missed ∙ sym (held_is x here)
+        | inr out ↦ other_new new changes.extent x out
+      ];
+    }
+
   -- the area that is filled fills all
   pub fills_with : (r : Range) (byte : Option ℕ) (new : AreaState) → a.base ≤ r.addr → r.addr + r.len ≤ a.base + length a.cells → FillsArea r byte a new → FillsWith r byte areas (set areas at new)
   fills_with r byte new from within fills = record {
     filled = λ x covered. elim (cover_cases r x) [
-      | inl in' ↦ held_new new fills.extent x (holds_from a x (omega (arith, in'.from)) (omega (arith, in'.below))) ∙ fills.bytes x (omega (arith, in'.from)) ∙ cond-true (covers r x) byte (cell a x) in'.is
+      | inl in' ↦ changed_there r.addr r.len (λ i. byte) new fills x from within in'.from in'.below
       | inr out ↦ absurd (both_ways (covers r x) out.is covered)
     ];
-    others = record {
-      areas = extents_kept new fills.extent;
-      bytes = λ x missed. elim (cases_Bool (holds a x)) [
-        | inl here ↦ held_new new fills.extent x here ∙ fills.bytes x (holds_parts a x here).0 ∙ cond-false (covers r x) byte (cell a x) missed ∙ sym (held_is x here)
-        | inr out ↦ other_new new fills.extent x out
-      ];
-    };
+    others = changed_others r.addr r.len (λ i. byte) new fills;
   }
 
-  -- the area that is written writes all
-  pub written_number : (addr n value : ℕ) (new : AreaState) → a.base ≤ addr → addr + n ≤ a.base + length a.cells → WritesArea addr n value a new → HasNumber (set areas at new) addr n value
-  written_number addr n value new from within writes i few =
-      let x = addr + i in
-      let r : Range = record { addr = addr; len = n } in
-      let covered : covers r x ≡ true = elim (cover_cases r x) [ inl in' ↦ in'.is | inr out ↦ absurd (elim out.out [ inl low ↦ omega arith | inr high ↦ omega arith ]) ] in
-      held_new new writes.extent x (holds_from a x (omega arith) (omega arith)) ∙ writes.bytes x (omega arith)
-      ∙ cond-true (covers r x) (Some (digit value (x - addr))) (cell a x) covered ∙ ap (λ k. Some (digit value k)) (omega arith)
+  -- so do bytes that are put, and a number that is written
+  pub put_bytes : (addr : ℕ) (bytes : List ℕ) (new : AreaState) → a.base ≤ addr → addr + length bytes ≤ a.base + length a.cells → PutsInArea addr bytes a new → HasBytes (set areas at new) addr bytes
+  put_bytes addr bytes new from within puts i lt =
+      changed_there addr (length bytes) (λ j. Some (get_or bytes j 0)) new puts (addr + i) from within (omega arith) (omega arith) ∙ ap (λ j. Some (get_or bytes j 0)) (omega arith)
 
-  pub written_others : (addr n value : ℕ) (new : AreaState) → WritesArea addr n value a new → SameOutside (record { addr = addr; len = n }) areas (set areas at new)
-  written_others addr n value new writes =
-      let r : Range = record { addr = addr; len = n } in
-      record {
-        areas = extents_kept new writes.extent;
-        bytes = λ x missed. elim (cases_Bool (holds a x)) [
-          | inl here ↦ held_new new writes.extent x here ∙ writes.bytes x (holds_parts a x here).0 ∙ cond-false (covers r x) (Some (digit value (x - addr))) (cell a x) missed ∙ sym (held_is x here)
-          | inr out ↦ other_new new writes.extent x out
-        ];
-      }
+  pub written_number : (addr n value : ℕ) (new : AreaState) → a.base ≤ addr → addr + n ≤ a.base + length a.cells → WritesArea addr n value a new → HasNumber (set areas at new) addr n value
+  written_number addr n value new from within writes i lt =
+      changed_there addr n (λ j. Some (digit value j)) new writes (addr + i) from within (omega arith) (omega arith) ∙ ap (λ j. Some (digit value j)) (omega arith)
 
 -- the area that was found for a range that lies in one: it has the whole range
 pub record HasWhole (items : List AreaState) (at : ℕ) (a : AreaState) (r : Range) : Type 0 where
@@ -215,25 +259,25 @@ ends_where_none range P Q (Some x) least then = tt
 pub part_lies : (r part : Range) (ranges : List Range) → r.addr ≤ part.addr → part.addr + part.len ≤ r.addr + r.len → LiesIn r ranges → LiesIn part ranges
 part_lies r part ranges from to (k, e, lt, is, room) = (k, e, lt, is, (omega (arith, room.0), omega (arith, room.1)))
 
--- bytes put one after another: nothing yet
-pub put_none : (addr n : ℕ) (bytes : List AreaState) → n ≡ 0 → SameOutside (record { addr = addr; len = n }) bytes bytes
-put_none addr n bytes none = record { areas = refl; bytes = λ x missed. refl }
+-- a number is written by its eight low bytes, and zeros above them
+pub number_put : (old mid new : List AreaState) (addr width low value : ℕ) (bytes : List ℕ) → low ≡ min width 8 → length bytes ≡ low → value < 2 ^ 64 → ((i : ℕ) → i < low → get_or bytes i 0 ≡ digit value i) → HasBytes mid addr bytes → FillsWith (record { addr = addr + low; len = width - low }) (Some 0) mid new → HasNumber new addr width value
+number_put old mid new addr width low value bytes low_is len fits digits put fills i lt = elim (cases_lt i low) [
+  | inl few ↦
+      fills.others.bytes (addr + i) (missed_by (record { addr = addr + low; len = width - low }) (addr + i) (inl (omega arith)))
+      ∙ put i (omega arith) ∙ ap (λ v. Some v) (digits i few)
+  | inr more ↦
+      fills.filled (addr + i) (covered_by (record { addr = addr + low; len = width - low }) (addr + i) (omega arith) (omega arith))
+      ∙ ap (λ v. Some v) (sym (digit_past value i fits (omega arith)))
+]
 
--- one more
-pub put_outside : (addr n m at : ℕ) (byte : Option ℕ) (old now new : List AreaState) → at ≡ addr + n → m ≡ n + 1 → SameOutside (record { addr = addr; len = n }) old now → FillsWith (record { addr = at; len = 1 }) byte now new → SameOutside (record { addr = addr; len = m }) old new
-put_outside addr n m at byte old now new place one so_far fills = record {
-  areas = fills.others.areas ∙ so_far.areas;
+pub number_put_others : (old mid new : List AreaState) (addr width low len : ℕ) → low ≤ width → len ≡ low → SameOutside (record { addr = addr; len = len }) old mid → FillsWith (record { addr = addr + low; len = width - low }) (Some 0) mid new → SameOutside (record { addr = addr; len = width }) old new
+number_put_others old mid new addr width low len le is put fills = record {
+  areas = fills.others.areas ∙ put.areas;
   bytes = λ x missed.
-      let more : Range = record { addr = addr; len = m } in
-      elim (cover_cases more x) [
-        | inl in' ↦ absurd (both_ways (covers more x) missed in'.is)
-        | inr out ↦ fills.others.bytes x (missed_by (record { addr = at; len = 1 }) x (elim out.out [ inl low ↦ inl (omega arith) | inr high ↦ inr (omega arith) ]))
-            ∙ so_far.bytes x (missed_by (record { addr = addr; len = n }) x (elim out.out [ inl low ↦ inl low | inr high ↦ inr (omega arith) ]))
+      let all : Range = record { addr = addr; len = width } in
+      elim (cover_cases all x) [
+        | inl in' ↦ absurd (both_ways (covers all x) missed in'.is)
+        | inr out ↦ fills.others.bytes x (missed_by (record { addr = addr + low; len = width - low }) x (elim out.out [ inl before ↦ inl (omega arith) | inr after ↦ inr (omega arith) ]))
+            ∙ put.bytes x (missed_by (record { addr = addr; len = len }) x (elim out.out [ inl before ↦ inl before | inr after ↦ inr (omega arith) ]))
       ];
 }
-
-pub put_bytes : (addr n m at : ℕ) (values : List ℕ) (now new : List AreaState) → at ≡ addr + n → m ≡ n + 1 → ((k : ℕ) → k < n → byte_at now (addr + k) ≡ Some (get_or values k 0)) → FillsWith (record { addr = at; len = 1 }) (Some (get_or values n 0)) now new → (k : ℕ) → k < m → byte_at new (addr + k) ≡ Some (get_or values k 0)
-put_bytes addr n m at values now new place one so_far fills k lt = elim (cases_lt k n) [
-  | inl before ↦ fills.others.bytes (addr + k) (missed_by (record { addr = at; len = 1 }) (addr + k) (inl (omega arith))) ∙ so_far k before
-  | inr last ↦ fills.filled (addr + k) (covered_by (record { addr = at; len = 1 }) (addr + k) (omega arith) (omega arith)) ∙ ap (λ i. Some (get_or values i 0)) (omega arith)
-]

@@ -3,3 +3,6 @@ mod Lookup
 mod Changes
 mod Marks
 mod Nexts
+mod Deads
+mod Tools
+mod Found

@@ -1,15 +1,14 @@
--- Bytes as marks beside values: one byte, and eight at once.
-use Rattle.std.proofs.Common.{◌++◌, take, ◌≡◌, ◌≢◌, ◌↔◌, ℕ, zero, suc, ◌+◌, ◌-◌, ◌/◌, ◌%◌, ◌^◌, ◌<◌, ◌≤◌, true, cond, eqb, List, [], ◌∷◌, length, replicate, get_or, set, Option, Some, None, refl, ap, sym, ◌∙◌, inl, inr, arith}
-use Rattle.std.proofs.lemmas.Bool.{cases_eq, ne_eqb, eq-eqb, eqb-true, cond-false}
-use Rattle.std.proofs.lemmas.Bool.{cond-true}
-use Rattle.std.proofs.lemmas.List.{get_or_append_left, get_or-append_right, get_or-take, get_or-drop, length-take-le}
+-- Bytes as marks beside values: one byte, a number at once, and whole parts.
+use Rattle.std.proofs.Common.{◌++◌, take, ◌≡◌, ◌≢◌, ◌↔◌, ℕ, zero, suc, ◌+◌, ◌-◌, ◌^◌, ◌<◌, ◌≤◌, Bool, true, false, cond, eqb, List, [], ◌∷◌, length, replicate, get_or, Option, Some, None, refl, ap, sym, ◌∙◌, subst, inl, inr, arith}
+use Rattle.std.proofs.lemmas.Bool.{cases_eq, ne_eqb, cond-true, cond-false}
+use Rattle.std.proofs.lemmas.List.{get_or_append_left, get_or-append_right, get_or-take, get_or-drop, get_or_past, length-take-le}
 use Rattle.std.specs.Int.{w64, to_le_bytes}
 use borrow.Rule.Slice.PartMut.{post_of}
 use Rattle.marks.specs.declared.range.Range.{Range}
 use Rattle.marks.specs.Ranges.{covers}
 use Rattle.space_memory_bytes.specs.Numbers.{digit}
-use Rattle.space_memory_bytes.specs.Marks.{marked, cells_of, WritesWord}
-use Rattle.space_memory_bytes.proofs.Cells.{cover_cases}
+use Rattle.space_memory_bytes.specs.Marks.{marked, cells_of, AreMarks, AreLive, HasDigits, PutsAt, WritesDigits}
+use Rattle.space_memory_bytes.proofs.Cells.{cover_cases, same_digits}
 
 -- as many bytes as marks
 pub length-cells : (marks values : List ℕ) → length values ≡ length marks → length (cells_of marks values) ≡ length marks
@@ -26,15 +25,6 @@ get-cells [] (v ∷ vs) k same = absurd (omega arith)
 get-cells (m ∷ ms) [] k same = absurd (omega arith)
 get-cells (m ∷ ms) (v ∷ vs) zero same = refl
 get-cells (m ∷ ms) (v ∷ vs) (suc k) same = get-cells ms vs k (omega arith)
-
--- one byte changed
-pub set-cells : (marks values : List ℕ) (k mark value : ℕ) → length values ≡ length marks → cells_of (set marks k mark) (set values k value) ≡ set (cells_of marks values) k (marked mark value)
-unfolding cells_of
-set-cells [] [] k mark value same = refl
-set-cells [] (v ∷ vs) k mark value same = absurd (omega arith)
-set-cells (m ∷ ms) [] k mark value same = absurd (omega arith)
-set-cells (m ∷ ms) (v ∷ vs) zero mark value same = refl
-set-cells (m ∷ ms) (v ∷ vs) (suc k) mark value same = ap (λ rest. marked m v ∷ rest) (set-cells ms vs k mark value (omega arith))
 
 -- dead bytes
 pub cells-replicate : (n : ℕ) → cells_of (replicate n 0) (replicate n 0) ≡ replicate n None
@@ -62,52 +52,28 @@ some_there found value is none =
     let wrong : Some value ≡ None = sym is ∙ none in
     absurd (cc)
 
--- eight marks make one number
-pub number_ones : (n : ℕ) → n < 2 ^ 64 → ((i : ℕ) → i < 8 → digit n i ≡ 1) → n ≡ 72340172838076673
-number_ones n fits ones =
-    let d0 : n % 256 ≡ 1 = omega (arith, ones 0 (omega arith)) in
-    let d1 : n / 256 % 256 ≡ 1 = omega (arith, ones 1 (omega arith)) in
-    let d2 : n / 65536 % 256 ≡ 1 = omega (arith, ones 2 (omega arith)) in
-    let d3 : n / 16777216 % 256 ≡ 1 = omega (arith, ones 3 (omega arith)) in
-    let d4 : n / 4294967296 % 256 ≡ 1 = omega (arith, ones 4 (omega arith)) in
-    let d5 : n / 1099511627776 % 256 ≡ 1 = omega (arith, ones 5 (omega arith)) in
-    let d6 : n / 281474976710656 % 256 ≡ 1 = omega (arith, ones 6 (omega arith)) in
-    let d7 : n / 72057594037927936 % 256 ≡ 1 = omega (arith, ones 7 (omega arith)) in
-    omega arith
-
-pub ones_digit : (i : ℕ) → i < 8 → digit 72340172838076673 i ≡ 1
-ones_digit zero lt = refl
-ones_digit (suc zero) lt = refl
-ones_digit (suc (suc zero)) lt = refl
-ones_digit (suc (suc (suc zero))) lt = refl
-ones_digit (suc (suc (suc (suc zero)))) lt = refl
-ones_digit (suc (suc (suc (suc (suc zero))))) lt = refl
-ones_digit (suc (suc (suc (suc (suc (suc zero)))))) lt = refl
-ones_digit (suc (suc (suc (suc (suc (suc (suc zero))))))) lt = refl
-ones_digit (suc (suc (suc (suc (suc (suc (suc (suc i)))))))) lt = absurd (omega arith)
-
--- eight bytes put into others
-pub mid_get : (old eight : List ℕ) (at n k : ℕ) → n ≡ 8 → length eight ≡ 8 → at + 8 ≤ length old → get_or (take at old ++ (eight ++ post_of at n old)) k 0 ≡ cond (covers (record { addr = at; len = 8 }) k) (get_or eight (k - at) 0) (get_or old k 0)
-mid_get old eight at n k eight_is len within =
-    let r : Range = record { addr = at; len = 8 } in
+-- a part put into others
+pub mid_get : (old part : List ℕ) (at n m k : ℕ) → m ≡ n → length part ≡ n → at + n ≤ length old → get_or (take at old ++ (part ++ post_of at m old)) k 0 ≡ cond (covers (record { addr = at; len = n }) k) (get_or part (k - at) 0) (get_or old k 0)
+mid_get old part at n m k same len within =
+    let r : Range = record { addr = at; len = n } in
     let low_len : length (take at old) ≡ at = length-take-le at old (omega arith) in
     elim (cover_cases r k) [
       | inl in' ↦
-          get_or-append_right (take at old) (eight ++ post_of at n old) at k 0 low_len in'.from
-          ∙ get_or_append_left eight (post_of at n old) 0 (k - at) (omega (arith, in'.below, in'.from))
-          ∙ sym (cond-true (covers r k) (get_or eight (k - at) 0) (get_or old k 0) in'.is)
+          get_or-append_right (take at old) (part ++ post_of at m old) at k 0 low_len in'.from
+          ∙ get_or_append_left part (post_of at m old) 0 (k - at) (omega (arith, in'.below, in'.from))
+          ∙ sym (cond-true (covers r k) (get_or part (k - at) 0) (get_or old k 0) in'.is)
       | inr out ↦ elim out.out [
         | inl low ↦
-            get_or_append_left (take at old) (eight ++ post_of at n old) 0 k (omega arith)
+            get_or_append_left (take at old) (part ++ post_of at m old) 0 k (omega arith)
             ∙ get_or-take at old k 0 low
-            ∙ sym (cond-false (covers r k) (get_or eight (k - at) 0) (get_or old k 0) out.is)
+            ∙ sym (cond-false (covers r k) (get_or part (k - at) 0) (get_or old k 0) out.is)
         | inr high ↦
-            get_or-append_right (take at old) (eight ++ post_of at n old) at k 0 low_len (omega arith)
-            ∙ get_or-append_right eight (post_of at n old) 8 (k - at) 0 len (omega arith)
-            ∙ get_or-drop n _ (k - at - 8) 0
-            ∙ get_or-drop at old (n + (k - at - 8)) 0
+            get_or-append_right (take at old) (part ++ post_of at m old) at k 0 low_len (omega arith)
+            ∙ get_or-append_right part (post_of at m old) n (k - at) 0 len (omega arith)
+            ∙ get_or-drop m _ (k - at - n) 0
+            ∙ get_or-drop at old (m + (k - at - n)) 0
             ∙ ap (λ j. get_or old j 0) (omega arith)
-            ∙ sym (cond-false (covers r k) (get_or eight (k - at) 0) (get_or old k 0) out.is)
+            ∙ sym (cond-false (covers r k) (get_or part (k - at) 0) (get_or old k 0) out.is)
       ]
     ]
 
@@ -125,7 +91,7 @@ one_of (suc (suc (suc (suc (suc (suc zero)))))) lt = refl
 one_of (suc (suc (suc (suc (suc (suc (suc zero))))))) lt = refl
 one_of (suc (suc (suc (suc (suc (suc (suc (suc i)))))))) lt = absurd (omega arith)
 
-digit_of : (value i : ℕ) → i < 8 → get_or (to_le_bytes w64 value) i 0 ≡ digit value i
+pub digit_of : (value i : ℕ) → i < 8 → get_or (to_le_bytes w64 value) i 0 ≡ digit value i
 digit_of value zero lt = omega arith
 digit_of value (suc zero) lt = refl
 digit_of value (suc (suc zero)) lt = refl
@@ -136,6 +102,11 @@ digit_of value (suc (suc (suc (suc (suc (suc zero)))))) lt = refl
 digit_of value (suc (suc (suc (suc (suc (suc (suc zero))))))) lt = refl
 digit_of value (suc (suc (suc (suc (suc (suc (suc (suc i)))))))) lt = absurd (omega arith)
 
+-- what a change of some bytes leaves of all
+at_most_one : (b : Bool) (new old : ℕ) → new ≤ 1 → old ≤ 1 → cond b new old ≤ 1
+at_most_one true new old few before = few
+at_most_one false new old few before = before
+
 module _ (marks values : List ℕ) (same : length values ≡ length marks) (now : List (Option ℕ)) (view : cells_of marks values ≡ now) where
   pub length_is : length marks ≡ length now
   length_is = sym (length-cells marks values same) ∙ ap (λ (cells : List (Option ℕ)). length cells) view
@@ -143,37 +114,77 @@ module _ (marks values : List ℕ) (same : length values ≡ length marks) (now 
   pub get_is : (k : ℕ) → get_or now k None ≡ marked (get_or marks k 0) (get_or values k 0)
   get_is k = ap (λ (cells : List (Option ℕ)). get_or cells k None) (sym view) ∙ get-cells marks values k same
 
-  -- eight bytes live where their marks are that number
-  pub word_live : (n at : ℕ) → n < 2 ^ 64 → ((i : ℕ) → i < 8 → digit n i ≡ get_or marks (at + i) 0) → (eqb n 72340172838076673 ≡ true) ↔ ((i : ℕ) → i < 8 → get_or now (at + i) None ≢ None)
-  word_live n at fits digits = (
-    λ yes i lt.
-        let one : get_or marks (at + i) 0 ≡ 1 = sym (digits i lt) ∙ ap (λ m. digit m i) (eqb-true n 72340172838076673 yes) ∙ ones_digit i lt in
+  -- a byte that lives has the mark 1
+  pub mark_is : (k : ℕ) → get_or now k None ≢ None → get_or marks k 0 ≡ 1
+  mark_is k live = live_mark (get_or marks k 0) (get_or values k 0) (λ none. live (get_is k ∙ none))
+
+  pub value_is : (k : ℕ) → get_or now k None ≢ None → get_or now k None ≡ Some (get_or values k 0)
+  value_is k live = get_is k ∙ mark_live _ (get_or values k 0) (mark_is k live)
+
+  -- bytes live where their marks are the number of as many ones
+  pub number_live : (a b at n : ℕ) → n ≤ 8 → a < 256 ^ n → b < 256 ^ n → ((i : ℕ) → i < n → digit a i ≡ get_or marks (at + i) 0) → ((i : ℕ) → i < n → digit b i ≡ get_or eight_ones i 0) → (a ≡ b) ↔ AreLive now at n
+  number_live a b at n few fits_a fits_b digits ones = (
+    λ is i lt.
+        let one : get_or marks (at + i) 0 ≡ 1 = sym (digits i lt) ∙ ap (λ m. digit m i) is ∙ ones i lt ∙ one_of i (omega arith) in
         some_there _ (get_or values (at + i) 0) (get_is (at + i) ∙ mark_live _ (get_or values (at + i) 0) one),
-    λ live. eq-eqb n 72340172838076673 (number_ones n fits (λ i lt. digits i lt ∙ live_mark (get_or marks (at + i) 0) (get_or values (at + i) 0) (λ none. live i lt (get_is (at + i) ∙ none)))),
+    λ live. same_digits n a b fits_a fits_b (λ i lt. digits i lt ∙ mark_is (at + i) (live i lt) ∙ sym (ones i lt ∙ one_of i (omega arith))),
   )
 
-  -- and are those of the number of their values
-  pub word_is : (n at : ℕ) → ((i : ℕ) → i < 8 → get_or now (at + i) None ≢ None) → ((i : ℕ) → i < 8 → digit n i ≡ get_or values (at + i) 0) → (i : ℕ) → i < 8 → get_or now (at + i) None ≡ Some (digit n i)
-  word_is n at live digits i lt =
-      let one : get_or marks (at + i) 0 ≡ 1 = live_mark (get_or marks (at + i) 0) (get_or values (at + i) 0) (λ none. live i lt (get_is (at + i) ∙ none)) in
-      get_is (at + i) ∙ mark_live _ (get_or values (at + i) 0) one ∙ ap (λ v. Some v) (sym (digits i lt))
+  -- bytes past the end don't
+  pub none_past : (at n : ℕ) → 1 ≤ n → length now < at + n → AreLive now at n → ⊥
+  none_past at n some past live = live (n - 1) (omega arith) (get_or_past now (at + (n - 1)) None (omega arith))
 
-  -- eight bytes are written
-  pub word_put : (marks' values' ones digits : List ℕ) (at value : ℕ) → length marks' ≡ length marks → length values' ≡ length values → ones ≡ eight_ones → digits ≡ to_le_bytes w64 value → ((k : ℕ) → get_or marks' k 0 ≡ cond (covers (record { addr = at; len = 8 }) k) (get_or ones (k - at) 0) (get_or marks k 0)) → ((k : ℕ) → get_or values' k 0 ≡ cond (covers (record { addr = at; len = 8 }) k) (get_or digits (k - at) 0) (get_or values k 0)) → WritesWord at value now (cells_of marks' values')
-  word_put marks' values' ones digits at value marks_len values_len ones_are digits_are marks_are values_are = record {
-    size = length-cells marks' values' (values_len ∙ same ∙ sym marks_len) ∙ marks_len ∙ length_is;
-    bytes = λ k.
-        let r : Range = record { addr = at; len = 8 } in
-        let here = get-cells marks' values' k (values_len ∙ same ∙ sym marks_len) in
-        elim (cover_cases r k) [
-          | inl in' ↦
-              let few : k - at < 8 = omega (arith, in'.from, in'.below) in
-              let mark : get_or marks' k 0 ≡ 1 = marks_are k ∙ cond-true (covers r k) (get_or ones (k - at) 0) (get_or marks k 0) in'.is ∙ ap (λ (xs : List ℕ). get_or xs (k - at) 0) ones_are ∙ one_of (k - at) few in
-              let byte : get_or values' k 0 ≡ digit value (k - at) = values_are k ∙ cond-true (covers r k) (get_or digits (k - at) 0) (get_or values k 0) in'.is ∙ ap (λ (xs : List ℕ). get_or xs (k - at) 0) digits_are ∙ digit_of value (k - at) few in
-              here ∙ mark_live (get_or marks' k 0) (get_or values' k 0) mark ∙ ap (λ v. Some v) byte ∙ sym (cond-true (covers r k) (Some (digit value (k - at))) (get_or now k None) in'.is)
-          | inr out ↦
-              let mark : get_or marks' k 0 ≡ get_or marks k 0 = marks_are k ∙ cond-false (covers r k) (get_or ones (k - at) 0) (get_or marks k 0) out.is in
-              let byte : get_or values' k 0 ≡ get_or values k 0 = values_are k ∙ cond-false (covers r k) (get_or digits (k - at) 0) (get_or values k 0) out.is in
-              here ∙ ap (λ m. marked m (get_or values' k 0)) mark ∙ ap (λ v. marked (get_or marks k 0) v) byte ∙ sym (get_is k) ∙ sym (cond-false (covers r k) (Some (digit value (k - at))) (get_or now k None) out.is)
-        ];
-  }
+  -- live bytes are those of the number of their values
+  pub number_is : (a at n : ℕ) → AreLive now at n → ((i : ℕ) → i < n → digit a i ≡ get_or values (at + i) 0) → HasDigits now at n a
+  number_is a at n live digits i lt = value_is (at + i) (live i lt) ∙ ap (λ v. Some v) (sym (digits i lt))
+
+  module _ (marks' values' : List ℕ) (at n : ℕ) (ms vs : ℕ → ℕ) (marks_len : length marks' ≡ length marks) (values_len : length values' ≡ length values)
+      (marks_are : (k : ℕ) → get_or marks' k 0 ≡ cond (covers (record { addr = at; len = n }) k) (ms (k - at)) (get_or marks k 0))
+      (values_are : (k : ℕ) → get_or values' k 0 ≡ cond (covers (record { addr = at; len = n }) k) (vs (k - at)) (get_or values k 0)) where
+    -- some bytes are changed
+    pub changed : PutsAt at n (λ i. marked (ms i) (vs i)) now (cells_of marks' values')
+    changed = record {
+      size = length-cells marks' values' (values_len ∙ same ∙ sym marks_len) ∙ marks_len ∙ length_is;
+      cells = λ k.
+          let r : Range = record { addr = at; len = n } in
+          let here = get-cells marks' values' k (values_len ∙ same ∙ sym marks_len) in
+          elim (cover_cases r k) [
+            | inl in' ↦
+                let mark : get_or marks' k 0 ≡ ms (k - at) = marks_are k ∙ cond-true (covers r k) (ms (k - at)) (get_or marks k 0) in'.is in
+                let byte : get_or values' k 0 ≡ vs (k - at) = values_are k ∙ cond-true (covers r k) (vs (k - at)) (get_or values k 0) in'.is in
+                here ∙ ap (λ m. marked m (get_or values' k 0)) mark ∙ ap (λ v. marked (ms (k - at)) v) byte ∙ sym (cond-true (covers r k) (marked (ms (k - at)) (vs (k - at))) (get_or now k None) in'.is)
+            | inr out ↦
+                let mark : get_or marks' k 0 ≡ get_or marks k 0 = marks_are k ∙ cond-false (covers r k) (ms (k - at)) (get_or marks k 0) out.is in
+                let byte : get_or values' k 0 ≡ get_or values k 0 = values_are k ∙ cond-false (covers r k) (vs (k - at)) (get_or values k 0) out.is in
+                here ∙ ap (λ m. marked m (get_or values' k 0)) mark ∙ ap (λ v. marked (get_or marks k 0) v) byte ∙ sym (get_is k) ∙ sym (cond-false (covers r k) (marked (ms (k - at)) (vs (k - at))) (get_or now k None) out.is)
+          ];
+    }
+
+    -- and the marks are still marks
+    pub still_marks : ((i : ℕ) → ms i ≤ 1) → ((k : ℕ) → get_or marks k 0 ≤ 1) → AreMarks marks' values'
+    still_marks few bits = record {
+      size = values_len ∙ same ∙ sym marks_len;
+      bits = λ k. subst (λ m. m ≤ 1) (sym (marks_are k)) (at_most_one (covers (record { addr = at; len = n }) k) (ms (k - at)) (get_or marks k 0) (few (k - at)) (bits k));
+    }
+
+  -- live bytes that are written stay live
+  pub marks_stay : (at n : ℕ) → AreLive now at n → (k : ℕ) → get_or marks k 0 ≡ cond (covers (record { addr = at; len = n }) k) 1 (get_or marks k 0)
+  marks_stay at n live k =
+      let r : Range = record { addr = at; len = n } in
+      elim (cover_cases r k) [
+        | inl in' ↦
+            let there : at + (k - at) ≡ k = omega (arith, in'.from) in
+            let lives : get_or now k None ≢ None = subst (λ j. get_or now j None ≢ None) there (live (k - at) (omega (arith, in'.from, in'.below))) in
+            mark_is k lives ∙ sym (cond-true (covers r k) 1 (get_or marks k 0) in'.is)
+        | inr out ↦ sym (cond-false (covers r k) 1 (get_or marks k 0) out.is)
+      ]
+
+  -- they are those of a number where their values are
+  pub overwritten : (values' part : List ℕ) (at n value : ℕ) → length values' ≡ length values → AreLive now at n → ((i : ℕ) → i < n → get_or part i 0 ≡ digit value i) → ((k : ℕ) → get_or values' k 0 ≡ cond (covers (record { addr = at; len = n }) k) (get_or part (k - at) 0) (get_or values k 0)) → WritesDigits at n value now (cells_of marks values')
+  overwritten values' part at n value values_len live part_is values_are =
+      changed marks values' at n (λ i. 1) (λ i. digit value i) refl values_len (marks_stay at n live) (λ k.
+      let r : Range = record { addr = at; len = n } in
+      values_are k ∙ elim (cover_cases r k) as (λ _. cond (covers r k) (get_or part (k - at) 0) (get_or values k 0) ≡ cond (covers r k) (digit value (k - at)) (get_or values k 0)) [
+        | inl in' ↦ ap (λ v. cond (covers r k) v (get_or values k 0)) (part_is (k - at) (omega (arith, in'.from, in'.below)))
+        | inr out ↦ cond-false (covers r k) (get_or part (k - at) 0) (get_or values k 0) out.is ∙ sym (cond-false (covers r k) (digit value (k - at)) (get_or values k 0) out.is)
+      ])

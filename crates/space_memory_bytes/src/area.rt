@@ -1,10 +1,10 @@
 // One area: the bytes from a first address on.
-ghost use Rattle.std.specs.Prelude.{◌≡◌, ℕ, ◌+◌, ◌-◌, ◌^◌, ◌<◌, ◌≤◌, ◌↔◌, IsTrue, IfOk, None, Some, replicate, length, ◌≢◌};
+ghost use Rattle.std.specs.Bool.{OnTrue, OnFalse};
+ghost use Rattle.std.specs.Prelude.{◌≡◌, ℕ, ◌+◌, ◌-◌, ◌^◌, ◌<◌, ◌≤◌, ◌↔◌, IsTrue, IsSome, IfOk, IfSome, None, Some, replicate, length, slice_index};
 ghost use Rattle.marks.specs.Ranges.{IsFirstIn};
 ghost use Rattle.space_memory_bytes.specs.Areas.{holds, cell};
-ghost use Rattle.space_memory_bytes.specs.Numbers.{digit};
 ghost use Rattle.space_memory_bytes.specs.Nexts.{IsNextOf};
-ghost use Rattle.space_memory_bytes.specs.AreaChanges.{IsDeadIn, IsLiveIn, IsLiveRun, FillsArea, WritesArea};
+ghost use Rattle.space_memory_bytes.specs.AreaChanges.{IsDeadIn, IsLiveIn, IsLiveRun, IsNumber, FillsArea, PutsInArea, WritesArea};
 
 use crate::marked_bytes::MarkedBytes;
 use memory_map::Range;
@@ -44,7 +44,7 @@ impl Area {
     }
 
     /// Whether the address is one of the area's.
-    #[inline]
+    #[inline(always)]
     pub fn has(&self, addr: u64) -> bool
         ensures holds { result ≡ holds self.now addr }
         ensures not_last { IsTrue result → addr + 1 < 2 ^ 64 }
@@ -66,12 +66,14 @@ impl Area {
         requires { IsTrue (holds self.now range.addr) }
         ensures { IsFirstIn range (IsDeadIn self.now) result }
     {
-        let mut addr = range.addr;
-        while addr - range.addr < range.len {
-            if !self.has(addr) || self.get(addr).is_none() {
-                return Some(addr);
-            }
-            addr += 1;
+        let first = (range.addr - self.base) as usize;
+        let room = self.cells.len() as u64 - first as u64;
+        let end = first + range.len.min(room) as usize;
+        if let Some(at) = self.cells.first_dead(first, end) {
+            return Some(self.base + at as u64);
+        }
+        if range.len > room {
+            return Some(self.base + self.cells.len() as u64);
         }
         None
     }
@@ -88,14 +90,63 @@ impl Area {
         Some(self.base + at as u64)
     }
 
-    /// Whether each of the eight bytes from the address on is one of the area's, and live.
-    #[inline]
-    pub fn is_live_word(&self, addr: u64) -> bool
-        requires { IsTrue (holds self.now addr) }
-        ensures { IsTrue result ↔ IsLiveRun self.now addr 8 }
+    /// The number of the `width` bytes from the address on, the lowest first; `None` where one of them is dead or none of the
+    /// area's.
+    #[inline(always)]
+    pub fn number(&self, addr: u64, width: u8) -> Option<u64>
+        requires held { IsTrue (holds self.now addr) }
+        requires some { 1 ≤ width }
+        requires at_most_8 { width ≤ 8 }
+        ensures live { IsSome result ↔ IsLiveRun self.now addr width }
+        ensures number { IfSome result (IsNumber self.now addr width) }
+        ensures fits { IfSome result (λ value. value < 256 ^ width) }
+    {
+        self.cells.number((addr - self.base) as usize, width)
+    }
+
+    /// Makes the `width` bytes from the address on those of the number, the lowest first, if all are the area's and live;
+    /// whether they are.
+    #[inline(always)]
+    pub fn overwrite(&mut self, addr: u64, width: u8, value: u64) -> bool
+        requires held { IsTrue (holds self.old addr) }
+        requires some { 1 ≤ width }
+        requires at_most_8 { width ≤ 8 }
+        ensures live { IsTrue result ↔ IsLiveRun self.old addr width }
+        ensures written { OnTrue result (WritesArea addr width value self.old self.new) }
+        ensures unchanged { OnFalse result (self.new ≡ self.old) }
+    {
+        self.cells
+            .overwrite((addr - self.base) as usize, width, value)
+    }
+
+    /// The values of `n` live bytes from the address on.
+    pub fn part(&self, addr: u64, n: usize) -> &[u8]
+        requires from_base { self.now.base ≤ addr }
+        requires in_area { addr + n ≤ self.now.base + length self.now.cells }
+        requires live { IsLiveRun self.now addr n }
+        ensures len { length result.now ≡ n }
+        ensures values { (i : ℕ) → i < n → cell self.now (addr + i) ≡ Some (slice_index result.now i) }
     {
         let first = (addr - self.base) as usize;
-        self.cells.len() - first >= 8 && self.cells.is_live_word(first)
+        self.cells.part(first, first + n)
+    }
+
+    /// Whether the bytes from the address on are the area's, live, and those of the list.
+    pub fn matches(&self, addr: u64, bytes: &[u8]) -> bool
+        requires { IsTrue (holds self.now addr) }
+        ensures { IsTrue result ↔ ((i : ℕ) → i < length bytes.now →
+            cell self.now (addr + i) ≡ Some (slice_index bytes.now i)) }
+    {
+        let first = (addr - self.base) as usize;
+        let room = self.cells.len() - first;
+        if bytes.len() > room {
+            return false;
+        }
+        let end = first + bytes.len();
+        match self.cells.first_dead(first, end) {
+            Some(_) => false,
+            None => self.cells.part(first, end) == bytes,
+        }
     }
 
     /// Makes each byte of the range the given one.
@@ -105,48 +156,15 @@ impl Area {
         ensures { FillsArea range byte self.old self.new }
     {
         let first = (range.addr - self.base) as usize;
-        for at in first..first + range.len as usize {
-            self.cells.set(at, byte);
-        }
+        self.cells.fill(first, first + range.len as usize, byte);
     }
 
-    /// Writes the low `width` bytes of the value, the lowest first.
-    #[inline]
-    pub fn write(&mut self, addr: u64, width: u8, value: u64)
+    /// Makes the bytes from the address on those of the list.
+    pub fn put(&mut self, addr: u64, bytes: &[u8])
         requires from_base { self.old.base ≤ addr }
-        requires in_area { addr + width ≤ self.old.base + length self.old.cells }
-        ensures { WritesArea addr width value self.old self.new }
+        requires in_area { addr + length bytes.now ≤ self.old.base + length self.old.cells }
+        ensures { PutsInArea addr bytes.now self.old self.new }
     {
-        let first = (addr - self.base) as usize;
-        if width == 8 {
-            self.cells.put_word(first, value);
-            return;
-        }
-        let mut rest = value;
-        for at in first..first + width as usize {
-            self.cells.set(at, Some((rest % 256) as u8));
-            rest /= 256;
-        }
-    }
-
-    /// The number whose bytes lie from the address on, the lowest first.
-    #[inline]
-    pub fn read(&self, addr: u64, width: u8) -> u64
-        requires from_base { self.now.base ≤ addr }
-        requires in_area { addr + width ≤ self.now.base + length self.now.cells }
-        requires live { (i : ℕ) → i < width → cell self.now (addr + i) ≢ None }
-        requires at_most_8 { width ≤ 8 }
-        ensures fits { result < 256 ^ width }
-        ensures digits { (i : ℕ) → i < width → cell self.now (addr + i) ≡ Some (digit result i) }
-    {
-        let first = (addr - self.base) as usize;
-        if width == 8 {
-            return self.cells.word(first);
-        }
-        let mut value = 0;
-        for at in (first..first + width as usize).rev() {
-            value = value * 256 + u64::from(self.cells.get(at).unwrap_or(0));
-        }
-        value
+        self.cells.put((addr - self.base) as usize, bytes);
     }
 }

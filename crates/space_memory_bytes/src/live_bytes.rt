@@ -1,5 +1,6 @@
 // The bytes of a few areas.
-ghost use Rattle.std.specs.Prelude.{◌≡◌, ℕ, ◌+◌, ◌^◌, ◌<◌, ◌≤◌, ◌↔◌, false, All, IsTrue, IfOk, IfSome, IfNone, None, Some, length};
+ghost use Rattle.std.specs.Bool.{OnTrue, OnFalse};
+ghost use Rattle.std.specs.Prelude.{◌≡◌, ℕ, ◌+◌, ◌^◌, ◌<◌, ◌≤◌, ◌↔◌, false, All, IsTrue, IsSome, IfOk, IfSome, IfNone, None, Some, length};
 ghost use Rattle.marks.specs.Ranges.{IsFirstIn};
 ghost use Rattle.space_memory_bytes.specs.Areas.{byte_at, extents, holds, RiseFrom, LiesIn, IsHolder, IsDead, AllLive};
 ghost use Rattle.space_memory_bytes.specs.Nexts.{IsNextOf};
@@ -79,23 +80,45 @@ impl LiveBytes {
         None
     }
 
-    /// Whether each of the eight bytes from the address on is live.
-    #[inline]
-    pub fn is_live_word(&self, addr: u64) -> bool
-        ensures live { IsTrue result ↔ AllLive self.now addr 8 }
-        ensures one_area { IsTrue result → LiesIn (record { addr = addr; len = 8 }) (extents self.now) }
+    /// The number of the `width` bytes from the address on, the lowest first; `None` where one of them is dead.
+    #[inline(always)]
+    pub fn number(&self, addr: u64, width: u8) -> Option<u64>
+        requires some { 1 ≤ width }
+        requires at_most_8 { width ≤ 8 }
+        ensures live { IsSome result ↔ AllLive self.now addr width }
+        ensures number { IfSome result (HasNumber self.now addr width) }
+        ensures fits { IfSome result (λ value. value < 256 ^ width) }
     {
         match self.find(addr) {
             Some(at) => {
                 let area = &self.areas[at];
-                area.is_live_word(addr)
+                area.number(addr, width)
+            }
+            None => None,
+        }
+    }
+
+    /// Writes the low `width` bytes of the value from the address on, the lowest first, if all are live; whether they are.
+    #[inline(always)]
+    pub fn overwrite(&mut self, addr: u64, width: u8, value: u64) -> bool
+        requires some { 1 ≤ width }
+        requires at_most_8 { width ≤ 8 }
+        ensures live { IsTrue result ↔ AllLive self.old addr width }
+        ensures written { OnTrue result (HasNumber self.new addr width value) }
+        ensures others { OnTrue result (SameOutside (record { addr = addr; len = width }) self.old
+            self.new) }
+        ensures unchanged { OnFalse result (self.new ≡ self.old) }
+    {
+        match self.find(addr) {
+            Some(at) => {
+                let area = &mut self.areas[at];
+                area.overwrite(addr, width, value)
             }
             None => false,
         }
     }
 
     /// The number whose bytes lie from a live address on, the lowest first.
-    #[inline]
     pub fn read(&self, addr: u64, width: u8) -> u64
         requires some { 1 ≤ width }
         requires at_most_8 { width ≤ 8 }
@@ -103,12 +126,9 @@ impl LiveBytes {
         ensures fits { result < 256 ^ width }
         ensures number { HasNumber self.now addr width result }
     {
-        match self.find(addr) {
-            Some(at) => {
-                let area = &self.areas[at];
-                area.read(addr, width)
-            }
-            None => 0,
+        match self.number(addr, width) {
+            Some(value) => value,
+            None => unreachable!("each byte lives"),
         }
     }
 
@@ -128,31 +148,34 @@ impl LiveBytes {
     }
 
     /// Writes the low `width` bytes of the value into one area, the lowest first.
-    #[inline]
     pub fn write(&mut self, addr: u64, width: u8, value: u64)
         requires { LiesIn (record { addr = addr; len = width }) (extents self.old) }
         ensures written { HasNumber self.new addr width value }
         ensures others { SameOutside (record { addr = addr; len = width }) self.old self.new }
     {
-        if width == 0 {
-            return;
-        }
-        if let Some(at) = self.find(addr) {
-            let area = &mut self.areas[at];
-            area.write(addr, width, value);
-        }
+        let bytes = value.to_le_bytes();
+        let low = width.min(8);
+        self.put(addr, &bytes[..low as usize]);
+        let above = Range {
+            addr: addr + low as u64,
+            len: (width - low) as u64,
+        };
+        self.fill(above, Some(0));
     }
 
     /// Makes the bytes from the address on, which lie in one area, those of the list.
     pub fn put(&mut self, addr: u64, bytes: &[u8])
         requires { LiesIn (record { addr = addr; len = length bytes.now }) (extents self.old) }
         ensures put { HasBytes self.new addr bytes.now }
+        ensures ends { addr + length bytes.now < 2 ^ 64 }
         ensures others { SameOutside (record { addr = addr; len = length bytes.now }) self.old self.new }
     {
-        let mut at = addr;
-        for byte in bytes {
-            self.fill(Range { addr: at, len: 1 }, Some(*byte));
-            at += 1;
+        if bytes.is_empty() {
+            return;
+        }
+        if let Some(at) = self.find(addr) {
+            let area = &mut self.areas[at];
+            area.put(addr, bytes);
         }
     }
 
@@ -163,11 +186,16 @@ impl LiveBytes {
         ensures len { IfOk result (λ bytes. length bytes.items ≡ range.len) }
         ensures bytes { IfOk result (λ bytes. HasBytes self.now range.addr bytes.items) }
     {
-        let mut bytes = Vec::with_capacity(alloc, range.len as usize)?;
-        for at in range.addr..range.addr + range.len {
-            bytes.push(self.get(at).unwrap_or(0))?;
+        if range.len == 0 {
+            return Ok(Vec::new(alloc));
         }
-        Ok(bytes)
+        match self.find(range.addr) {
+            Some(at) => {
+                let area = &self.areas[at];
+                Vec::from_slice(alloc, area.part(range.addr, range.len as usize))
+            }
+            None => unreachable!("the first byte lives"),
+        }
     }
 
     /// Whether the bytes from the address on are live and those of the list.
@@ -175,16 +203,20 @@ impl LiveBytes {
         requires { addr + length bytes.now < 2 ^ 64 }
         ensures { IsTrue result ↔ HasBytes self.now addr bytes.now }
     {
-        for (i, byte) in bytes.iter().enumerate() {
-            if self.get(addr + i as u64) != Some(*byte) {
-                return false;
-            }
+        if bytes.is_empty() {
+            return true;
         }
-        true
+        match self.find(addr) {
+            Some(at) => {
+                let area = &self.areas[at];
+                area.matches(addr, bytes)
+            }
+            None => false,
+        }
     }
 
     // The place of the area that has the address: the likely one, or else the first that has it.
-    #[inline]
+    #[inline(always)]
     fn find(&self, addr: u64) -> Option<usize>
         ensures found { IfSome result (IsHolder self.now addr) }
         ensures none { IfNone result (All (λ a. holds a addr ≡ false) self.now) }
@@ -194,6 +226,16 @@ impl LiveBytes {
         if likely < self.areas.len() && self.areas[likely].has(addr) {
             return Some(likely);
         }
+        self.find_first(addr)
+    }
+
+    // The place of the first area that has the address.
+    #[inline(never)]
+    fn find_first(&self, addr: u64) -> Option<usize>
+        ensures found { IfSome result (IsHolder self.now addr) }
+        ensures none { IfNone result (All (λ a. holds a addr ≡ false) self.now) }
+        ensures rising { RiseFrom 0 (extents self.now) }
+    {
         self.areas.iter().position(|area| area.has(addr))
     }
 }

@@ -1,19 +1,17 @@
 // The bytes of an area.
-ghost use Rattle.std.specs.Prelude.{◌≡◌, ◌≢◌, ℕ, ◌+◌, ◌-◌, ◌<◌, ◌≤◌, ◌↔◌, IsTrue, IfOk, None, Some, replicate, length, slice_index, slice_index_or, slice_set, if◌then◌else◌};
+ghost use Rattle.std.specs.Bool.{OnTrue, OnFalse};
+ghost use Rattle.std.specs.Prelude.{◌≡◌, ◌≢◌, ℕ, ◌+◌, ◌-◌, ◌^◌, ◌<◌, ◌≤◌, ◌↔◌, IsTrue, IsSome, IfOk, IfSome, None, Some, replicate, length, slice_index, slice_index_or, if◌then◌else◌};
 ghost use Rattle.memchr.specs.Find.{IsFirst};
 ghost use Rattle.marks.specs.Ranges.{covers};
 ghost use Rattle.space_memory_bytes.specs.Numbers.{digit};
-ghost use Rattle.space_memory_bytes.specs.Marks.{marked, WritesWord};
+ghost use Rattle.space_memory_bytes.specs.Marks.{marked, AreLive, HasDigits, FillsCells, PutsCells, WritesDigits};
 
 use memchr::memchr;
 use std::alloc::{AllocError, Global};
 use std::marker::Model;
 
-/// The number of eight marks, each of a byte that lives.
-const ALL_LIVE: u64 = 0x0101_0101_0101_0101;
-
-/// Bytes, each dead or live with a value. Beside the values lie as many marks, 1 where a byte lives and 0 where it is dead, so
-/// that eight bytes are tested and read at once.
+/// Bytes, each dead or live with a value. Beside the values lie as many marks, 1 where a byte lives and 0 where it is dead,
+/// so that the bytes of a number are tested and read at once, and those of a range are whole slices.
 #[derive(Drop)]
 pub struct MarkedBytes {
     marks: Vec<u8>,
@@ -22,13 +20,13 @@ pub struct MarkedBytes {
 
 impl Model for MarkedBytes {
     ghost use Rattle.std.specs.Prelude.{◌≡◌, ℕ, List, Option, length};
-    ghost use Rattle.space_memory_bytes.specs.Marks.{cells_of};
+    ghost use Rattle.space_memory_bytes.specs.Marks.{cells_of, AreMarks};
 
     ghost Value = { List (Option ℕ) };
 
     ghost view = { λ c. cells_of c.marks.items c.values.items };
 
-    ghost invariant = { λ c. length c.values.items ≡ length c.marks.items };
+    ghost invariant = { λ c. AreMarks c.marks.items c.values.items };
 }
 
 impl MarkedBytes {
@@ -65,17 +63,6 @@ impl MarkedBytes {
         }
     }
 
-    /// Makes the byte at a place the given one.
-    #[inline]
-    pub fn set(&mut self, at: usize, byte: Option<u8>)
-        requires { at < length self.old }
-        ensures { self.new ≡ slice_set self.old at byte }
-    {
-        let (mark, value) = mark_of(byte);
-        self.marks[at] = mark;
-        self.values[at] = value;
-    }
-
     /// The first place from the given one on whose byte is live.
     pub fn first_live(&self, from: usize) -> Option<usize>
         requires { from ≤ length self.now }
@@ -85,40 +72,143 @@ impl MarkedBytes {
         Some(from + at)
     }
 
-    /// Whether each of the eight bytes from a place on is live.
-    #[inline]
-    pub fn is_live_word(&self, at: usize) -> bool
-        requires { at + 8 ≤ length self.now }
-        ensures { IsTrue result ↔ ((i : ℕ) → i < 8 → slice_index_or self.now (at + i) None ≢ None) }
+    /// The first place from one up to another whose byte is dead.
+    pub fn first_dead(&self, from: usize, to: usize) -> Option<usize>
+        requires order { from ≤ to }
+        requires in_cells { to ≤ length self.now }
+        ensures { IsFirst (λ k. slice_index_or self.now k None ≡ None) from to result }
     {
-        number_at(&self.marks, at) == ALL_LIVE
+        let at = memchr(0, &self.marks[from..to])?;
+        Some(from + at)
     }
 
-    /// The number of the eight live bytes from a place on, the lowest first.
-    #[inline]
-    pub fn word(&self, at: usize) -> u64
-        requires in_cells { at + 8 ≤ length self.now }
-        requires live { (i : ℕ) → i < 8 → slice_index_or self.now (at + i) None ≢ None }
-        ensures { (i : ℕ) → i < 8 → slice_index_or self.now (at + i) None ≡ Some (digit result i) }
+    /// The values of the live bytes from one place up to another.
+    pub fn part(&self, from: usize, to: usize) -> &[u8]
+        requires order { from ≤ to }
+        requires in_cells { to ≤ length self.now }
+        requires live { AreLive self.now from (to - from) }
+        ensures len { length result.now + from ≡ to }
+        ensures values { (i : ℕ) → i < length result.now →
+            slice_index_or self.now (from + i) None ≡ Some (slice_index result.now i) }
     {
-        number_at(&self.values, at)
+        &self.values[from..to]
     }
 
-    /// Makes the eight bytes from a place on those of the number, the lowest first.
-    #[inline]
-    pub fn put_word(&mut self, at: usize, value: u64)
-        requires { at + 8 ≤ length self.old }
-        ensures { WritesWord at value self.old self.new }
+    /// The number of the `width` bytes from a place on, the lowest first; `None` where one is dead.
+    #[inline(always)]
+    pub fn number(&self, at: usize, width: u8) -> Option<u64>
+        requires in_cells { at < length self.now }
+        requires some { 1 ≤ width }
+        requires at_most_8 { width ≤ 8 }
+        ensures live { IsSome result ↔ AreLive self.now at width }
+        ensures digits { IfSome result (HasDigits self.now at width) }
+        ensures fits { IfSome result (λ value. value < 256 ^ width) }
     {
-        put_eight(&mut self.marks, at, [1; 8]);
-        put_eight(&mut self.values, at, value.to_le_bytes());
+        match width {
+            1 => self.number_of(at, 1),
+            2 => self.number_of(at, 2),
+            4 => self.number_of(at, 4),
+            8 => self.number_of(at, 8),
+            _ => self.number_of(at, width as usize),
+        }
+    }
+
+    /// Makes the `width` bytes from a place on those of the number, the lowest first, if all are live; whether they are.
+    #[inline(always)]
+    pub fn overwrite(&mut self, at: usize, width: u8, value: u64) -> bool
+        requires in_cells { at < length self.old }
+        requires some { 1 ≤ width }
+        requires at_most_8 { width ≤ 8 }
+        ensures live { IsTrue result ↔ AreLive self.old at width }
+        ensures written { OnTrue result (WritesDigits at width value self.old self.new) }
+        ensures unchanged { OnFalse result (self.new ≡ self.old) }
+    {
+        match width {
+            1 => self.overwrite_with(at, 1, value),
+            2 => self.overwrite_with(at, 2, value),
+            4 => self.overwrite_with(at, 4, value),
+            8 => self.overwrite_with(at, 8, value),
+            _ => self.overwrite_with(at, width as usize, value),
+        }
+    }
+
+    /// Makes each byte from one place up to another the given one.
+    pub fn fill(&mut self, from: usize, to: usize, byte: Option<u8>)
+        requires order { from ≤ to }
+        requires in_cells { to ≤ length self.old }
+        ensures { FillsCells from (to - from) byte self.old self.new }
+    {
+        let (mark, value) = mark_of(byte);
+        fill_part(&mut self.marks, from, to, mark);
+        fill_part(&mut self.values, from, to, value);
+    }
+
+    /// Makes the bytes from a place on those of the list.
+    pub fn put(&mut self, at: usize, bytes: &[u8])
+        requires in_cells { at + length bytes.now ≤ length self.old }
+        requires ends { at + length bytes.now < 2 ^ 64 }
+        ensures { PutsCells at bytes.now self.old self.new }
+    {
+        fill_part(&mut self.marks, at, at + bytes.len(), 1);
+        put_part(&mut self.values, at, bytes);
+    }
+
+    // The number of the n bytes from a place on, if all are live.
+    #[inline(always)]
+    fn number_of(&self, at: usize, n: usize) -> Option<u64>
+        requires in_cells { at < length self.now }
+        requires some { 1 ≤ n }
+        requires at_most_8 { n ≤ 8 }
+        ensures live { IsSome result ↔ AreLive self.now at n }
+        ensures digits { IfSome result (HasDigits self.now at n) }
+        ensures fits { IfSome result (λ value. value < 256 ^ n) }
+    {
+        if self.are_live(at, n) {
+            Some(number_at(&self.values, at, n))
+        } else {
+            None
+        }
+    }
+
+    // Makes the n bytes from a place on those of the number, if all are live; whether they are.
+    #[inline(always)]
+    fn overwrite_with(&mut self, at: usize, n: usize, value: u64) -> bool
+        requires in_cells { at < length self.old }
+        requires some { 1 ≤ n }
+        requires at_most_8 { n ≤ 8 }
+        ensures live { IsTrue result ↔ AreLive self.old at n }
+        ensures written { OnTrue result (WritesDigits at n value self.old self.new) }
+        ensures unchanged { OnFalse result (self.new ≡ self.old) }
+    {
+        if self.are_live(at, n) {
+            put_part(&mut self.values, at, &value.to_le_bytes()[..n]);
+            true
+        } else {
+            false
+        }
+    }
+
+    // Whether each of the n bytes from a place on is live: their marks make the number of as many ones.
+    #[inline(always)]
+    fn are_live(&self, at: usize, n: usize) -> bool
+        requires in_cells { at < length self.now }
+        requires some { 1 ≤ n }
+        requires at_most_8 { n ≤ 8 }
+        ensures live { IsTrue result ↔ AreLive self.now at n }
+        ensures within { IsTrue result → at + n ≤ length self.now }
+    {
+        if self.marks.len() - at < n {
+            return false;
+        }
+        number_at(&self.marks, at, n) == number_at(&[1; 8], 0, n)
     }
 }
 
 // The mark and the value of a byte; the value of a dead one is 0.
 #[inline]
 fn mark_of(byte: Option<u8>) -> (u8, u8)
-    ensures { marked result.0 result.1 ≡ byte }
+    ensures byte { marked result.0 result.1 ≡ byte }
+    ensures mark { result.0 ≤ 1 }
 {
     match byte {
         Some(value) => (1, value),
@@ -126,26 +216,40 @@ fn mark_of(byte: Option<u8>) -> (u8, u8)
     }
 }
 
-// The number of the eight bytes from a place on, the lowest first.
-#[inline]
-fn number_at(bytes: &[u8], at: usize) -> u64
-    requires { at + 8 ≤ length bytes.now }
-    ensures { (i : ℕ) → i < 8 → digit result i ≡ slice_index bytes.now (at + i) }
+// The number of the n bytes from a place on, the lowest first.
+#[inline(always)]
+fn number_at(bytes: &[u8], at: usize, n: usize) -> u64
+    requires in_bytes { at + n ≤ length bytes.now }
+    requires at_most_8 { n ≤ 8 }
+    ensures fits { result < 256 ^ n }
+    ensures digits { (i : ℕ) → i < n → digit result i ≡ slice_index bytes.now (at + i) }
 {
-    let eight = &bytes[at..at + 8];
-    u64::from_le_bytes([
-        eight[0], eight[1], eight[2], eight[3], eight[4], eight[5], eight[6], eight[7],
-    ])
+    let mut value = 0;
+    for place in (at..at + n).rev() {
+        value = value * 256 + u64::from(bytes[place]);
+    }
+    value
 }
 
-// Makes the eight bytes from a place on those that are given.
-#[inline]
-fn put_eight(bytes: &mut [u8], at: usize, eight: [u8; 8])
-    requires { at + 8 ≤ length bytes.old }
+// Makes the bytes from a place on those of the part.
+#[inline(always)]
+fn put_part(bytes: &mut [u8], at: usize, part: &[u8])
+    requires { at + length part.now ≤ length bytes.old }
     ensures len { length bytes.new ≡ length bytes.old }
     ensures put { (k : ℕ) → slice_index bytes.new k ≡
-        (if covers (record { addr = at; len = 8 }) k then slice_index eight (k - at) else slice_index
-        bytes.old k) }
+        (if covers (record { addr = at; len = length part.now }) k then slice_index part.now (k - at)
+        else slice_index bytes.old k) }
 {
-    bytes[at..at + 8].copy_from_slice(&eight);
+    bytes[at..at + part.len()].copy_from_slice(part);
+}
+
+// Makes each byte from one place up to another the given one.
+fn fill_part(bytes: &mut [u8], from: usize, to: usize, byte: u8)
+    requires order { from ≤ to }
+    requires in_bytes { to ≤ length bytes.old }
+    ensures len { length bytes.new ≡ length bytes.old }
+    ensures filled { (k : ℕ) → slice_index bytes.new k ≡
+        (if covers (record { addr = from; len = to - from }) k then byte else slice_index bytes.old k) }
+{
+    bytes[from..to].fill(byte);
 }

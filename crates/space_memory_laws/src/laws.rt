@@ -3,6 +3,7 @@
 ghost use Rattle.std.specs.Prelude.{List, ℕ};
 ghost use Rattle.marks.specs.declared.range.Range.{Range};
 ghost use Rattle.marks.specs.Ranges.{Prepared};
+ghost use Rattle.space_memory_laws.specs.Checkpoints.{CheckpointsShareMemory, LikeRunsGoOnAlike, LikeRunsShareMemory};
 ghost use Rattle.space_memory_laws.specs.Rearranged.{RearrangedRunsShareMemory};
 ghost use Rattle.space_memory_laws.specs.Starts.{NewMemoryStandsForTheStart};
 ghost use Rattle.space_memory_laws.specs.Numbers.{AreBytesOf};
@@ -21,6 +22,22 @@ ghost use Rattle.space_memory_laws.specs.PoolMarks.{AllocsAreMarks, FreesAreMark
 /// Memory before a run stands for the run in which nothing was done yet.
 pub fn new_memory_stands_for_the_start()
     ensures { NewMemoryStandsForTheStart }
+{}
+
+/// Memory that stands for a run stands for each that leaves the same, from whatever start: memory that was built by calls
+/// is that of a start which has their bytes, frames, open Calls, blocks and keys in use.
+pub fn like_runs_share_memory()
+    ensures { LikeRunsShareMemory }
+{}
+
+/// Runs that leave the same do so with the same later marks too.
+pub fn like_runs_go_on_alike()
+    ensures { LikeRunsGoOnAlike }
+{}
+
+/// Memory stands for what goes on from a checkpoint of a run exactly where it stands for the whole.
+pub fn checkpoints_share_memory()
+    ensures { CheckpointsShareMemory }
 {}
 
 /// Memory that stands for a run stands for each with the same marks in another order.

@@ -1,28 +1,19 @@
-use Rattle.std.proofs.Common.{List, Option, ℕ, sym, subst, ◌≡◌, ◌+◌, ◌-◌, ◌<◌, length, ap, arith}
+use Rattle.std.proofs.Common.{◌≡◌, ℕ, ◌+◌, ◌-◌, List, Option, Some, length, get_or, ap, subst, arith}
 use Rattle.space_memory_bytes.specs.Areas.{AreaState}
-use Rattle.space_memory_bytes.specs.AreaChanges.{FillsArea}
-use Rattle.space_memory_bytes.proofs.Cells.{fills_none, fills_more}
+use Rattle.space_memory_bytes.specs.AreaChanges.{ChangesArea}
+use Rattle.space_memory_bytes.proofs.Cells.{changes_area}
 use Rattle.space_memory_bytes.proofs.area.Area.fill.Goals as goal
 
-pub loop-at-init : goal.loop-at-init
-loop-at-init c =
-    let base = ap (λ (a : AreaState). a.base) c.self.view_is in
-    record {
-      first_is = omega arith;
-      from_first = omega arith;
-      so_far = fills_none _ _ c.args.byte _ _ (omega arith) c.self.view_is;
-    }
-
-pub loop-at-preserved : goal.loop-at-preserved
-loop-at-preserved c =
-    let so_far = c.loop-at.invariant.so_far in
+pub fill-requires-clause-in_cells : goal.fill-requires-clause-in_cells
+fill-requires-clause-in_cells c =
     let base = ap (λ (a : AreaState). a.base) c.self.view_is in
     let size = ap (λ (a : AreaState). length a.cells) c.self.view_is in
+    omega (arith, base, size, c.requires.in_area, c.requires.from_base)
+
+pub returns : goal.returns
+returns c =
+    let base = ap (λ (a : AreaState). a.base) c.self.view_is in
     let first = c.args.range.addr - c.self.inside.base in
-    let place : c.loop-at.self-inside.base + c.loop-at.at ≡ c.args.range.addr + (c.loop-at.at - first) = omega (arith, so_far.extent.base) in
-    let lt : c.loop-at.at < length c.loop-at.self-inside.cells = omega (arith, so_far.extent.size, c.requires.in_area) in
-    record {
-      first_is = c.loop-at.invariant.first_is;
-      from_first = omega arith;
-      so_far = subst (λ (cells : List (Option ℕ)). FillsArea (record { addr = c.args.range.addr; len = c.loop-at.at + 1 - first }) c.args.byte c.args.self.now (record { base = c.loop-at.self-inside.base; cells = cells })) (sym c.set.ensures) (fills_more _ (c.loop-at.at - first) _ c.loop-at.at c.args.byte _ _ (omega arith) place lt so_far);
-    }
+    let new : AreaState = record { base = c.self.inside.base; cells = c.fill.new.self } in
+    subst (λ (old : AreaState). ChangesArea c.args.range.addr c.args.range.len (λ i. c.args.byte) old new) c.self.view_is
+    (changes_area c.self.inside.base first c.args.range.addr c.args.range.len (first + c.args.range.len - first) (λ i. c.args.byte) c.self.inside.cells c.fill.new.self (omega (arith, base, c.requires.from_base)) (omega arith) c.fill.ensures)

@@ -6,7 +6,7 @@ use Rattle.space_memory_bytes.proofs.Nexts.{LivesAt, live_nowhere, live_first}
 use Rattle.space_memory_bytes.proofs.marked_bytes.MarkedBytes.first_live.Goals as goal
 
 pub slice_bounds-memchr-count : goal.slice_bounds-memchr-count
-slice_bounds-memchr-count c = omega (arith, c.requires, c.deref.ensures.len, length_is _ _ c.self.invariant _ c.self.view_is)
+slice_bounds-memchr-count c = omega (arith, c.requires, c.deref.ensures.len, length_is _ _ c.self.invariant.size _ c.self.view_is)
 
 pub slice_bounds-memchr-start : goal.slice_bounds-memchr-start
 slice_bounds-memchr-start c = slice_bounds-memchr-count c
@@ -19,10 +19,10 @@ searched from now marks same = take_all (length now - from) (drop from now) (ome
 pub returns-in_err-at : goal.returns-in_err-at
 returns-in_err-at c =
     subst (λ (o : Option ℕ). IsFirst (LivesAt c.args.self.now) c.args.from (length c.args.self.now) o) (sym c.from_residual.ensures)
-    (live_nowhere _ _ c.self.invariant _ c.self.view_is c.args.from c.requires (subst (λ (ms : List ℕ). Nowhere (Passes (is_byte 1) ms) 0 (length ms)) (searched c.args.from c.deref.result.now _ c.deref.ensures.value) c.in_err-at.ensures))
+    (live_nowhere _ _ c.self.invariant.size _ c.self.view_is c.args.from c.requires (subst (λ (ms : List ℕ). Nowhere (Passes (is_byte 1) ms) 0 (length ms)) (searched c.args.from c.deref.result.now _ c.deref.ensures.value) c.in_err-at.ensures))
 
 -- or the first one tells
 pub returns : goal.returns
 returns c =
-    live_first _ _ c.self.invariant _ c.self.view_is c.args.from c.requires c.in_ok-at.at
+    live_first _ _ c.self.invariant.size _ c.self.view_is c.args.from c.requires c.in_ok-at.at
     (subst (λ (ms : List ℕ). NoneBefore (Passes (is_byte 1) ms) 0 (length ms) c.in_ok-at.at × Passes (is_byte 1) ms c.in_ok-at.at) (searched c.args.from c.deref.result.now _ c.deref.ensures.value) c.in_ok-at.ensures)
