@@ -5,16 +5,16 @@ use Rattle.c_syntax.specs.Syntax.{Expr, MaybeExpr, Decl, Decls, Parts, Rest, Stm
 use Rattle.c_types_model.specs.Types.{CType, CTypes, Void, Integer, PointerTo, ArrayOf, StructOf, UndefinedStruct, FunctionOf, NoTypes, MoreTypes}
 use Rattle.c_scopes.specs.Scopes.{Scope, meaning_in, meaning_of, same_name}
 use Rattle.c_scopes.specs.Scopes as scopes
-use Rattle.c_types_rules.specs.Checked.{Checked, Fine, Large, Broken, keep, ◌>>=◌, ◌>>◌}
+use Rattle.c_types_rules.specs.Checked.{Checked, Fine, Noted, Broken, heard, keep, ◌>>=◌, ◌>>◌}
 use Rattle.c_types_rules.specs.TypeTests.{is_scalar, is_void}
 use Rattle.c_types_rules.specs.Environment.{Environment, Meaning, FunctionNamed, LocalNamed, declarable, extents, inner, with_name}
-use Rattle.c_types_rules.specs.Expressions.{complete, declared_name, declared_type, expression, with_parameter, start_of}
+use Rattle.c_types_rules.specs.Expressions.{complete, declared_name, declared_type, expression, with_parameter, start_of, parameter_types}
 use Rattle.c_types_rules.specs.Operators.{assigned, scalar}
 use Rattle.c_types_rules.specs.TypedTree.{Value, MaybeValue, NoValue, OneValue, Statement, Statements, joined, value_of}
 use Rattle.c_types_rules.specs.TypedTree as typed
 use Rattle.c_types_rules.specs.Statements.{Declared, Surroundings, condition_in, entries, entry, evaluated, first, first_value, inside, local, locals_of, looping, maybe_condition, maybe_in, outside, returned, statement, value_in}
-use Rattle.c_types_rules.specs.Sources.{block_of, body_of, listed, nearest, parameter, parameters, params_of, result_of}
-use Rattle.c_lower_laws.proofs.Held.{Holds, holds_then, holds_on, holds_after}
+use Rattle.c_types_rules.specs.Sources.{block_of, body_of, listed, nearest, parameter, parameters, params_of, result_of, block_body}
+use Rattle.c_lower_laws.proofs.Held.{Holds, holds_heard, holds_then, holds_on, holds_after}
 use Rattle.c_lower_rules.specs.Code.{Making}
 use Rattle.c_lower_rules.specs.Heights.{MaybeCalls, StatementCalls, StatementsCall}
 use Rattle.c_lower_laws.proofs.Values.{Counts, CountsTyped, IsAt, NamesAre, Serves, assigned_counts, expression_counts, value_counts}
@@ -180,8 +180,12 @@ module _ (x : Making) (us : List CType) (serves : Serves x us) where
   block_counts (Block from es) p d ns = holds_then MakesAll Makes (entries es p d) _ (entries_count es p d ns) (λ a h. h)
   block_counts s p d ns = statement_counts s p d ns
 
+  block_body_counts : (env : Environment) (t : CType) (ps : Parts) (s : Stmt) → NamesAre us env → Holds (λ b. S b.statements) (block_body env t ps s)
+  block_body_counts env t ps s ns =
+      holds_then (NamesAre us) (λ b. S b.statements) (parameters (nearest ps) (inner env) 0 (params_of t)) _ (parameters_names us (nearest ps) (inner env) 0 (params_of t) ns)
+      (λ within h. holds_then (λ a. Makes a.0) (λ b. S b.statements) (heard (block_of s (record { result = result_of t; in_loop = false }) (record { env = within; locals = listed (params_of t) }))) _
+      (holds_heard Makes (block_of s (record { result = result_of t; in_loop = false }) (record { env = within; locals = listed (params_of t) })) (block_counts s (record { result = result_of t; in_loop = false }) (record { env = within; locals = listed (params_of t) }) h)) (λ a k. k))
+
   pub body_counts : (env : Environment) (t : CType) (ps : Parts) (s : Stmt) → NamesAre us env → Holds (λ b. S b.statements) (body_of env t ps s)
   body_counts env t ps s ns =
-      holds_then (NamesAre us) (λ b. S b.statements) (parameters (nearest ps) (inner env) 0 (params_of t)) _ (parameters_names us (nearest ps) (inner env) 0 (params_of t) ns)
-      (λ within h. holds_then Makes (λ b. S b.statements) (block_of s (record { result = result_of t; in_loop = false }) (record { env = within; locals = listed (params_of t) })) _
-      (block_counts s (record { result = result_of t; in_loop = false }) (record { env = within; locals = listed (params_of t) }) h) (λ a k. k))
+      holds_on (λ b. S b.statements) (heard (parameter_types (nearest ps) (inner env) 0)) _ (λ vs. holds_then (λ b. S b.statements) (λ b. S b.statements) (block_body env t ps s) _ (block_body_counts env t ps s ns) (λ b h. h))

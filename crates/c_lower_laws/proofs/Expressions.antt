@@ -5,7 +5,7 @@ use Rattle.r2_num.specs.declared.kinds.IntKind.TheVariants.{U64}
 use Rattle.c_syntax.specs.Syntax.{Expr, Exprs, Name, Number, Char, Text, Binary, Assign, Cond, Prefix, Postfix, SizeofExpr, SizeofType, Cast, Index, Call, Member, Arrow, NoExprs, MoreExprs}
 use Rattle.c_types_model.specs.Types.{CTypes, NoTypes, MoreTypes}
 use Rattle.c_scopes.specs.Scopes.{meaning_of}
-use Rattle.c_types_rules.specs.Checked.{keep, ◌>>=◌}
+use Rattle.c_types_rules.specs.Checked.{keep, unevaluated, ◌>>=◌}
 use Rattle.c_types_rules.specs.TypeTests.{is_complete}
 use Rattle.c_types_rules.specs.TypedTree.{Values, typed_type, value_type, value_of}
 use Rattle.c_types_rules.specs.Operators.{assigned, assignment, binary, cast, choice, size_in}
@@ -52,7 +52,7 @@ mutual
   expression_within (Postfix from o x) env s g =
       holds_then (TypedWithin (depth x s)) (TypedWithin (depth (Postfix from o x) s)) (expression x env) _ (expression_within x env s g) (λ a h. postfixed_within (depth x s) (extents env) from o a h)
   expression_within (SizeofExpr from x) env s g =
-      holds_on (TypedWithin 1) (expression x env) _ (λ a. holds_after (TypedWithin 1) (keep from 15 (is_complete (extents env) (typed_type a))) (constant U64 (pos (size_in (extents env) (typed_type a)))) (lit≤ tt))
+      holds_on (TypedWithin 1) (expression x env) _ (λ a. holds_after (TypedWithin 1) (unevaluated a) _ (holds_after (TypedWithin 1) (keep from 15 (is_complete (extents env) (typed_type a))) (constant U64 (pos (size_in (extents env) (typed_type a)))) (lit≤ tt)))
   expression_within (SizeofType from d) env s g =
       holds_on (TypedWithin 1) (declared_type d env) _ (λ t. holds_after (TypedWithin 1) (keep from 15 (is_complete (extents env) t)) (constant U64 (pos (size_in (extents env) t))) (lit≤ tt))
   expression_within (Cast from d x) env s g =

@@ -1,14 +1,15 @@
 -- The locals of a typed body begin with its parameters.
+use Rattle.c_types_rules.specs.Expressions.{parameter_types}
 use Rattle.std.proofs.Common.{◌≡◌, ℕ, false, List, [], ◌∷◌, ◌++◌, append-nil, append_assoc, refl, sym, ap, ◌∙◌}
 use Rattle.c_syntax.specs.Syntax.{Decl, Decls, Parts, Stmt, Entries, Entry, First, Declare, NoDecls, MoreDecls, Block, Expression, If, IfElse, While, Do, For, Break, Continue, Return, NoEntries, MoreEntries, LocalEntry, StmtEntry, NoFirst, LocalFirst, ExprFirst}
 use Rattle.c_types_model.specs.Types.{CType}
-use Rattle.c_types_rules.specs.Checked.{Checked, Fine, keep, ◌>>=◌, ◌>>◌}
+use Rattle.c_types_rules.specs.Checked.{Checked, Fine, heard, keep, ◌>>=◌, ◌>>◌}
 use Rattle.c_types_rules.specs.Environment.{Environment, inner}
 use Rattle.c_types_rules.specs.TypedTree.{Statement, Statements}
 use Rattle.c_types_rules.specs.TypedTree as typed
 use Rattle.c_types_rules.specs.Statements.{Declared, Surroundings, condition_in, entries, entry, first, inside, local, locals_of, looping, maybe_condition, maybe_in, outside, returned, statement, value_in}
-use Rattle.c_types_rules.specs.Sources.{block_of, body_of, listed, nearest, parameters, params_of, result_of}
-use Rattle.c_lower_laws.proofs.Held.{Holds, holds_then, holds_on, holds_after}
+use Rattle.c_types_rules.specs.Sources.{block_of, body_of, listed, nearest, parameters, params_of, result_of, block_body}
+use Rattle.c_lower_laws.proofs.Held.{Holds, holds_heard, holds_then, holds_on, holds_after}
 
 -- the second list begins with the first
 abbrev pub Starts : List CType → List CType → Type 0
@@ -85,8 +86,11 @@ block_grows s p d = statement_grows s p d
 abbrev pub Begins : CType → typed.Body → Type 0
 Begins t b = Starts (listed (params_of t)) b.locals
 
-pub body_begins : (env : Environment) (t : CType) (ps : Parts) (s : Stmt) → Holds (Begins t) (body_of env t ps s)
-body_begins env t ps s =
+block_begins : (env : Environment) (t : CType) (ps : Parts) (s : Stmt) → Holds (Begins t) (block_body env t ps s)
+block_begins env t ps s =
     holds_on (Begins t) (parameters (nearest ps) (inner env) 0 (params_of t)) _
-    (λ within. holds_then (Grows (listed (params_of t))) (Begins t) (block_of s (record { result = result_of t; in_loop = false }) (record { env = within; locals = listed (params_of t) })) _
-    (block_grows s (record { result = result_of t; in_loop = false }) (record { env = within; locals = listed (params_of t) })) (λ a h. h))
+    (λ within. holds_then (λ a. Grows (listed (params_of t)) a.0) (Begins t) (heard (block_of s (record { result = result_of t; in_loop = false }) (record { env = within; locals = listed (params_of t) }))) _
+    (holds_heard (Grows (listed (params_of t))) (block_of s (record { result = result_of t; in_loop = false }) (record { env = within; locals = listed (params_of t) })) (block_grows s (record { result = result_of t; in_loop = false }) (record { env = within; locals = listed (params_of t) }))) (λ a h. h))
+
+pub body_begins : (env : Environment) (t : CType) (ps : Parts) (s : Stmt) → Holds (Begins t) (body_of env t ps s)
+body_begins env t ps s = holds_on (Begins t) (heard (parameter_types (nearest ps) (inner env) 0)) _ (λ us. holds_then (Begins t) (Begins t) (block_body env t ps s) _ (block_begins env t ps s) (λ b h. h))

@@ -4,7 +4,7 @@ use Rattle.c_syntax.specs.declared.declaration.Base.{Base}
 use Rattle.c_syntax.specs.declared.declaration.Base.TheVariants as bases
 use Rattle.c_syntax.specs.Syntax.{Decl, Decls, Parts, Declare, NoDecls, MoreDecls, NoParts, Pointer, Array, Params}
 use Rattle.c_types_model.specs.Types.{CType, CTypes, Void, Integer, PointerTo, ArrayOf, StructOf, UndefinedStruct, FunctionOf, NoTypes, MoreTypes}
-use Rattle.c_types_rules.specs.Checked.{Checked, Fine, keep, small, ◌>>=◌, ◌>>◌}
+use Rattle.c_types_rules.specs.Checked.{Checked, Fine, keep, small, unevaluated, ◌>>=◌, ◌>>◌}
 use Rattle.c_types_rules.specs.Constants.{integer_constant}
 use Rattle.c_types_rules.specs.TypeTests.{is_result, is_scalar}
 use Rattle.c_types_rules.specs.TypedTree.{value_of}
@@ -53,7 +53,7 @@ declarator_takes NoParts env t h = h
 declarator_takes (Pointer from ps) env t h = holds_after TakesScalars (small (is_small (extents env) t)) _ (declarator_takes ps env (PointerTo t) tt)
 declarator_takes (Array from x ps) env t h =
     holds_after TakesScalars (complete (extents env) from t) _ (holds_after TakesScalars (small (is_small (extents env) t)) _ (holds_on TakesScalars (expression x env) _
-    (λ a. holds_on TakesScalars (length_of from (integer_constant (value_of a))) _ (λ n. declarator_takes ps env (ArrayOf n t) tt))))
+    (λ a. holds_after TakesScalars (unevaluated a) _ (holds_on TakesScalars (length_of from (integer_constant (value_of a))) _ (λ n. declarator_takes ps env (ArrayOf n t) tt)))))
 declarator_takes (Params from ds ps) env t h =
     holds_after TakesScalars (keep from 3 (is_result t)) _ (holds_then AreScalars TakesScalars (parameter_types ds (inner env) 0) _ (parameters_scalar ds (inner env) 0) (λ ts k. declarator_takes ps env (FunctionOf t ts) k))
 

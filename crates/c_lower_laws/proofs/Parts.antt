@@ -4,7 +4,7 @@ use Rattle.c_syntax.specs.declared.declaration.Base.{Base}
 use Rattle.c_syntax.specs.declared.declaration.Base.TheVariants as bases
 use Rattle.c_syntax.specs.Syntax.{Annots, Parts, Rest, Declare, NoParts, Pointer, Array, Params}
 use Rattle.c_types_model.specs.Types.{CType, PointerTo, ArrayOf, FunctionOf}
-use Rattle.c_types_rules.specs.Checked.{Fine, keep, small}
+use Rattle.c_types_rules.specs.Checked.{Fine, keep, small, unevaluated}
 use Rattle.c_types_rules.specs.Constants.{integer_constant}
 use Rattle.c_types_rules.specs.TypeTests.{is_function, is_result}
 use Rattle.c_types_rules.specs.TypedTree.{value_of}
@@ -34,7 +34,7 @@ type_ends NoParts env t = refl
 type_ends (Pointer from ps) env t = holds_after (λ u. is_function u ≡ ends ps false) (small (is_small (extents env) t)) _ (type_ends ps env (PointerTo t))
 type_ends (Array from x ps) env t =
     holds_after (λ u. is_function u ≡ ends ps false) (complete (extents env) from t) _ (holds_after (λ u. is_function u ≡ ends ps false) (small (is_small (extents env) t)) _
-    (holds_on (λ u. is_function u ≡ ends ps false) (expression x env) _ (λ a. holds_on (λ u. is_function u ≡ ends ps false) (length_of from (integer_constant (value_of a))) _ (λ n. type_ends ps env (ArrayOf n t)))))
+    (holds_on (λ u. is_function u ≡ ends ps false) (expression x env) _ (λ a. holds_after (λ u. is_function u ≡ ends ps false) (unevaluated a) _ (holds_on (λ u. is_function u ≡ ends ps false) (length_of from (integer_constant (value_of a))) _ (λ n. type_ends ps env (ArrayOf n t))))))
 type_ends (Params from ds ps) env t =
     holds_after (λ u. is_function u ≡ ends ps true) (keep from 3 (is_result t)) _ (holds_on (λ u. is_function u ≡ ends ps true) (parameter_types ds (inner env) 0) _ (λ ts. type_ends ps env (FunctionOf t ts)))
 

@@ -8,7 +8,7 @@ use Rattle.c_syntax.specs.Syntax.{Decl, Decls, Annots, Parts, Rest, Stmt, Declar
 use Rattle.c_builtins.specs.Table.{first_source_function}
 use Rattle.c_scopes.specs.Scopes.{same_name, meaning_in}
 use Rattle.c_types_model.specs.Types.{CType, Void, Integer, PointerTo, ArrayOf, StructOf, UndefinedStruct, FunctionOf}
-use Rattle.c_types_rules.specs.Checked.{Checked, Fine, Large, Broken, keep, ◌>>=◌, ◌>>◌}
+use Rattle.c_types_rules.specs.Checked.{Checked, Fine, Noted, Broken, keep, ◌>>=◌, ◌>>◌}
 use Rattle.c_types_rules.specs.Expressions.{annotation_types, declared_name, declared_type}
 use Rattle.c_types_rules.specs.Environment.{Struct, Meaning, FunctionNamed, GlobalNamed, LocalNamed, is_reserved}
 use Rattle.c_types_rules.specs.Sources.{Function, Global, Program, at_file, body_at, body_of, declaration, declarations, declared_again, function, function_declared, function_defined, function_or_global, global, is_main, nothing, program, struct_defined, tags_of, with_body}

@@ -1,5 +1,5 @@
 -- Of each typed source the evaluation stack is no deeper in the bodies of functions than its text says.
-use Rattle.std.proofs.Common.{◌≡◌, ℕ, Bool, true, false, cond, List, [], ◌∷◌, length, Option, Some, None, refl, subst}
+use Rattle.std.proofs.Common.{◌≡◌, ℕ, Bool, true, false, not, cond, List, [], ◌∷◌, length, Option, Some, None, refl, subst}
 use Rattle.std.specs.Option.{option_or}
 use Rattle.c_syntax.specs.declared.declaration.Base.{Base}
 use Rattle.c_syntax.specs.declared.declaration.Base.TheVariants as bases
@@ -9,7 +9,7 @@ use Rattle.c_builtins.specs.declared.lookup.TheConstants.{BUILTINS}
 use Rattle.c_builtins.specs.Table.{name_of}
 use Rattle.c_scopes.specs.Scopes.{declared, meaning_in, meaning_of, same_name}
 use Rattle.c_types_model.specs.Types.{CType, Void, Integer, PointerTo, ArrayOf, StructOf, UndefinedStruct, FunctionOf}
-use Rattle.c_types_rules.specs.Checked.{Checked, Fine, Large, Broken, keep, ◌>>=◌, ◌>>◌}
+use Rattle.c_types_rules.specs.Checked.{Checked, Fine, Noted, Broken, keep, ◌>>=◌, ◌>>◌}
 use Rattle.c_types_rules.specs.TypeTests.{is_function}
 use Rattle.c_types_rules.specs.Environment.{GlobalNamed, Struct}
 use Rattle.c_types_rules.specs.Expressions.{annotation_types, declared_name, declared_type}
@@ -149,7 +149,7 @@ within_limits fs q p (Some w) g e = absurd cc
 
 found : (fs : Functions) (c : Checked Program) (p : Program) → Holds (λ q. Good q fs) c → decided c ≡ Typed p → Good p fs
 found fs (Fine q) p g e = within_limits fs q p (first_limit true q) g e
-found fs (Large q) p g e = within_limits fs q p (first_limit false q) g e
+found fs (Noted n q) p g e = within_limits fs q p (first_limit (not n.large) q) g e
 found fs (Broken from rule) p g e = absurd cc
 
 pub bodies_are_no_deeper : (ds : Decls) (p : Program) → outcome ds ≡ Typed p → NoMore p.functions (function_depth ds)

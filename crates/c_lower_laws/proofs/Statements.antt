@@ -3,20 +3,20 @@
 use Rattle.std.proofs.Common.{ℕ, false, max, List, lit≤}
 use Rattle.c_syntax.specs.Syntax.{Expr, MaybeExpr, Parts, Stmt, Entries, Entry, First, NoExpr, OneExpr, Block, Expression, If, IfElse, While, Do, For, Break, Continue, Return, NoEntries, MoreEntries, LocalEntry, StmtEntry, NoFirst, LocalFirst, ExprFirst}
 use Rattle.c_types_model.specs.Types.{CType, Void, Integer, PointerTo, ArrayOf, StructOf, UndefinedStruct, FunctionOf}
-use Rattle.c_types_rules.specs.Checked.{Fine, keep, ◌>>=◌}
+use Rattle.c_types_rules.specs.Checked.{Fine, heard, keep, ◌>>=◌}
 use Rattle.c_types_rules.specs.TypeTests.{is_void}
 use Rattle.c_types_rules.specs.Environment.{Environment, inner}
 use Rattle.c_types_rules.specs.Operators.{assigned}
 use Rattle.c_types_rules.specs.TypedTree.{Value, MaybeValue, NoValue, OneValue, Statement, Statements, joined, value_of}
 use Rattle.c_types_rules.specs.TypedTree as typed
-use Rattle.c_types_rules.specs.Expressions.{start_of}
+use Rattle.c_types_rules.specs.Expressions.{start_of, parameter_types}
 use Rattle.c_types_rules.specs.Statements.{Declared, Surroundings, condition_in, entries, entry, evaluated, first, inside, looping, maybe_condition, maybe_in, outside, returned, statement, value_in}
-use Rattle.c_types_rules.specs.Sources.{block_of, body_of, listed, nearest, parameters, params_of, result_of}
+use Rattle.c_types_rules.specs.Sources.{block_of, body_of, listed, nearest, parameters, params_of, result_of, block_body}
 use Rattle.c_lower_rules.specs.Heights.{value_depth, maybe_depth, statement_depth, statements_depth}
 use Rattle.c_lower_stack.specs.Names.{Names, with_decl, with_decls, with_entry, with_first}
 use Rattle.c_lower_stack.specs.Names as names
 use Rattle.c_lower_stack.specs.Greatest.{in_entries, in_entry, in_expr, in_first, in_maybe, in_stmt}
-use Rattle.c_lower_laws.proofs.HeldValues.{Holds, holds_then, holds_after}
+use Rattle.c_lower_laws.proofs.HeldValues.{Holds, holds_heard, holds_then, holds_after, holds_on}
 use Rattle.c_lower_laws.proofs.Names.{Agree, inner_agree, parameters_agree}
 use Rattle.c_lower_laws.proofs.BodyValues.{AllFit, FitsStatement, FitsMaybe, FitsValue, alone, assigned_fits, condition_fits, joined_fit, maybe_condition_fits, maybe_fits, one_more, two, value_fits}
 use Rattle.c_lower_laws.proofs.LocalValues.{Declares, locals_declare}
@@ -112,9 +112,14 @@ block_fits (Block from es) p d s g =
     holds_then (MakesAll (in_entries es (names.inner s))) (Makes (in_entries es (names.inner s))) (entries es p d) _ (entries_fit es p d (names.inner s) (record { within = tt; objects = g.objects })) (λ a h. h)
 block_fits t p d s g = statement_fits t p d s g
 
-pub body_fits : (env : Environment) (s : Names) (t : CType) (ps : Parts) (b : Stmt) → Agree env s → Holds (λ body. FitsStatement (in_stmt b (with_decls (nearest ps) (names.inner s))) body.statements) (body_of env t ps b)
-body_fits env s t ps b g =
+block_body_fits : (env : Environment) (s : Names) (t : CType) (ps : Parts) (b : Stmt) → Agree env s → Holds (λ body. FitsStatement (in_stmt b (with_decls (nearest ps) (names.inner s))) body.statements) (block_body env t ps b)
+block_body_fits env s t ps b g =
     let within : Names = with_decls (nearest ps) (names.inner s) in
     holds_then (λ e. Agree e within) (λ body. FitsStatement (in_stmt b within) body.statements) (parameters (nearest ps) (inner env) 0 (params_of t)) _ (parameters_agree (nearest ps) (inner env) (names.inner s) 0 (params_of t) (inner_agree env s g))
-    (λ e h. holds_then (Makes (in_stmt b within)) (λ body. FitsStatement (in_stmt b within) body.statements) (block_of b (record { result = result_of t; in_loop = false }) (record { env = e; locals = listed (params_of t) })) _
-    (block_fits b (record { result = result_of t; in_loop = false }) (record { env = e; locals = listed (params_of t) }) within h) (λ a k. k))
+    (λ e h. holds_then (λ a. Makes (in_stmt b within) a.0) (λ body. FitsStatement (in_stmt b within) body.statements) (heard (block_of b (record { result = result_of t; in_loop = false }) (record { env = e; locals = listed (params_of t) }))) _
+    (holds_heard (Makes (in_stmt b within)) (block_of b (record { result = result_of t; in_loop = false }) (record { env = e; locals = listed (params_of t) })) (block_fits b (record { result = result_of t; in_loop = false }) (record { env = e; locals = listed (params_of t) }) within h)) (λ a k. k))
+
+pub body_fits : (env : Environment) (s : Names) (t : CType) (ps : Parts) (b : Stmt) → Agree env s → Holds (λ body. FitsStatement (in_stmt b (with_decls (nearest ps) (names.inner s))) body.statements) (body_of env t ps b)
+body_fits env s t ps b g =
+    let Fits : typed.Body → Type 0 = λ body. FitsStatement (in_stmt b (with_decls (nearest ps) (names.inner s))) body.statements in
+    holds_on Fits (heard (parameter_types (nearest ps) (inner env) 0)) _ (λ us. holds_then Fits Fits (block_body env t ps b) _ (block_body_fits env s t ps b g) (λ body h. h))

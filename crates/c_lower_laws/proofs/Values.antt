@@ -16,7 +16,7 @@ use Rattle.c_builtins.specs.declared.builtin.Builtin.{Builtin}
 use Rattle.c_builtins.specs.declared.builtin.Builtin.TheVariants.{Malloc, Free, Spawn, Join, Lock, Unlock, Print}
 use Rattle.c_builtins.specs.Table.{first_source_function, number_of, prototype_of}
 use Rattle.c_scopes.specs.Scopes.{meaning_of}
-use Rattle.c_types_rules.specs.Checked.{Checked, Fine, keep, need, ◌>>=◌, ◌>>◌}
+use Rattle.c_types_rules.specs.Checked.{Checked, Fine, Noted, Broken, keep, need, unevaluated, ◌>>=◌, ◌>>◌}
 use Rattle.c_types_rules.specs.TypeTests.{is_complete, is_integer, is_scalar, same_type}
 use Rattle.c_types_rules.specs.Constants.{is_null}
 use Rattle.c_types_rules.specs.TypedTree.{Object, Value, Values, Callee, Typed, Sum, PointerPlus, PlusPointer, PointerMinus, Way, Given, Up, Down, New, Old, Both, Either, Choice, SourceFunction, BuiltinFunction, Through, AnObject, AFunction, AValue, Convert, PointerSum, PointerDifference, PointerComparison, Moved, Stepped, MemberOf, Pointed, Element, typed_type, object_type, value_type, read_as, address_of_callee, value_of}
@@ -358,7 +358,7 @@ module _ (x : Making) (us : List CType) (serves : Serves x us) where
         (λ f j. typed_value (choice from (value_of d) (value_of e) (value_of f)) (choice_counts from (value_of d) (value_of e) (value_of f) (value_counts d h) (value_counts e k) (value_counts f j)))))
     expression_counts (Prefix from s a) env ns = holds_then CountsTyped CountsTyped (expression a env) _ (expression_counts a env ns) (λ c h. prefixed_counts (extents env) from s c h)
     expression_counts (Postfix from s a) env ns = holds_then CountsTyped CountsTyped (expression a env) _ (expression_counts a env ns) (λ c h. postfixed_counts (extents env) from s c h)
-    expression_counts (SizeofExpr from a) env ns = holds_on CountsTyped (expression a env) _ (λ c. holds_after CountsTyped (keep from 15 (is_complete (extents env) (typed_type c))) (constant U64 (pos (size_in (extents env) (typed_type c)))) tt)
+    expression_counts (SizeofExpr from a) env ns = holds_on CountsTyped (expression a env) _ (λ c. holds_after CountsTyped (unevaluated c) (keep from 15 (is_complete (extents env) (typed_type c)) >> constant U64 (pos (size_in (extents env) (typed_type c)))) (holds_after CountsTyped (keep from 15 (is_complete (extents env) (typed_type c))) (constant U64 (pos (size_in (extents env) (typed_type c)))) tt))
     expression_counts (SizeofType from d) env ns = holds_on CountsTyped (declared_type d env) _ (λ t. holds_after CountsTyped (keep from 15 (is_complete (extents env) t)) (constant U64 (pos (size_in (extents env) t))) tt)
     expression_counts (Cast from d a) env ns =
         holds_on CountsTyped (declared_type d env) _ (λ t. holds_then CountsTyped CountsTyped (expression a env) _ (expression_counts a env ns) (λ c h. typed_value (cast from t (value_of c)) (holds_after Counts (keep from 7 (can_cast t (value_type (value_of c)))) (Fine (Convert t (value_of c))) (value_counts c h))))

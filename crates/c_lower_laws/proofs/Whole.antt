@@ -1,5 +1,5 @@
 -- A typed program is fit.
-use Rattle.std.proofs.Common.{◌≡◌, ℕ, zero, suc, ◌+◌, ◌-◌, ◌≤◌, Bool, true, false, ◌&&◌, cond, ltb, lit≤, List, [], ◌∷◌, length, take, Option, Some, None, refl, sym, ap, ◌∙◌, subst, arith}
+use Rattle.std.proofs.Common.{◌≡◌, ℕ, zero, suc, ◌+◌, ◌-◌, ◌^◌, ◌<◌, ◌≤◌, Bool, true, false, not, ◌&&◌, cond, ltb, lit≤, List, [], ◌∷◌, length, map, take, Option, Some, None, refl, sym, ap, ◌∙◌, subst, arith}
 use Rattle.std.specs.Prelude.{slice_get, nat_le}
 use Rattle.std.specs.Option.{option_map}
 use Rattle.std.proofs.lemmas.Option.{same_Some, slice_get-map, slice_get_within}
@@ -14,8 +14,9 @@ use Rattle.c_types_model.specs.Types.{CType, CTypes, Void, Integer, PointerTo, A
 use Rattle.c_builtins.specs.declared.builtin.Builtin.{Builtin}
 use Rattle.c_builtins.specs.declared.builtin.Builtin.TheVariants.{Malloc, Free, Spawn, Join, Lock, Unlock, Print}
 use Rattle.c_builtins.specs.Table.{number_of, prototype_of}
-use Rattle.c_types_rules.specs.Checked.{Checked, Fine, Large, Broken}
-use Rattle.c_types_rules.specs.Limits.{Which, Functions, Params, Typed, all_keep, count as types_count, decided, few_params, first_limit, frame_size, most_functions, outcome, unless}
+use Rattle.c_types_rules.specs.Checked.{Checked, Fine, Noted, Broken}
+use Rattle.c_types_rules.specs.Limits.{Which, Functions, Params, Outcome, Typed, Limit, all_keep, count as types_count, decided, few_params, first_limit, frame_size, most_functions, outcome, unless}
+use Rattle.c_types_rules.specs.Limits as limits
 use Rattle.c_types_rules.specs.Sources.{Function, Program, extents_in, params_of, program}
 use Rattle.c_types_rules.specs.TypedTree as typed
 use Rattle.c_semantics.specs.Context.{Source, body_of, body_or, builtin_of, param_shapes, shapes_of, source_function, type_of, type_or}
@@ -186,7 +187,7 @@ typed_facts q p small (Some w) e g h = absurd cc
 
 decided_facts : (c : Checked Program) (p : Program) → Holds Good c → decided c ≡ Typed p → Facts p.functions
 decided_facts (Fine q) p g e = typed_facts q p true (first_limit true q) refl g e
-decided_facts (Large q) p g e = typed_facts q p false (first_limit false q) refl g e
+decided_facts (Noted n q) p g e = typed_facts q p (not n.large) (first_limit (not n.large) q) refl g e
 decided_facts (Broken from rule) p g e = absurd cc
 
 -- ---- programs

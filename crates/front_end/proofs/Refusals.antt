@@ -9,7 +9,7 @@ use Rattle.c_syntax.specs.Syntax.{Decls}
 use Rattle.c_parser.specs.declared.parsing.ParseError.{ParseError}
 use Rattle.c_parser.specs.declared.parsing.ParseError.TheVariants as parsing
 use Rattle.c_parser.specs.Parsed as grammar
-use Rattle.c_types_rules.specs.Checked.{Checked, Fine, Large, Broken}
+use Rattle.c_types_rules.specs.Checked.{Checked, Fine, Noted, Broken}
 use Rattle.c_types_rules.specs.Limits as limits
 use Rattle.c_types_rules.specs.Limits.{Outcome, outcome}
 use Rattle.c_types_rules.specs.Sources.{Program}
@@ -100,11 +100,11 @@ program_of ds texts tags s is = typed_program ds texts tags (outcome ds) s refl 
 broken_annotations : (cut : List ℕ) (ds : Decls) (c : Checked Annotated) (f r : ℕ) → IsInterface cut c (Err (reading.Rule f r)) → fault_of_annotations cut ds c ≡ Some (found (rules.Annotation r) f)
 broken_annotations cut ds (Broken from rule) f r is = ap (λ (n : ℕ). Some (found (rules.Annotation rule) n)) (sym is.0) ∙ ap (λ (n : ℕ). Some (found (rules.Annotation n) f)) (sym is.1)
 broken_annotations cut ds (Fine a) f r is = absurd is
-broken_annotations cut ds (Large a) f r is = absurd is
+broken_annotations cut ds (Noted n a) f r is = absurd is
 
 no_cut : (cut : List ℕ) (ds : Decls) (c : Checked Annotated) → IsInterface cut c (Err reading.NoSuchCut) → fault_of_annotations cut ds c ≡ Some errors.NoSuchCut
 no_cut cut ds (Fine a) is = ap (unless_named ds) is
-no_cut cut ds (Large a) is = ap (unless_named ds) is
+no_cut cut ds (Noted n a) is = ap (unless_named ds) is
 no_cut cut ds (Broken from rule) is = absurd is
 
 pub by_reading : (bytes cut : List ℕ) (ds : Decls) (p : Program) (error : InterfaceError) → outcome ds ≡ limits.Typed p → IsSource bytes ds
@@ -116,7 +116,7 @@ by_reading bytes cut ds p reading.Memory same source is = tt
 
 named : (cut : List ℕ) (ds : Decls) (c : Checked Annotated) (i : Interface) → IsInterface cut c (Ok i) → fault_of_annotations cut ds c ≡ too_large ds
 named cut ds (Fine a) i is = ap (unless_named ds) is.1
-named cut ds (Large a) i is = ap (unless_named ds) is.1
+named cut ds (Noted n a) i is = ap (unless_named ds) is.1
 named cut ds (Broken from rule) i is = absurd is
 
 -- where the interface of the cut was read, nothing else can be wrong than that the source is too large

@@ -11,7 +11,7 @@ use Rattle.c_code.specs.Valid.{most_values}
 use Rattle.c_parser_nodes.specs.Counts.{source_nodes}
 use Rattle.c_lower_stack.specs.Functions.{function_depth}
 use Rattle.c_lower.specs.Depths.{most_nodes}
-use Rattle.c_types_rules.specs.Checked.{Checked, Fine, Large, Broken}
+use Rattle.c_types_rules.specs.Checked.{Checked, Fine, Noted, Broken}
 use Rattle.c_types_rules.specs.Limits as typing
 use Rattle.c_types_rules.specs.Limits.{outcome}
 use Rattle.annot_reader_rules.specs.Cuts.{annotations, is_named}
@@ -58,7 +58,7 @@ unless_named ds false = Some NoSuchCut
 
 abbrev pub fault_of_annotations : (cut : List ℕ) → Decls → Checked Annotated → Option SourceError
 fault_of_annotations cut ds (Fine a) = unless_named ds (is_named cut a)
-fault_of_annotations cut ds (Large a) = unless_named ds (is_named cut a)
+fault_of_annotations cut ds (Noted n a) = unless_named ds (is_named cut a)
 fault_of_annotations cut ds (Broken from rule) = Some (found (rules.Annotation rule) from)
 
 abbrev pub fault_of_types : (cut : List ℕ) → Decls → typing.Outcome → Option SourceError

@@ -10,4 +10,4 @@ extent-extent-requires c =
     let among = c.globals-global-items in
     let all : All (IsGlobal table) among.result.now = subst (λ (gs : List Global). All (IsGlobal table) gs) (sym among.ensures.globals) among.ensures.sound.globals in
     let within : c.loop-global.global-index < length among.result.now = omega arith in
-    subst (λ (g : Global). IsGlobal table g) (sym c.global-item.is) (all c.loop-global.global-index c.global-item.result within)
+    (subst (λ (g : Global). IsGlobal table g) (sym c.global-item.is) (all c.loop-global.global-index c.global-item.result within)).type
