@@ -19,6 +19,10 @@ pub into_program-requires-clause-functions : goal.into_program-requires-clause-f
 into_program-requires-clause-functions c =
     (c.sources_stay_typed.ensures c.args.source c.in-Ok.found.0 (tags_of c.requires.1) c.requires.2.program c.requires.2.is c.in-Ok.ensures.kept).are_functions
 
+pub into_program-requires-clause-globals : goal.into_program-requires-clause-globals
+into_program-requires-clause-globals c =
+    (c.sources_stay_typed.ensures c.args.source c.in-Ok.found.0 (tags_of c.requires.1) c.requires.2.program c.requires.2.is c.in-Ok.ensures.kept).are_globals
+
 pub returns : goal.returns
 returns c = λ bytes ds source t.
     let N = c.args.tree.now in
