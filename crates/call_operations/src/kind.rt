@@ -1,0 +1,12 @@
+//! The kinds of operations that parameters give.
+
+/// A kind of operations that parameters give.
+#[derive(Clone, Copy)]
+pub(crate) enum Kind {
+    Read,
+    Hold,
+    Prepare,
+    Register,
+    KeyAtCall,
+    KeyAtReturn,
+}
