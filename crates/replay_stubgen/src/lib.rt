@@ -1,0 +1,6 @@
+//! The stubs of a replay.
+#![tactic(auto)]
+
+mod replay;
+
+pub use replay::replay_stubs;
