@@ -8,7 +8,8 @@ ghost use Rattle.c_machine.specs.Positions.{laid};
 
 use anyhow::{Context, bail};
 use c_builtins::FIRST_SOURCE_FUNCTION;
-use c_code::{Code, Placed, Side};
+use c_code::{Placed, Side};
+use c_code_fused::FusedCode;
 use c_machine::{Answer, Thread, Want, is_call_of};
 use front_end::check_source;
 use memory_map::{Bytes8, Flags, Place, Places};
@@ -123,7 +124,7 @@ fn placed(alloc: Global) -> Result<Placed, AllocError> {
 /// A thread in which the function has begun above the cut.
 fn begun(
     alloc: Global,
-    code: &Code,
+    code: &FusedCode,
     placed: &Placed,
     func: u16,
     args: &[u64],
@@ -148,7 +149,7 @@ fn has_room(thread: &Thread) -> bool
 }
 
 /// The function of the call that is next begins; whether it may.
-fn call(thread: &mut Thread, code: &Code, placed: &Placed) -> bool
+fn call(thread: &mut Thread, code: &FusedCode, placed: &Placed) -> bool
     requires { IsInside (laid code.now placed.now) thread.old.config }
     ensures { IsInside (laid code.now placed.now) thread.new.config }
 {
@@ -191,7 +192,7 @@ fn frame(thread: &Thread, memory: &mut Memory) -> u64 {
 /// How many marks the thread makes to its end, and its result; `None` where it doesn't come there.
 fn made(
     thread: &mut Thread,
-    code: &Code,
+    code: &FusedCode,
     placed: &Placed,
     memory: &mut Memory,
 ) -> Option<(u64, u64)>

@@ -19,3 +19,5 @@ pub mod Returning
 pub mod Words
 pub mod Signs
 pub mod Acting
+pub mod Together
+pub mod Numbers

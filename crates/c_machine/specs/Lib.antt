@@ -1,5 +1,6 @@
 pub mod Positions
 pub mod Silent
+pub mod Passes
 pub mod Wants
 pub mod Moves
 pub mod Acts

@@ -13,7 +13,8 @@ use crate::outcome::{Edit, Heard, Outcome};
 use crate::places::next;
 use crate::tops::{address_below, callee, is_pool};
 use crate::wants::Want;
-use c_code::{Activation, Call, Code};
+use c_code::{Activation, Call};
+use c_code_fused::FusedCode;
 use c_machine_stack::Stack;
 use marks::FaultKind;
 
@@ -58,7 +59,7 @@ pub(crate) fn call_through(
     n: u8,
     a: &Activation,
     values: &Stack<u64>,
-    code: &Code,
+    code: &FusedCode,
 ) -> Outcome
     requires valid { IsValid code.now }
     requires enough { n < length (held values.now) }

@@ -13,14 +13,15 @@ ghost use Rattle.c_machine.specs.Moves.{MayBegin, begun, crosses as crosses_in, 
 use crate::position::Position;
 use crate::state::{Entry, State};
 use crate::tops::{has_args, is_face};
-use c_code::{Call, Code, Placed, Side, Waiting};
+use c_code::{Call, Placed, Side, Waiting};
+use c_code_fused::FusedCode;
 use c_machine_stack::Stack;
 
 impl Position {
     // A function begins: at a call, outside of all, or as the thread's first one.
     pub(crate) fn begin(
         &mut self,
-        code: &Code,
+        code: &FusedCode,
         placed: &Placed,
         func: u16,
         args: &[u64],
@@ -64,7 +65,7 @@ impl Position {
     fn begin_at(
         &mut self,
         call: Call,
-        code: &Code,
+        code: &FusedCode,
         placed: &Placed,
         func: u16,
         args: &[u64],
@@ -242,7 +243,7 @@ fn push_all(stack: &mut Stack<u64>, values: &[u64])
 }
 
 // Whether the call is one of replay code of a function of the interface.
-pub(crate) fn crosses(call: Call, code: &Code, placed: &Placed) -> bool
+pub(crate) fn crosses(call: Call, code: &FusedCode, placed: &Placed) -> bool
     ensures { result ≡ crosses_in (laid code.now placed.now) call }
 {
     match call.then.side {

@@ -21,7 +21,8 @@ use crate::thread::Thread;
 use crate::tops::{callee, check};
 use crate::waits::Waits;
 use crate::wants::{Answer, Want};
-use c_code::{Code, Placed, Side};
+use c_code::{Placed, Side};
+use c_code_fused::FusedCode;
 use c_machine_stack::Stack;
 use std::alloc::{AllocError, Global};
 
@@ -30,7 +31,7 @@ const START_SIG: u32 = 0;
 
 /// The function that a thread with this address begins with: that of the source at the address, where it takes a pointer and gives
 /// an int.
-pub fn start_of(code: &Code, address: u64) -> Option<u16>
+pub fn start_of(code: &FusedCode, address: u64) -> Option<u16>
     ensures is { (placed : Places) → result ≡ callee_of (laid code.now placed) start_sig address }
     ensures well { (placed : Places) (arg : ℕ) → arg < 2 ^ 64 →
         StartsWell (laid code.now placed) result (arg ∷ []) }
@@ -67,7 +68,7 @@ impl Thread {
 
     /// The thread starts with a call of this function through its address, below the cut; `None` where the address is that of none,
     /// which is its fault.
-    pub fn start(&mut self, code: &Code, func: Option<u16>, args: &[u64])
+    pub fn start(&mut self, code: &FusedCode, func: Option<u16>, args: &[u64])
         requires few { length args.now ≤ most_values }
         requires well { (placed : Places) → StartsWell (laid code.now placed) func args.now }
         ensures started { self.new ≡ record self.old { made = false; config = Starting func args.now } }
@@ -78,7 +79,7 @@ impl Thread {
     }
 
     /// The thread's next mark or call.
-    pub fn next(&self, code: &Code, placed: &Placed) -> Want
+    pub fn next(&self, code: &FusedCode, placed: &Placed) -> Want
         requires inside { IsInside (laid code.now placed.now) self.now.config }
         ensures want { shown (laid code.now placed.now)
             (action (laid code.now placed.now) self.now.config) ≡ Some result }
@@ -97,7 +98,7 @@ impl Thread {
     }
 
     /// What came of the next mark or call. The thread goes on up to the one after it.
-    pub fn feed(&mut self, code: &Code, placed: &Placed, answer: Answer)
+    pub fn feed(&mut self, code: &FusedCode, placed: &Placed, answer: Answer)
         requires inside { IsInside (laid code.now placed.now) self.old.config }
         requires may { MayFeed (laid code.now placed.now) self.old.config (told answer) }
         ensures fed { self.new ≡ after_answer (laid code.now placed.now) self.old (told answer) }
@@ -109,7 +110,7 @@ impl Thread {
     }
 
     /// The event of the call that is next was made: the thread is below the cut.
-    pub fn cross(&mut self, code: &Code, placed: &Placed)
+    pub fn cross(&mut self, code: &FusedCode, placed: &Placed)
         requires crosses { crosses_at (laid code.now placed.now) self.old.config ≡ true }
         ensures crossed { self.new ≡ after_call self.old }
     {
@@ -121,7 +122,7 @@ impl Thread {
     /// is called back. The next want is its Enter.
     pub fn begin(
         &mut self,
-        code: &Code,
+        code: &FusedCode,
         placed: &Placed,
         func: u16,
         args: &[u64],
@@ -139,7 +140,7 @@ impl Thread {
     }
 
     /// The function of the call that is next begins on its side, with the arguments that the thread has. The next want is its Enter.
-    pub fn run(&mut self, code: &Code, placed: &Placed)
+    pub fn run(&mut self, code: &FusedCode, placed: &Placed)
         requires inside { IsInside (laid code.now placed.now) self.old.config }
         requires may { MayRun (laid code.now placed.now) self.old.config }
         requires depth { open_on (side_at (laid code.now placed.now) self.old.config) self.old.config <
@@ -154,7 +155,7 @@ impl Thread {
 
     /// System code calls the function of its call that is next back, with the arguments that the thread has. The next want is its
     /// Enter.
-    pub fn go_up(&mut self, code: &Code, placed: &Placed)
+    pub fn go_up(&mut self, code: &FusedCode, placed: &Placed)
         requires inside { IsInside (laid code.now placed.now) self.old.config }
         requires may { MayGoUp (laid code.now placed.now) self.old.config }
         requires depth { open_on Replay self.old.config < self.old.depth }

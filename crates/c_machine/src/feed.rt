@@ -20,12 +20,13 @@ use crate::position::Position;
 use crate::state::{Entry, State};
 use crate::tops::{first_at, frame_size, has_args, result_shape};
 use crate::wants::Answer;
-use c_code::{Activation, Call, Code, Placed, Waiting};
+use c_code::{Activation, Call, Placed, Waiting};
+use c_code_fused::FusedCode;
 
 impl Position {
     // What the answer alone does. One of another kind than the wanted one leads nowhere.
     #[inline(always)]
-    pub(crate) fn take(&mut self, code: &Code, placed: &Placed, answer: Answer)
+    pub(crate) fn take(&mut self, code: &FusedCode, placed: &Placed, answer: Answer)
         requires valid { IsValid code.now }
         requires fits { FitsIn (laid code.now placed.now) (config self.old) }
         requires room { length (values_of (config self.old)) < room_of self.old.values }
@@ -49,7 +50,7 @@ impl Position {
     }
 
     // The same where it isn't at an instruction.
-    fn take_elsewhere(&mut self, code: &Code, answer: Answer)
+    fn take_elsewhere(&mut self, code: &FusedCode, answer: Answer)
         requires elsewhere { IsElsewhere self.old.state }
         requires room { length (values_of (config self.old)) < room_of self.old.values }
         ensures fed { (placed : Places) → config self.new ≡
@@ -84,7 +85,7 @@ impl Position {
     }
 
     // The result of a call that isn't run here takes the place of its arguments, and of its address.
-    fn take_result(&mut self, call: Call, code: &Code, answer: Answer)
+    fn take_result(&mut self, call: Call, code: &FusedCode, answer: Answer)
         requires room { length (held self.old.values) < room_of self.old.values }
         ensures fed { (placed : Places) → config self.new ≡
             heard (laid code.now placed) (with_args (take_args call.args [] (held self.old.values))
@@ -104,7 +105,7 @@ impl Position {
     }
 
     // The result of a thread's first function, where it has one.
-    fn take_first(&mut self, func: Option<u16>, code: &Code, answer: Answer)
+    fn take_first(&mut self, func: Option<u16>, code: &FusedCode, answer: Answer)
         ensures fed { (placed : Places) → config self.new ≡
             fed (laid code.now placed) (Starting func (reverse (held self.old.values))) (told answer) }
         ensures values { room_of self.new.values ≡ room_of self.old.values }
@@ -117,7 +118,7 @@ impl Position {
     }
 
     // A function that isn't run here gives the thread's result.
-    fn take_first_result(&mut self, func: u16, code: &Code, answer: Answer)
+    fn take_first_result(&mut self, func: u16, code: &FusedCode, answer: Answer)
         ensures fed { (placed : Places) → config self.new ≡
             result_is (result_of (laid code.now placed) func) (told answer) }
         ensures values { room_of self.new.values ≡ room_of self.old.values }
@@ -162,7 +163,7 @@ impl Position {
     }
 
     // The body of a function begins in its frame.
-    fn take_frame(&mut self, entry: Entry, code: &Code, answer: Answer)
+    fn take_frame(&mut self, entry: Entry, code: &FusedCode, answer: Answer)
         ensures fed { (placed : Places) → config self.new ≡
             framed (laid code.now placed) entry.side entry.func (drop entry.args (held self.old.values))
             (held self.old.waits.all) (told answer) }

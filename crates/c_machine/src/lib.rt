@@ -12,6 +12,8 @@ mod look;
 mod opens;
 mod operators;
 mod outcome;
+mod passing;
+mod passing_numbers;
 mod places;
 mod position;
 mod readers;

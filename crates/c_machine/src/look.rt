@@ -15,13 +15,14 @@ use crate::position::Position;
 use crate::state::State;
 use crate::tops::{frame_size, has_args};
 use crate::wants::Want;
-use c_code::{Activation, Call, Code, Placed, Waiting};
+use c_code::{Activation, Call, Placed, Waiting};
+use c_code_fused::FusedCode;
 use marks::FaultKind;
 
 impl Position {
     // What comes next; `None` where that is no mark and no call.
     #[inline(always)]
-    pub(crate) fn look(&self, code: &Code, placed: &Placed) -> Option<Want>
+    pub(crate) fn look(&self, code: &FusedCode, placed: &Placed) -> Option<Want>
         requires valid { IsValid code.now }
         requires fits { FitsIn (laid code.now placed.now) (config self.now) }
         ensures { result ≡ shown (laid code.now placed.now)
@@ -50,7 +51,7 @@ impl Position {
 
     // The same at an instruction.
     #[inline(always)]
-    fn look_at(&self, a: &Activation, code: &Code, placed: &Placed) -> Option<Want>
+    fn look_at(&self, a: &Activation, code: &FusedCode, placed: &Placed) -> Option<Want>
         requires valid { IsValid code.now }
         requires fits { FitsIn (laid code.now placed.now)
             (Going a.now (held self.now.values) (held self.now.waits.all)) }

@@ -43,3 +43,11 @@ pub(crate) enum Outcome {
     Asks(Want, Heard),
     Pends(Call),
 }
+
+// Where passing some instructions leads: the activation goes on at the place; or the instruction there makes a mark, or this call.
+#[derive(Clone, Copy)]
+pub(crate) enum Passed {
+    On(u32),
+    Marks(u32),
+    Calls(u32, Call),
+}

@@ -13,7 +13,8 @@ use crate::begin::crosses;
 use crate::position::Position;
 use crate::state::State;
 use crate::thread::Thread;
-use c_code::{Code, Placed, Shape, Side, Waiting};
+use c_code::{Placed, Shape, Side, Waiting};
+use c_code_fused::FusedCode;
 
 impl Position {
     fn args(&self) -> &[u64]
@@ -66,7 +67,7 @@ impl Position {
 }
 
 impl Position {
-    fn crosses(&self, code: &Code, placed: &Placed) -> bool
+    fn crosses(&self, code: &FusedCode, placed: &Placed) -> bool
         ensures { result ≡ crosses_at (laid code.now placed.now) (config self.now) }
     {
         match self.state {
@@ -140,7 +141,7 @@ impl Thread {
     }
 
     /// Whether the call that is next crosses the cut: replay code calls a function of the interface.
-    pub fn crosses(&self, code: &Code, placed: &Placed) -> bool
+    pub fn crosses(&self, code: &FusedCode, placed: &Placed) -> bool
         ensures { result ≡ crosses_at (laid code.now placed.now) self.now.config }
     {
         self.position.crosses(code, placed)
@@ -148,7 +149,7 @@ impl Thread {
 }
 
 /// Whether the function has a body, and the arguments are values of its parameters' types, one for each.
-pub fn is_call_of(code: &Code, func: u16, args: &[u64]) -> bool
+pub fn is_call_of(code: &FusedCode, func: u16, args: &[u64]) -> bool
     ensures yes { (placed : Places) → IsTrue result → IsCallOf (laid code.now placed) func args.now }
     ensures no { (placed : Places) → IsFalse result → IsCallOf (laid code.now placed) func args.now → ⊥ }
 {

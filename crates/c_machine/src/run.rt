@@ -15,11 +15,12 @@ ghost use Rattle.c_machine.specs.Moves.{begun, kept, waiting as waiting_of};
 use crate::begin::crosses;
 use crate::position::Position;
 use crate::state::{Entry, State};
-use c_code::{Call, Code, Placed, Side, Waiting};
+use c_code::{Call, Placed, Side, Waiting};
+use c_code_fused::FusedCode;
 
 impl Position {
     // The function of the call begins on its side.
-    pub(crate) fn run(&mut self, code: &Code, placed: &Placed)
+    pub(crate) fn run(&mut self, code: &FusedCode, placed: &Placed)
         requires may { MayRun (laid code.now placed.now) (config self.old) }
         requires few { length (args_of (config self.old)) ≤ most_values }
         requires values { length (values_of (config self.old)) + length (args_of (config self.old)) <
@@ -43,7 +44,7 @@ impl Position {
     }
 
     // System code calls the function of its call back.
-    pub(crate) fn go_up(&mut self, code: &Code, placed: &Placed)
+    pub(crate) fn go_up(&mut self, code: &FusedCode, placed: &Placed)
         requires may { MayGoUp (laid code.now placed.now) (config self.old) }
         requires few { length (args_of (config self.old)) ≤ most_values }
         requires waits { length (waits_of (config self.old)) < room_of self.old.waits.all }

@@ -11,7 +11,8 @@ ghost use Rattle.c_machine_stack.specs.Stacks.{held};
 ghost use Rattle.c_machine.specs.Positions.{laid};
 ghost use Rattle.c_machine.specs.Wants.{frame_size as size_of};
 
-use c_code::{Code, Placed, Shape, Side};
+use c_code::{Placed, Shape, Side};
+use c_code_fused::FusedCode;
 use c_machine_stack::Stack;
 use marks::function_address;
 
@@ -42,7 +43,7 @@ pub(crate) fn address_below(values: &Stack<u64>, n: u8) -> u64
 }
 
 // The function of the source at the address, where it is of the type.
-pub(crate) fn callee(code: &Code, sig: u32, address: u64) -> Option<u16>
+pub(crate) fn callee(code: &FusedCode, sig: u32, address: u64) -> Option<u16>
     requires { IsValid code.now }
     ensures { (placed : Places) → result ≡ callee_of (laid code.now placed) sig address }
 {
@@ -59,7 +60,7 @@ pub(crate) fn callee(code: &Code, sig: u32, address: u64) -> Option<u16>
 }
 
 // Whether the function is of the type.
-fn has_sig(code: &Code, sig: u32, func: u16) -> bool
+fn has_sig(code: &FusedCode, sig: u32, func: u16) -> bool
     ensures { result ≡ has_type sig (func_of code.now func) }
 {
     match code.func(func) {
@@ -89,7 +90,7 @@ pub(crate) fn is_face(placed: &Placed, func: u16) -> bool
 }
 
 // The type of the function's result.
-pub(crate) fn result_shape(code: &Code, func: u16) -> Shape
+pub(crate) fn result_shape(code: &FusedCode, func: u16) -> Shape
     ensures { result ≡ shape_of (func_of code.now func) }
 {
     match code.func(func) {
@@ -99,7 +100,7 @@ pub(crate) fn result_shape(code: &Code, func: u16) -> Shape
 }
 
 // The first instruction of the function, where it has a body.
-pub(crate) fn first_at(code: &Code, func: u16) -> Option<u32>
+pub(crate) fn first_at(code: &FusedCode, func: u16) -> Option<u32>
     ensures { result ≡ entry_of (func_of code.now func) }
 {
     match code.func(func) {
@@ -109,7 +110,7 @@ pub(crate) fn first_at(code: &Code, func: u16) -> Option<u32>
 }
 
 // The bytes of the function's frame.
-pub(crate) fn frame_size(code: &Code, func: u16) -> u64
+pub(crate) fn frame_size(code: &FusedCode, func: u16) -> u64
     ensures { result ≡ size_of (func_of code.now func) }
 {
     match code.func(func) {
@@ -119,7 +120,7 @@ pub(crate) fn frame_size(code: &Code, func: u16) -> u64
 }
 
 // What is known of all code.
-pub(crate) fn check(code: &Code)
+pub(crate) fn check(code: &FusedCode)
     ensures { IsValid code.now }
 {
     let _instrs = code.instrs();

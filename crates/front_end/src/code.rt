@@ -12,6 +12,7 @@ ghost use Rattle.front_end.specs.Sources.{too_large};
 
 use crate::error::SourceError;
 use c_code::Code;
+use c_code_fused::FusedCode;
 use c_lower::lower;
 use c_lower_laws::{typed_bodies_are_no_deeper, typed_programs_fit};
 use c_lower_stack::function_depth;
@@ -19,13 +20,27 @@ use c_parser::Parsed;
 use c_types_program::TypedProgram;
 use std::alloc::Global;
 
-/// The flat code of a source that has this tree and so many nodes, and is this by its types. `Limit` where it has too
+/// The flat code of a source that has this tree and so many nodes, and is this by its types, fused. `Limit` where it has too
 /// many nodes, or else too deep an evaluation stack in one of its functions; `Memory` where there is no memory.
 pub(crate) fn code_of(
     alloc: Global,
     parsed: &Parsed,
     program: &TypedProgram,
-) -> Result<Code, SourceError>
+) -> Result<FusedCode, SourceError>
+    requires { (ds : Decls) × (p : Program) × Holds parsed.now.tree ds × (outcome ds ≡ Typed p) ×
+        IsProgram program.now p }
+    ensures small { (ds : Decls) (p : Program) → IsCountedTree parsed.now ds → outcome ds ≡ Typed p →
+        IsProgram program.now p → OnOk result (too_large ds ≡ None) }
+    ensures code { IfOk result (IsCode program.now) }
+    ensures refused { (ds : Decls) (p : Program) → IsCountedTree parsed.now ds → outcome ds ≡ Typed p →
+        IsProgram program.now p → IfErr result (IsTooLarge ds) }
+{
+    let code = flat_code_of(alloc, parsed, program)?;
+    Ok(FusedCode::new(alloc, code)?)
+}
+
+// The same as its instructions alone.
+fn flat_code_of(alloc: Global, parsed: &Parsed, program: &TypedProgram) -> Result<Code, SourceError>
     requires { (ds : Decls) × (p : Program) × Holds parsed.now.tree ds × (outcome ds ≡ Typed p) ×
         IsProgram program.now p }
     ensures small { (ds : Decls) (p : Program) → IsCountedTree parsed.now ds → outcome ds ≡ Typed p →

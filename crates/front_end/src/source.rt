@@ -14,7 +14,7 @@ ghost use Rattle.front_end.specs.Sources.{IsSource};
 use crate::code::code_of;
 use crate::error::SourceError;
 use annot_reader::{Iface, interface_of};
-use c_code::Code;
+use c_code_fused::FusedCode;
 use c_lexer::{Token, lex};
 use c_parser::{Parsed, parse_counted};
 use c_syntax::Tree;
@@ -28,7 +28,7 @@ use std::alloc::Global;
 pub struct CheckedSource {
     pub program: TypedProgram,
     pub interface: Iface,
-    pub code: Code,
+    pub code: FusedCode,
 }
 
 // The tokens that the bytes are.

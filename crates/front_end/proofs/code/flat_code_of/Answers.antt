@@ -6,7 +6,7 @@ use Rattle.c_lower_stack.specs.Depths.{capped}
 use Rattle.front_end.specs.declared.error.SourceError.{SourceError}
 use Rattle.front_end.specs.Answers.{IsTooLarge}
 use Rattle.front_end.proofs.Lowering.{counted, large, small}
-use Rattle.front_end.proofs.code.code_of.Goals as goal
+use Rattle.front_end.proofs.code.flat_code_of.Goals as goal
 
 pub lower-requires : goal.lower-requires
 lower-requires c = c.typed_programs_fit.ensures c.requires.0 c.requires.1 c.args.program.now c.requires.3 c.requires.4
