@@ -6,8 +6,6 @@ mod commands;
 #[cfg(test)]
 mod layouts;
 #[cfg(test)]
-mod logs;
-#[cfg(test)]
 mod names;
 #[cfg(test)]
 mod numbers;
