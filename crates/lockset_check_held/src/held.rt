@@ -1,0 +1,161 @@
+//! What a walk keeps in mind of mutexes.
+
+ghost use Rattle.std.specs.Prelude.{◌≡◌, IfOk, OnOk};
+ghost use Rattle.lockset_check_rules.specs.Mutexes.{are_held, is_held, locks_of, same, with_lock, without_lock};
+ghost use Rattle.lockset_check_held.specs.HeldSets.{at_start, entering, forgetting, going_back, is_as_at_loop, joining, keeping, leaving, restarting, turning};
+
+use crate::locks::Locks;
+use crate::stack::Stack;
+use std::alloc::{AllocError, Global};
+use std::marker::Model;
+
+/// What is held at the place that a walk has come to, at the starts of the function and of the loops that it is in, and where ways
+/// began that go on elsewhere.
+#[derive(Drop)]
+pub struct Held {
+    held: Locks,
+    start: Locks,
+    loops: Stack,
+    kept: Stack,
+}
+
+impl Model for Held {
+    ghost use Rattle.lockset_check_held.specs.HeldSets.{HeldSets};
+
+    ghost Value = { HeldSets };
+
+    ghost view = { λ h. record { held = h.held; start = h.start; loops = h.loops; kept = h.kept } };
+}
+
+impl Held {
+    /// At the start of a function whose callers hold these.
+    pub fn new(alloc: Global, mutexes: &[i64]) -> Result<Held, AllocError>
+        ensures { IfOk result (λ h. h ≡ at_start (locks_of mutexes.now)) }
+    {
+        let held = Locks::of(alloc, mutexes)?;
+        let start = held.copy()?;
+        Ok(Held {
+            held,
+            start,
+            loops: Stack::new(alloc),
+            kept: Stack::new(alloc),
+        })
+    }
+
+    /// Whether the mutex is held.
+    pub fn has(&self, mutex: i128) -> bool
+        ensures { result ≡ is_held mutex self.now.held }
+    {
+        self.held.has(mutex)
+    }
+
+    /// Whether all of these mutexes are held.
+    pub fn has_all(&self, mutexes: &[i64]) -> bool
+        ensures { result ≡ are_held mutexes.now self.now.held }
+    {
+        self.held.has_all(mutexes)
+    }
+
+    /// The mutex is taken.
+    pub fn add(&mut self, mutex: i128) -> Result<(), AllocError>
+        ensures { OnOk result (self.new ≡ record self.old { held = with_lock mutex self.old.held }) }
+    {
+        self.held.add(mutex)
+    }
+
+    /// The mutex is given back.
+    pub fn remove(&mut self, mutex: i128)
+        ensures { self.new ≡ record self.old { held = without_lock mutex self.old.held } }
+    {
+        self.held.remove(mutex);
+    }
+
+    /// A way begins: what is held is kept.
+    pub fn keep(&mut self) -> Result<(), AllocError>
+        ensures { OnOk result (self.new ≡ keeping self.old) }
+    {
+        let held = self.held.copy()?;
+        self.kept.push(held)
+    }
+
+    /// The way ends, and another begins where it began; what is held at its end is kept.
+    pub fn turn(&mut self) -> Result<(), AllocError>
+        ensures { OnOk result (self.new ≡ turning self.old) }
+    {
+        let end = self.held.copy()?;
+        if let Some(first) = self.kept.pop() {
+            self.held = first;
+        }
+        self.kept.push(end)
+    }
+
+    /// The way ends, and goes on with what it shares with what was kept.
+    pub fn join(&mut self)
+        ensures { self.new ≡ joining self.old }
+    {
+        if let Some(mut kept) = self.kept.pop() {
+            kept.share(&self.held);
+            self.held = kept;
+        }
+    }
+
+    /// The way ends, and what was kept is held.
+    pub fn go_back(&mut self)
+        ensures { self.new ≡ going_back self.old }
+    {
+        if let Some(kept) = self.kept.pop() {
+            self.held = kept;
+        }
+    }
+
+    /// The way ends, and what was kept is forgotten.
+    pub fn forget(&mut self)
+        ensures { self.new ≡ forgetting self.old }
+    {
+        self.kept.pop();
+    }
+
+    /// A loop starts.
+    pub fn enter(&mut self) -> Result<(), AllocError>
+        ensures { OnOk result (self.new ≡ entering self.old) }
+    {
+        let held = self.held.copy()?;
+        self.loops.push(held)
+    }
+
+    /// A part of the innermost loop begins with what is held at the loop's start.
+    pub fn restart(&mut self) -> Result<(), AllocError>
+        ensures { OnOk result (self.new ≡ restarting self.old) }
+    {
+        if let Some(start) = self.loops.top() {
+            self.held = start.copy()?;
+        }
+        Ok(())
+    }
+
+    /// The innermost loop ends, and what is held at its start is held.
+    pub fn leave(&mut self)
+        ensures { self.new ≡ leaving self.old }
+    {
+        if let Some(start) = self.loops.pop() {
+            self.held = start;
+        }
+    }
+
+    /// Whether the same is held as at the start of the innermost loop.
+    pub fn is_as_at_loop(&self) -> bool
+        ensures { result ≡ is_as_at_loop self.now }
+    {
+        match self.loops.top() {
+            Some(start) => self.held.is_same(start),
+            None => true,
+        }
+    }
+
+    /// Whether the same is held as at the start of the function.
+    pub fn is_as_at_start(&self) -> bool
+        ensures { result ≡ same self.now.held self.now.start }
+    {
+        self.held.is_same(&self.start)
+    }
+}

@@ -1,0 +1,9 @@
+//! The mutexes that are held at the place of a source that a walk has come to.
+#![tactic(auto)]
+
+mod held;
+mod locks;
+mod stack;
+
+pub use held::Held;
+pub use locks::Locks;
