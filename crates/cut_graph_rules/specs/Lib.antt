@@ -1,0 +1,5 @@
+pub mod Mentions
+pub mod Sources
+pub mod MayRun
+pub mod Findings
+pub mod Cases

@@ -1,0 +1,15 @@
+pub mod World
+pub mod Sides
+pub mod Outcomes
+pub mod Threads
+pub mod Picks
+pub mod Memory
+pub mod Below
+pub mod Tests
+pub mod Steps
+pub mod Records
+pub mod Ends
+pub mod Log
+pub mod Recorded
+pub mod Code
+pub mod Fits
