@@ -75,7 +75,7 @@ pub fn loads(bytes: &[u8], pattern: Pattern) -> u64
 pub fn ranges(alloc: Global, bytes: &mut [u8], rounds: u64) -> Result<u64, AllocError>
     requires { length bytes.old ≡ 65544 }
 {
-    let mut sum = 0;
+    let mut sum: u64 = 0;
     for round in 0..rounds {
         let at = range_at(round) as usize;
         bytes[at] = sum.to_le_bytes()[0];

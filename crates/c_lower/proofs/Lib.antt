@@ -9,3 +9,4 @@ pub mod Names
 pub mod Gathered
 pub mod Types
 mod Keeps
+pub mod Short

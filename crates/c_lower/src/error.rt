@@ -9,7 +9,7 @@ use thiserror::Error;
 /// Why a program has no code.
 #[derive(Debug, Drop, Error)]
 pub enum LowerError {
-    /// There is no memory, or a number is too great for an instruction.
+    /// There is no memory.
     #[error("out of memory")]
     Memory,
     /// The source has more than 131,072 nodes.

@@ -1,10 +1,13 @@
 //! What callers know of functions.
 
-ghost use Rattle.std.specs.Prelude.{◌≡◌, ◌<◌, ◌++◌, length, map, Option, IfOk, OnOk};
+ghost use Rattle.std.specs.Prelude.{◌≡◌, ◌<◌, ◌≤◌, ◌^◌, ◌++◌, length, map, Option, IfOk, OnOk};
+ghost use Rattle.std.specs.List.{All};
 ghost use Rattle.c_builtins.specs.Table.{prototype_of};
 ghost use Rattle.c_types_program.specs.Declarations.{Declared, IsFunction};
+ghost use Rattle.c_types_rules.specs.Limits.{greatest_frame};
 ghost use Rattle.c_lower_layout.specs.Sources.{sig_in};
-ghost use Rattle.c_lower.specs.Lowered.{builtin_info as builtin_info_of, code_of, info_of, known_info};
+ghost use Rattle.c_lower_bodies.specs.Short.{IsShort};
+ghost use Rattle.c_lower.specs.Lowered.{builtin_info as builtin_info_of, code_of, frame_of, info_of, known_info};
 
 use crate::shapes::{builtin_shape, builtin_shapes, params, result_shape};
 use c_builtins::{BUILTINS, Builtin};
@@ -74,22 +77,24 @@ fn info(
         name: name(alloc, function.name.as_slice())?,
         params: params(alloc, types, function.ty)?,
         result: result_shape(types, function.ty),
-        sig: index.sig(function.ty)?,
+        sig: index.sig(function.ty),
         frame,
         entry,
     })
 }
 
-/// Puts the code of a function at the end of the other, and gives what callers know of it.
-///
-/// `AllocError` where there is no memory, or where a number is too great for an instruction.
+/// Puts the code of a function at the end of the other, and gives what callers know of it. `AllocError` only where there is no
+/// memory.
 pub fn function_info(
     alloc: Global,
     index: &Index,
     function: &Function,
     instrs: &mut Vec<Instr>,
 ) -> Result<FuncInfo, AllocError>
-    requires { IsFunction index.now.table function.now }
+    requires inside { IsFunction index.now.table function.now }
+    requires frame { frame_of index.now function.now.body ≤ greatest_frame }
+    requires small { length instrs.old.items < 2 ^ 32 }
+    requires short { All IsShort (code_of index.now function.now.body) }
     ensures info { IfOk result (λ i. i ≡ info_of index.now (length instrs.old.items) function.now) }
     ensures code { OnOk result (instrs.new.items ≡ instrs.old.items ++
         code_of index.now function.now.body) }
@@ -97,7 +102,7 @@ pub fn function_info(
     match &function.body {
         None => info(alloc, index, function, 0, None),
         Some(body) => {
-            let entry = u32::try_from(instrs.len()).map_err(|_| AllocError)?;
+            let entry = instrs.len() as u32;
             let frame = index.frame(alloc, body.locals.as_slice())?;
             let code = Emitter::new(index, &frame.offsets).body(alloc, body)?;
             code.append_to(instrs)?;

@@ -1,10 +1,12 @@
 //! Lowering.
 
-ghost use Rattle.std.specs.Prelude.{◌≡◌, ◌↔◌, ◌<◌, ◌≤◌, ℕ, List, None, Some, IfOk, OnOk};
+ghost use Rattle.std.specs.Prelude.{◌≡◌, ◌↔◌, ◌*◌, ◌<◌, ◌≤◌, ◌^◌, ℕ, List, None, Some, IfOk, OnOk, length};
 ghost use Rattle.c_code.specs.Typed.{KeepsTypes};
 ghost use Rattle.c_semantics.specs.Context.{Source};
 ghost use Rattle.c_lower_rules.specs.Laws.{MakesTheMarks, laid};
 ghost use Rattle.c_lower_laws.specs.Fits.{IsFit};
+ghost use Rattle.c_lower_layout.specs.Sources.{source_in};
+ghost use Rattle.c_lower_sizes.specs.Sizes.{functions_size, most_per_node};
 ghost use Rattle.c_lower.specs.Lowered.{IsSourceOf, lowered};
 ghost use Rattle.c_lower.specs.Named.{NamesNoMore};
 ghost use Rattle.c_lower.specs.Types.{TellsTypes};
@@ -18,6 +20,7 @@ use c_lower_layout::Index;
 use c_lower_rules::{
     code_of_sources_keeps_types, emitted_code_is_steady, emitted_code_makes_the_marks,
 };
+use c_lower_sizes::code_is_no_longer;
 use c_types_program::TypedProgram;
 use std::alloc::{AllocError, Global};
 
@@ -28,19 +31,19 @@ pub const MOST_NODES: usize = 131_072;
 fn code(alloc: Global, program: &TypedProgram) -> Result<Code, AllocError>
     requires fit { IsFit program.now }
     requires few { (us : List ℕ) × (first_wide_of program.now.table us 0 program.now.functions ≡ None) }
+    requires texts { length program.now.texts < 2 ^ 32 }
+    requires small { functions_size (source_in program.now).program.functions < 2 ^ 32 }
     ensures { IfOk result (λ c. c ≡ lowered program.now) }
 {
     let index = Index::new(alloc, program)?;
     let builtins = builtin_infos(alloc)?;
     let mut sources = Vec::with_capacity(alloc, program.functions().len())?;
     let mut instrs = Vec::new(alloc);
+    code_is_no_longer();
+    emitted_code_is_steady();
     for function in program.functions() {
         sources.push(function_info(alloc, &index, function, &mut instrs)?)?;
     }
-    if instrs.len() > u32::MAX as usize {
-        return Err(AllocError);
-    }
-    emitted_code_is_steady();
     Ok(Code::new(builtins, sources, instrs))
 }
 
@@ -52,16 +55,18 @@ fn code(alloc: Global, program: &TypedProgram) -> Result<Code, AllocError>
 ///
 /// `Long` where the nodes are more than 131,072; else `Wide` with the number of the first function whose
 /// evaluation stack is deeper than 64
-/// values, as is counted or in its typed body; else the code, or `Memory` where there is no memory for it or
-/// a number is too great for
-/// an instruction.
+/// values, as is counted or in its typed body; else the code, or `Memory` where there is no memory for it.
 pub fn lower(
     alloc: Global,
     program: &TypedProgram,
     nodes: usize,
     counted: &[u8],
 ) -> Result<Code, LowerError>
-    requires { IsFit program.now }
+    requires fit { IsFit program.now }
+    requires texts { length program.now.texts < 2 ^ 32 }
+    // The code needs no more instructions than its nodes may give.
+    requires small { nodes ≤ most_nodes →
+        functions_size (source_in program.now).program.functions ≤ most_per_node * nodes }
     ensures long { (result ≡ Err LowerError.Long) ↔ (most_nodes < nodes) }
     ensures wide { (f : ℕ) → (result ≡ Err (LowerError.Wide f)) ↔ ((nodes ≤ most_nodes) ×
         (first_wide_of program.now.table counted.now 0 program.now.functions ≡ Some f)) }

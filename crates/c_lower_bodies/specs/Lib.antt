@@ -1,2 +1,4 @@
+pub mod Short
+pub mod Steps
 pub mod Making
 pub mod TypedCode

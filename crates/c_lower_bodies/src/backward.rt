@@ -1,8 +1,12 @@
 //! Code that is made from its end.
 
 ghost use Rattle.std.specs.Prelude.{◌≡◌, ◌∷◌, ◌++◌, ◌<◌, [], List, length, OnOk};
+ghost use Rattle.std.specs.List.{All};
 ghost use Rattle.c_code.specs.declared.instr.Instr.{Instr};
+ghost use Rattle.c_lower_bodies.specs.Short.{IsShort};
+ghost use Rattle.c_lower_bodies.specs.Steps.{instr_in};
 
+use crate::step::Step;
 use c_code::Instr;
 use std::alloc::{AllocError, Global};
 use std::marker::Model;
@@ -11,18 +15,17 @@ use std::marker::Model;
 /// the instructions in the order in which they are run.
 #[derive(Drop)]
 pub struct Backward {
-    reversed: Vec<Instr>,
+    reversed: Vec<Step>,
 }
 
 impl Model for Backward {
-    ghost use Rattle.std.specs.Prelude.{List, reverse, length, ◌<◌, ◌^◌};
+    ghost use Rattle.std.specs.Prelude.{List};
     ghost use Rattle.c_code.specs.declared.instr.Instr.{Instr};
+    ghost use Rattle.c_lower_bodies.specs.Steps.{code_in};
 
     ghost Value = { List Instr };
 
-    ghost view = { λ c. reverse c.reversed.items };
-
-    ghost invariant = { λ c. length c.reversed.items < 2 ^ 32 };
+    ghost view = { λ c. code_in c.reversed.items };
 }
 
 impl Backward {
@@ -35,40 +38,46 @@ impl Backward {
         }
     }
 
-    /// Puts an instruction before the others. `AllocError` where there is no memory for it, or where there would be 2^32.
+    /// Puts an instruction before the others. `AllocError` only where there is no memory for it.
     pub(crate) fn put(&mut self, instr: Instr) -> Result<(), AllocError>
         ensures { OnOk result (self.new ≡ instr ∷ self.old) }
     {
-        if self.reversed.len() >= u32::MAX as usize {
-            return Err(AllocError);
-        }
-        self.reversed.push(instr)?;
+        self.put_step(Step::Instr(instr))
+    }
+
+    /// The same of one whose numbers may not fit yet.
+    pub(crate) fn put_step(&mut self, step: Step) -> Result<(), AllocError>
+        ensures { OnOk result (self.new ≡ instr_in step ∷ self.old) }
+    {
+        self.reversed.push(step)?;
         Ok(())
     }
 
     /// How many there are.
-    pub(crate) fn len(&self) -> u32
+    pub(crate) fn len(&self) -> usize
         ensures { result ≡ length self.now }
     {
-        self.reversed.len() as u32
+        self.reversed.len()
     }
 
     /// Puts an instruction in the place of the one that so many follow.
-    pub(crate) fn replace(&mut self, following: u32, instr: Instr)
+    pub(crate) fn replace(&mut self, following: usize, step: Step)
         requires { following < length self.old }
         ensures { (before after : List Instr) (old : Instr) → self.old ≡ before ++ (old ∷ after) →
-            length after ≡ following → self.new ≡ before ++ (instr ∷ after) }
+            length after ≡ following → self.new ≡ before ++ (instr_in step ∷ after) }
     {
-        self.reversed[following as usize] = instr;
+        self.reversed[following] = step;
     }
 
-    /// Puts the instructions at the end of others. `AllocError` where there is no memory for them; some are then there.
+    /// Puts the instructions, whose numbers fit, at the end of others. `AllocError` only where there is no memory for them; some
+    /// are then there.
     pub fn append_to(self, instrs: &mut Vec<Instr>) -> Result<(), AllocError>
+        requires { All IsShort self }
         ensures { OnOk result (instrs.new.items ≡ instrs.old.items ++ self) }
     {
         let mut reversed = self.reversed;
-        while let Some(instr) = reversed.pop() {
-            instrs.push(instr)?;
+        while let Some(step) = reversed.pop() {
+            instrs.push(step.instr())?;
         }
         Ok(())
     }

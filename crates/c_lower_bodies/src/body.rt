@@ -12,9 +12,7 @@ use c_types_program::Body;
 use std::alloc::{AllocError, Global};
 
 impl Emitter<'_, '_, '_> {
-    /// The code of a body, after whose statements the result 0 is given.
-    ///
-    /// `AllocError` where there is no memory, or where a number is too great for an instruction.
+    /// The code of a body, after whose statements the result 0 is given. `AllocError` only where there is no memory.
     pub fn body(&self, alloc: Global, body: &Body) -> Result<Backward, AllocError>
         requires { IsStatement self.now.declared.table body.now.statements }
         ensures { IfOk result (λ c. c ≡ body_code (body_in self.now.declared.table body.now)

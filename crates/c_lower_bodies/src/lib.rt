@@ -11,6 +11,7 @@ mod origins;
 mod pairs;
 mod simple;
 mod statements;
+mod step;
 mod updates;
 mod values;
 

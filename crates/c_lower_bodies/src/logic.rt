@@ -8,6 +8,7 @@ ghost use Rattle.c_lower_bodies.specs.Making.{making};
 
 use crate::backward::Backward;
 use crate::emitter::Emitter;
+use crate::step::Step;
 use c_code::{Change, Instr};
 use c_types_nodes::NodeId;
 use std::alloc::AllocError;
@@ -29,7 +30,7 @@ impl Emitter<'_, '_, '_> {
     {
         let end = code.len();
         self.change(code, right, Change::Truth)?;
-        code.put(Instr::EndIfZero(code.len() - end))?;
+        code.put_step(Step::EndIfZero(code.len() - end))?;
         self.value(code, left)
     }
 
@@ -49,7 +50,7 @@ impl Emitter<'_, '_, '_> {
     {
         let end = code.len();
         self.change(code, second, Change::Truth)?;
-        code.put(Instr::EndUnlessZero(code.len() - end))?;
+        code.put_step(Step::EndUnlessZero(code.len() - end))?;
         self.value(code, first)
     }
 
@@ -73,9 +74,9 @@ impl Emitter<'_, '_, '_> {
         let end = code.len();
         self.value(code, other)?;
         let second = code.len();
-        code.put(Instr::GoOn(second - end))?;
+        code.put_step(Step::GoOn(second - end))?;
         self.value(code, then)?;
-        code.put(Instr::SkipIfZero(code.len() - second))?;
+        code.put_step(Step::SkipIfZero(code.len() - second))?;
         self.value(code, condition)
     }
 

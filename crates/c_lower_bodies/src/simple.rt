@@ -11,6 +11,7 @@ ghost use Rattle.c_lower_bodies.specs.TypedCode.{initialise_code};
 
 use crate::backward::Backward;
 use crate::emitter::Emitter;
+use crate::step::Step;
 use c_code::{Instr, Push};
 use c_types_nodes::NodeId;
 use c_types_table::TypeId;
@@ -63,7 +64,7 @@ impl Emitter<'_, '_, '_> {
         &self,
         code: &mut Backward,
         condition: Option<NodeId>,
-        over: u32,
+        over: usize,
     ) -> Result<(), AllocError>
         requires { IsMaybeAt self.now.declared.table condition }
         ensures { OnOk result (code.new ≡ test_code (maybe_at self.now.declared.table condition)
@@ -72,7 +73,7 @@ impl Emitter<'_, '_, '_> {
         match condition {
             None => Ok(()),
             Some(condition) => {
-                code.put(Instr::SkipIfZero(over))?;
+                code.put_step(Step::SkipIfZero(over))?;
                 self.value(code, condition)
             }
         }

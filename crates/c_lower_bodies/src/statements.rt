@@ -10,32 +10,31 @@ ghost use Rattle.c_lower_bodies.specs.TypedCode.{Turns, guarded_code};
 
 use crate::backward::Backward;
 use crate::emitter::Emitter;
+use crate::step::Step;
 use c_code::Instr;
 use c_types_nodes::NodeId;
 use c_types_program::Statement;
 use std::alloc::AllocError;
 
 // The head of a loop, to which the way back leads; so many instructions are after the loop.
-fn turn(code: &mut Backward, end: u32) -> Result<(), AllocError>
+fn turn(code: &mut Backward, end: usize) -> Result<(), AllocError>
     requires { end < length code.old }
     ensures { OnOk result (Turns code.old code.new end) }
 {
-    code.replace(end, Instr::GoBack(code.len() - end - 1));
+    code.replace(end, Step::GoBack(code.len() - end - 1));
     code.put(Instr::Turn)
 }
 
 impl Emitter<'_, '_, '_> {
     /// Puts the code of a statement before the other, of which so many instructions follow where a `break` leads to and
-    /// where a `continue` does.
-    ///
-    /// `AllocError` where there is no memory, or where a number is too great for an instruction.
+    /// where a `continue` does. `AllocError` only where there is no memory.
     #[cycle(statements)]
     pub(crate) fn statement(
         &self,
         code: &mut Backward,
         statement: &Statement,
-        stop: u32,
-        again: u32,
+        stop: usize,
+        again: usize,
     ) -> Result<(), AllocError>
         requires inside { IsStatement self.now.declared.table statement.now }
         requires stop { stop ≤ length code.old }
@@ -58,7 +57,7 @@ impl Emitter<'_, '_, '_> {
                 let end = code.len();
                 self.statement(code, other, stop, again)?;
                 let middle = code.len();
-                code.put(Instr::GoOn(middle - end))?;
+                code.put_step(Step::GoOn(middle - end))?;
                 self.guarded(code, *condition, then, stop, again, middle)
             }
             Statement::While {
@@ -81,8 +80,8 @@ impl Emitter<'_, '_, '_> {
                 self.for_loop(code, *condition, *last, body)?;
                 self.statements(code, first, stop, again)
             }
-            Statement::Break => code.put(Instr::GoOn(code.len() - stop)),
-            Statement::Continue => code.put(Instr::GoOn(code.len() - again)),
+            Statement::Break => code.put_step(Step::GoOn(code.len() - stop)),
+            Statement::Continue => code.put_step(Step::GoOn(code.len() - again)),
             Statement::Return { value, .. } => self.give(code, *value),
         }
     }
@@ -93,8 +92,8 @@ impl Emitter<'_, '_, '_> {
         &self,
         code: &mut Backward,
         statements: &[Statement],
-        stop: u32,
-        again: u32,
+        stop: usize,
+        again: usize,
     ) -> Result<(), AllocError>
         requires inside { AllStatements self.now.declared.table statements.now }
         requires stop { stop ≤ length code.old }
@@ -116,9 +115,9 @@ impl Emitter<'_, '_, '_> {
         code: &mut Backward,
         condition: NodeId,
         then: &Statement,
-        stop: u32,
-        again: u32,
-        end: u32,
+        stop: usize,
+        again: usize,
+        end: usize,
     ) -> Result<(), AllocError>
         requires condition { IsValueAt self.now.declared.table condition }
         requires then { IsStatement self.now.declared.table then.now }
@@ -130,7 +129,7 @@ impl Emitter<'_, '_, '_> {
             (length code.old - again) (length code.old - end) ++ code.old) }
     {
         self.statement(code, then, stop, again)?;
-        code.put(Instr::SkipIfZero(code.len() - end))?;
+        code.put_step(Step::SkipIfZero(code.len() - end))?;
         self.value(code, condition)
     }
 
@@ -149,7 +148,7 @@ impl Emitter<'_, '_, '_> {
             (statement_in self.now.declared.table body.now)) (making self.now) 0 0 ++ code.old) }
     {
         let end = code.len();
-        code.put(Instr::GoBack(0))?;
+        code.put_step(Step::GoBack(0))?;
         let again = code.len();
         self.guarded(code, condition, body, end, again, end)?;
         turn(code, end)
@@ -170,8 +169,8 @@ impl Emitter<'_, '_, '_> {
             (value_at self.now.declared.table condition)) (making self.now) 0 0 ++ code.old) }
     {
         let end = code.len();
-        code.put(Instr::GoBack(0))?;
-        code.put(Instr::SkipIfZero(1))?;
+        code.put_step(Step::GoBack(0))?;
+        code.put_step(Step::SkipIfZero(1))?;
         self.value(code, condition)?;
         let test = code.len();
         self.statement(code, body, end, test)?;
@@ -196,7 +195,7 @@ impl Emitter<'_, '_, '_> {
             (making self.now) 0 0 ++ code.old) }
     {
         let end = code.len();
-        code.put(Instr::GoBack(0))?;
+        code.put_step(Step::GoBack(0))?;
         self.last(code, last)?;
         let next = code.len();
         self.statement(code, body, end, next)?;

@@ -1,6 +1,6 @@
 //! Code of what changes objects.
 
-ghost use Rattle.std.specs.Prelude.{◌≡◌, ◌++◌, IfOk, OnOk};
+ghost use Rattle.std.specs.Prelude.{◌≡◌, ◌++◌, OnOk};
 ghost use Rattle.c_types_nodes.specs.Parts.{given_in, way_in};
 ghost use Rattle.c_types_nodes.specs.Tables.{IsObjectAt, IsValueAt, object_at, value_at};
 ghost use Rattle.c_types_rules.specs.TypedTree as tree;
@@ -27,14 +27,13 @@ fn put_move(code: &mut Backward, way: Way, size: u64) -> Result<(), AllocError>
     }
 }
 
-// What is added for a step, as a number of 64 bits. `AllocError` for a step down by nothing, which has none.
-fn step(way: Way, size: u64) -> Result<u64, AllocError>
-    ensures { IfOk result (λ n. n ≡ step_by (way_in way) size) }
+// What is added for a step, as a number of 64 bits.
+fn step(way: Way, size: u64) -> u64
+    ensures { result ≡ step_by (way_in way) size }
 {
     match way {
-        Way::Up => Ok(size),
-        Way::Down if size == 0 => Err(AllocError),
-        Way::Down => Ok(u64::MAX - size + 1),
+        Way::Up => size,
+        Way::Down => size.wrapping_neg(),
     }
 }
 
@@ -136,8 +135,8 @@ impl Emitter<'_, '_, '_> {
     {
         let own = self.object_kind(object);
         let origin = self.origin(object);
-        let by = step(way, size)?;
-        code.put(Instr::StoreStep(own, by, is_old(given), origin))?;
+        let stores = Instr::StoreStep(own, step(way, size), is_old(given), origin);
+        code.put(stores)?;
         code.put(Instr::LoadKeep(own, origin))?;
         self.object(code, object)
     }

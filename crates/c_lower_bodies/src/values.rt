@@ -17,9 +17,7 @@ use std::alloc::AllocError;
 
 impl Emitter<'_, '_, '_> {
     /// Puts the code of an expression before the other: of an object that of its address, of a function that of the
-    /// pointer to it where it is called through one, and else of the value.
-    ///
-    /// `AllocError` where there is no memory, or where a number is too great for an instruction.
+    /// pointer to it where it is called through one, and else of the value. `AllocError` only where there is no memory.
     #[cycle(values)]
     pub(crate) fn node(&self, code: &mut Backward, id: NodeId) -> Result<(), AllocError>
         requires { IsNode self.now.declared.table id }
@@ -32,7 +30,7 @@ impl Emitter<'_, '_, '_> {
                 *place,
             )))),
             Node::TextObject { from, .. } => code.put(Instr::Push(Push::Text(
-                self.index().order_of(*from)?,
+                self.index().order_of(*from),
             ))),
             Node::Pointed(pointer, _) | Node::Through(pointer, _) => self.value(code, *pointer),
             Node::Element {

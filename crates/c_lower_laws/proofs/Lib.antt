@@ -6,6 +6,7 @@ pub mod Locals
 pub mod Params
 pub mod Programs
 pub mod Frames
+mod Small
 pub mod Whole
 mod HeldValues
 mod Names

@@ -50,7 +50,7 @@ pub record Good (p : Program) : Type 0 where
 
 -- ---- lists of functions
 
-more_has : {A : Type 0} (xs : List A) (y x : A) (i : ℕ) → slice_get (xs ++ y ∷ []) i ≡ Some x → (slice_get xs i ≡ Some x) ⊎ (y ≡ x)
+pub more_has : {A : Type 0} (xs : List A) (y x : A) (i : ℕ) → slice_get (xs ++ y ∷ []) i ≡ Some x → (slice_get xs i ≡ Some x) ⊎ (y ≡ x)
 more_has [] y x zero e = inr cc
 more_has [] y x (suc i) e = absurd cc
 more_has (z ∷ xs) y x zero e = inl e

@@ -1,5 +1,5 @@
 -- A typed program is fit.
-use Rattle.std.proofs.Common.{◌≡◌, ℕ, zero, suc, ◌+◌, ◌-◌, ◌^◌, ◌<◌, ◌≤◌, Bool, true, false, not, ◌&&◌, cond, ltb, lit≤, List, [], ◌∷◌, length, map, take, Option, Some, None, refl, sym, ap, ◌∙◌, subst, arith}
+use Rattle.std.proofs.Common.{◌≡◌, ℕ, zero, suc, ◌+◌, ◌-◌, ◌^◌, ◌<◌, ◌≤◌, Bool, true, false, not, cond, ltb, lit≤, List, [], ◌∷◌, length, map, take, Option, Some, None, refl, sym, ap, ◌∙◌, subst, arith}
 use Rattle.std.specs.Prelude.{slice_get, nat_le}
 use Rattle.std.specs.Option.{option_map}
 use Rattle.std.proofs.lemmas.Option.{same_Some, slice_get-map, slice_get_within}
@@ -33,6 +33,7 @@ use Rattle.c_lower_laws.proofs.Values.{IsOf, Serves, builtin_type, params_count}
 use Rattle.c_lower_laws.proofs.Frames.{frame_holds, params_lie}
 use Rattle.c_lower_laws.proofs.Params.{AreScalars, TakesScalars}
 use Rattle.c_lower_laws.proofs.Programs.{Extends, Fits, Good, source_good}
+use Rattle.c_lower_laws.proofs.Small.{IsSmall, each_keeps, frame_small, members_small, small_without_names, typed_is_small}
 
 shapes_count : (ts : CTypes) → length (shapes_of ts) ≡ types_count ts
 shapes_count NoTypes = refl
@@ -74,7 +75,7 @@ type_here s place g e = ap (λ o. type_or o (builtin_of (builtin_count + place))
 params_known : (s : Source) (f : ℕ) (info : FuncInfo) (t : CType) → info.params ≡ param_shapes s f → type_of s f ≡ t → length info.params ≡ params_count t
 params_known s f info t e h = ap length e ∙ (ap (λ u. length (shapes_of (params_of u))) h ∙ shapes_count (params_of t))
 
-module _ (s : Source) (sig : CType → ℕ) (facts : Facts s.program.functions) (converts : ResultsAreConverted s) where
+module _ (s : Source) (sig : CType → ℕ) (facts : Facts s.program.functions) (converts : ResultsAreConverted s) (sizes : IsSmall s.program) where
   abbrev us : List CType
   us = types_of_functions s.program.functions
 
@@ -127,6 +128,7 @@ module _ (s : Source) (sig : CType → ℕ) (facts : Facts s.program.functions) 
           record {
             calls = λ code knows. fits.1 (making s code sig b) us (serves code b knows) extends;
             returns = converts f b e;
+            small = frame_small s.program sizes h.place g b h.there eb;
             holds = subst (λ t. params_end 0 (shapes_of (params_of t)) ≤ frame_size s.program b.locals) (sym type) (frame_holds s.program (params_of g.type) b.locals (scalars_of g.type (facts.scalars h.place g h.there)) fits.0);
             places = subst (λ t. take (length (shapes_of (params_of t))) (offsets_from 0 (extents_in s.program b.locals)) ≡ param_offsets 0 (shapes_of (params_of t))) (sym type) (params_lie s.program (params_of g.type) b.locals (scalars_of g.type (facts.scalars h.place g h.there)) fits.0);
           }
@@ -149,18 +151,9 @@ module _ (s : Source) (sig : CType → ℕ) (facts : Facts s.program.functions) 
       by (Some g) e = let h = here s f g e in omega (arith, shapes_count (params_of g.type), facts.few h.place g h.there)
 
   pub source_fits : IsFitSource s sig
-  source_fits = record { bodies = body_fit; few_params = params_few; few_functions = omega (arith, facts.short) }
+  source_fits = record { bodies = body_fit; few_params = params_few; few_functions = omega (arith, facts.short); members = members_small s.program sizes }
 
 -- ---- limits
-
-each_keeps : (p : Function → Bool) (fs : List Function) → all_keep p fs ≡ true → (i : ℕ) (f : Function) → slice_get fs i ≡ Some f → p f ≡ true
-each_keeps p [] h i f e = absurd cc
-each_keeps p (g ∷ fs) h i f e = by (p g) refl h i e (λ r j k. each_keeps p fs r j f k)
-  where
-    by : (b : Bool) → p g ≡ b → (b && all_keep p fs) ≡ true → (i : ℕ) → slice_get (g ∷ fs) i ≡ Some f → (all_keep p fs ≡ true → (j : ℕ) → slice_get fs j ≡ Some f → p f ≡ true) → p f ≡ true
-    by true w r zero k rest = ap p (sym (same_Some g f k)) ∙ w
-    by true w r (suc j) k rest = rest r j k
-    by false w r j k rest = absurd cc
 
 -- where no limit is exceeded, there are few functions, and few parameters of each
 within_limits : (small : Bool) (p : Program) → first_limit small p ≡ None → (nat_le (length p.functions) most_functions ≡ true) × (all_keep few_params p.functions ≡ true)
@@ -198,4 +191,6 @@ typed_programs_fit ds p d e is =
     let functions : p.functions ≡ (program_in d []).functions = sym (ap (λ (q : Program). q.functions) is) in
     let converts : ResultsAreConverted (record { program = program_in d p.names; texts = (source_in d).texts; placed = (source_in d).placed }) =
     subst (λ (q : Program). ResultsAreConverted (record { program = q; texts = (source_in d).texts; placed = (source_in d).placed })) (sym is) (results_are_converted ds p e (source_in d).texts (source_in d).placed) in
+    let structs : p.structs ≡ (program_in d []).structs = sym (ap (λ (q : Program). q.structs) is) in
     source_fits (source_in d) (sig_in d) (subst (λ (fs : List Function). Facts fs) functions (decided_facts (program ds) p (source_good ds) e)) converts
+    (small_without_names p (program_in d []) structs functions (typed_is_small ds p e))

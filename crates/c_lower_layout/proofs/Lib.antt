@@ -5,3 +5,4 @@ pub mod Numbers
 pub mod Laid
 pub mod FoundMembers
 pub mod SizedTypes
+pub mod Rows

@@ -1,9 +1,9 @@
 //! Frames of functions.
 
-ghost use Rattle.std.specs.Prelude.{◌≡◌, length, IfOk};
+ghost use Rattle.std.specs.Prelude.{◌≡◌, ◌≤◌, length, IfOk};
 ghost use Rattle.std.specs.List.{All};
 ghost use Rattle.c_types_table.specs.Tables.{IsBelow};
-ghost use Rattle.c_types_rules.specs.Limits.{frame_size};
+ghost use Rattle.c_types_rules.specs.Limits.{frame_size, greatest_frame};
 ghost use Rattle.c_semantics.specs.Context.{local_offsets};
 ghost use Rattle.c_types_program.specs.Declarations.{types_in};
 ghost use Rattle.c_lower_layout.specs.Sources.{source_in};
@@ -25,23 +25,20 @@ pub struct Frame {
 
 impl Index<'_> {
     /// The frame of a function whose parameters and locals have these types, each at the next multiple of its alignment.
-    ///
-    /// `AllocError` where there is no memory, or no number of 64 bits for a place or the size.
+    /// `AllocError` only where there is no memory.
     pub fn frame(&self, alloc: Global, locals: &[TypeId]) -> Result<Frame, AllocError>
-        requires { All (IsBelow (length self.now.table.types)) locals.now }
+        requires inside { All (IsBelow (length self.now.table.types)) locals.now }
+        requires small { frame_size (source_in self.now).program
+            (types_in self.now.table.types locals.now) ≤ greatest_frame }
         ensures offsets { IfOk result (λ f. f.offsets.items ≡
             local_offsets (source_in self.now) (types_in self.now.table.types locals.now)) }
         ensures size { IfOk result (λ f. f.size ≡
             frame_size (source_in self.now).program (types_in self.now.table.types locals.now)) }
     {
         let row = self.row(alloc, locals)?;
-        let end = row
-            .end
-            .checked_next_multiple_of(ALIGNMENT)
-            .ok_or(AllocError)?;
         Ok(Frame {
+            size: row.end.next_multiple_of(ALIGNMENT).max(ALIGNMENT),
             offsets: row.offsets,
-            size: end.max(ALIGNMENT),
         })
     }
 }

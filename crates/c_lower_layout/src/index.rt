@@ -1,6 +1,6 @@
 //! What is computed of a program once.
 
-ghost use Rattle.std.specs.Prelude.{◌≡◌, ◌<◌, length, slice_get, unwrap_or, IfOk};
+ghost use Rattle.std.specs.Prelude.{◌≡◌, ◌<◌, ◌≤◌, ◌^◌, length, slice_get, unwrap_or, IfOk};
 ghost use Rattle.std.specs.List.{All};
 ghost use Rattle.std.specs.Option.{option_copied};
 ghost use Rattle.c_types_model.specs.Types.{StructOf};
@@ -10,14 +10,15 @@ ghost use Rattle.c_semantics.specs.Context.{kind_of, local_offsets, member_offse
 ghost use Rattle.c_semantics.specs.Values.{is_read};
 ghost use Rattle.c_types_rules.specs.Sources.{extents_in};
 ghost use Rattle.c_types_rules.specs.TypeTests.{same_type};
-ghost use Rattle.c_types_program.specs.Declarations.{types_in};
+ghost use Rattle.c_types_program.specs.Declarations.{IsSound, types_in};
 ghost use Rattle.c_lower_layout.specs.Sources.{source_in};
+ghost use Rattle.c_lower_layout.specs.Indexed.{HasNumbers};
 
 use crate::layouts::{Row, row_of};
 use crate::orders::{orders, small};
 use crate::structs::member_offsets;
 use c_types_model::{Extent, Offsets};
-use c_types_program::TypedProgram;
+use c_types_program::{Function, TextLiteral, TypedProgram};
 use c_types_table::{Ty, TypeId, Types};
 use r2_num::IntKind;
 use std::alloc::{AllocError, Global};
@@ -63,8 +64,9 @@ fn offsets_at(members: &[Offsets], id: u32) -> Option<&Offsets>
 }
 
 impl<'a> Index<'a> {
-    /// That of a program. `AllocError` where there is no memory, or no number for a size or an order.
+    /// That of a program. `AllocError` only where there is no memory.
     pub fn new(alloc: Global, program: &'a TypedProgram) -> Result<Index<'a>, AllocError>
+        requires { HasNumbers program.now }
         ensures { IfOk result (λ i. i ≡ program.now) }
     {
         let types = program.table().types();
@@ -89,6 +91,23 @@ impl<'a> Index<'a> {
         ensures { result.now ≡ self.now.table.types }
     {
         self.program.table().types()
+    }
+
+    // The functions of the program, whose numbers have 16 bits.
+    pub(crate) fn functions(&self) -> &[Function]
+        ensures functions { result.now ≡ self.now.functions }
+        ensures sound { IsSound self.now }
+        ensures few { length result.now ≤ 2 ^ 16 }
+    {
+        self.program.functions()
+    }
+
+    // The strings of the program, whose orders have 32 bits.
+    fn texts(&self) -> &[TextLiteral]
+        ensures texts { result.now ≡ self.now.texts }
+        ensures few { length result.now < 2 ^ 32 }
+    {
+        self.program.texts()
     }
 
     // The sizes and alignments of the structs of the program.
@@ -159,21 +178,20 @@ impl<'a> Index<'a> {
     }
 
     /// The order of the string at an offset; how many strings there are where none is there.
-    ///
-    /// `AllocError` where that has no number of 32 bits.
-    pub fn order_of(&self, from: u32) -> Result<u32, AllocError>
-        ensures { IfOk result (λ n. n ≡ order_of from (source_in self.now).texts) }
+    pub fn order_of(&self, from: u32) -> u32
+        ensures { result ≡ order_of from (source_in self.now).texts }
     {
         match self.orders.get(&from) {
-            Some(order) => Ok(*order),
-            None => small(self.program.texts().len()),
+            Some(order) => *order,
+            None => small(self.texts().len()),
         }
     }
 
-    /// Objects of these types in a row, one after another. `AllocError` where there is no memory, or no number, for where
-    /// one lies.
+    /// Objects of these types in a row, one after another. `AllocError` only where there is no memory.
     pub fn row(&self, alloc: Global, ids: &[TypeId]) -> Result<Row, AllocError>
-        requires { All (IsBelow (length self.now.table.types)) ids.now }
+        requires inside { All (IsBelow (length self.now.table.types)) ids.now }
+        requires small { end_from 0 (extents_in (source_in self.now).program
+            (types_in self.now.table.types ids.now)) < 2 ^ 64 }
         ensures offsets { IfOk result (λ r. r.offsets.items ≡
             local_offsets (source_in self.now) (types_in self.now.table.types ids.now)) }
         ensures end { IfOk result (λ r. r.end ≡

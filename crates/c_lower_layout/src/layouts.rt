@@ -1,6 +1,6 @@
 //! Where objects lie in a row.
 
-ghost use Rattle.std.specs.Prelude.{◌≡◌, ◌∷◌, [], ◌+◌, ◌<◌, ◌++◌, length, IfOk, OnOk};
+ghost use Rattle.std.specs.Prelude.{◌≡◌, ◌∷◌, [], ◌+◌, ◌<◌, ◌^◌, ◌++◌, length, IfOk, OnOk};
 ghost use Rattle.std.specs.Int.{next_multiple_of};
 ghost use Rattle.std.specs.List.{All};
 ghost use Rattle.c_types_model.specs.Layouts.{end_from, offsets_from};
@@ -19,6 +19,18 @@ pub struct Row {
     pub end: u64,
 }
 
+// The least multiple of the alignment that is no less; where there is no alignment the number itself.
+fn next_multiple(n: u64, align: u64) -> u64
+    requires { next_multiple_of n align < 2 ^ 64 }
+    ensures { result ≡ next_multiple_of n align }
+{
+    if align == 0 {
+        n
+    } else {
+        n.next_multiple_of(align)
+    }
+}
+
 impl Row {
     /// No objects.
     pub fn new(alloc: Global) -> Row
@@ -31,44 +43,41 @@ impl Row {
         }
     }
 
-    /// Puts an object after the others. `AllocError` where there is no memory, or no number, for where it lies.
+    /// Puts an object after the others. `AllocError` only where there is no memory.
     pub fn add(&mut self, extent: Extent) -> Result<(), AllocError>
+        requires { next_multiple_of self.old.end extent.align + extent.size < 2 ^ 64 }
         ensures offset { OnOk result (self.new.offsets.items ≡ self.old.offsets.items ++
             next_multiple_of self.old.end extent.align ∷ []) }
         ensures end { OnOk result (self.new.end ≡ next_multiple_of self.old.end extent.align + extent.size) }
     {
-        let offset = self
-            .end
-            .checked_next_multiple_of(extent.align)
-            .ok_or(AllocError)?;
+        let offset = next_multiple(self.end, extent.align);
         self.offsets.push(offset)?;
-        self.end = offset.checked_add(extent.size).ok_or(AllocError)?;
+        self.end = offset + extent.size;
         Ok(())
     }
 }
 
 /// The size and alignment of a type; 1 where it is no complete object type. `structs` has those of the structs by number.
-///
-/// `AllocError` where there is no number for the size.
-fn extent(types: &Types, structs: &[Extent], ty: TypeId) -> Result<Extent, AllocError>
-    requires { ty.0 < length types.now }
-    ensures { IfOk result (λ e. e ≡ extent_in structs.now (type_at types.now ty)) }
+fn extent(types: &Types, structs: &[Extent], ty: TypeId) -> Extent
+    requires inside { ty.0 < length types.now }
+    requires small { (extent_in structs.now (type_at types.now ty)).size < 2 ^ 64 }
+    ensures { result ≡ extent_in structs.now (type_at types.now ty) }
 {
     match types.extent(structs, ty) {
-        None => Ok(Extent { size: 1, align: 1 }),
-        Some(extent) if extent.size < u64::MAX => Ok(extent),
-        Some(_) => Err(AllocError),
+        None => Extent { size: 1, align: 1 },
+        Some(extent) => extent,
     }
 }
 
-/// Objects of these types in a row. `AllocError` where there is no memory, or no number, for where one lies.
+/// Objects of these types in a row. `AllocError` only where there is no memory.
 pub fn row_of(
     alloc: Global,
     types: &Types,
     structs: &[Extent],
     ids: &[TypeId],
 ) -> Result<Row, AllocError>
-    requires { All (IsBelow (length types.now)) ids.now }
+    requires inside { All (IsBelow (length types.now)) ids.now }
+    requires small { end_from 0 (extents_at structs.now (types_in types.now ids.now)) < 2 ^ 64 }
     ensures offsets { IfOk result (λ r. r.offsets.items ≡
         offsets_from 0 (extents_at structs.now (types_in types.now ids.now))) }
     ensures end { IfOk result (λ r. r.end ≡ end_from 0
@@ -76,7 +85,7 @@ pub fn row_of(
 {
     let mut row = Row::new(alloc);
     for id in ids {
-        row.add(extent(types, structs, *id)?)?;
+        row.add(extent(types, structs, *id))?;
     }
     Ok(row)
 }

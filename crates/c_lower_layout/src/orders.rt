@@ -1,6 +1,6 @@
 //! The order of strings.
 
-ghost use Rattle.std.specs.Prelude.{◌≡◌, ℕ, IfOk, OnOk, nat_eq};
+ghost use Rattle.std.specs.Prelude.{◌≡◌, ◌<◌, ◌^◌, ℕ, IfOk, OnOk, length, nat_eq};
 ghost use Rattle.std.specs.HashMap.{get};
 ghost use Rattle.c_types_program.specs.Programs.{texts_in};
 ghost use Rattle.c_lower_layout.specs.Indexed.{AreOrders, or_there};
@@ -9,11 +9,12 @@ use c_types_program::TextLiteral;
 use std::alloc::{AllocError, Global};
 use std::collections::HashMap;
 
-/// The number in 32 bits. `AllocError` where it has more.
-pub fn small(n: usize) -> Result<u32, AllocError>
-    ensures { IfOk result (λ m. m ≡ n) }
+/// The number in 32 bits.
+pub fn small(n: usize) -> u32
+    requires { n < 2 ^ 32 }
+    ensures { result ≡ n }
 {
-    u32::try_from(n).map_err(|_| AllocError)
+    n as u32
 }
 
 // Gives a string its order, if no other began there.
@@ -28,15 +29,14 @@ fn note(orders: &mut HashMap<u32, u32>, from: u32, order: u32) -> Result<(), All
     Ok(())
 }
 
-/// The order of the first string at each offset where one is.
-///
-/// `AllocError` where there is no memory, or no number of 32 bits for an order.
+/// The order of the first string at each offset where one is. `AllocError` only where there is no memory.
 pub fn orders(alloc: Global, texts: &[TextLiteral]) -> Result<HashMap<u32, u32>, AllocError>
+    requires { length texts.now < 2 ^ 32 }
     ensures { IfOk result (AreOrders (texts_in texts.now)) }
 {
     let mut orders = HashMap::new(alloc);
     for (place, text) in texts.iter().enumerate() {
-        note(&mut orders, text.from, small(place)?)?;
+        note(&mut orders, text.from, small(place))?;
     }
     Ok(orders)
 }

@@ -1,13 +1,12 @@
 //! Where the members of structs lie.
 
-ghost use Rattle.std.specs.Prelude.{◌≡◌, IfOk, length};
+ghost use Rattle.std.specs.Prelude.{◌≡◌, ◌<◌, ◌≤◌, ◌^◌, ℕ, None, IfOk, IfSome, length, min};
 ghost use Rattle.std.specs.List.{All};
 ghost use Rattle.c_types_structs.specs.Members.{members_at};
 ghost use Rattle.c_types_program.specs.Declarations.{IsMemberBelow};
-ghost use Rattle.c_lower_layout.specs.Indexed.{member_ids, offsets_of};
+ghost use Rattle.c_lower_layout.specs.Indexed.{AreFirst, member_ids, members_end_at, offsets_of};
 
 use crate::layouts::row_of;
-use crate::orders::small;
 use c_types_model::Offsets;
 use c_types_structs::Structs;
 use c_types_table::{StructId, TypeId, Types};
@@ -24,21 +23,33 @@ fn types_of(alloc: Global, structs: &Structs, number: StructId) -> Result<Vec<Ty
     Ok(types)
 }
 
-/// How far the members of each struct lie after its beginning.
-///
-/// `AllocError` where there is no memory, or no number, for where one lies.
+// The number of the next struct, if there is one to which a type can lead: those have numbers of 32 bits.
+fn next(count: usize, all: usize) -> Option<u32>
+    ensures some { IfSome result (λ n. (n ≡ count) × (n < all)) }
+    ensures none { result ≡ None → min all (2 ^ 32) ≤ count }
+{
+    if count < all {
+        u32::try_from(count).ok()
+    } else {
+        None
+    }
+}
+
+/// How far the members of each struct lie after its beginning. `AllocError` only where there is no memory.
 pub fn member_offsets(
     alloc: Global,
     types: &Types,
     structs: &Structs,
 ) -> Result<Vec<Offsets>, AllocError>
-    requires { All (All (IsMemberBelow (length types.now))) structs.now.members }
-    ensures { IfOk result (λ os. os.items ≡ offsets_of types.now structs.now) }
+    requires inside { All (All (IsMemberBelow (length types.now))) structs.now.members }
+    requires small { (number : ℕ) → number < length structs.now.extents →
+        members_end_at types.now structs.now number < 2 ^ 64 }
+    ensures { IfOk result (λ os. AreFirst os.items (offsets_of types.now structs.now)) }
 {
     let extents = structs.extents();
     let mut offsets = Vec::with_capacity(alloc, extents.len())?;
-    for (number, _) in extents.iter().enumerate() {
-        let ids = types_of(alloc, structs, StructId(small(number)?))?;
+    while let Some(number) = next(offsets.len(), extents.len()) {
+        let ids = types_of(alloc, structs, StructId(number))?;
         let row = row_of(alloc, types, extents, &ids)?;
         offsets.push(Offsets::from(row.offsets))?;
     }

@@ -1,5 +1,6 @@
 -- The code of an expression makes the marks of the expression.
-use Rattle.std.proofs.Common.{◌≡◌, ℕ, suc, ◌+◌, ◌%◌, ◌^◌, ◌≤◌, ◌-ℤ◌, pos, negsuc, Bool, true, false, cond, List, [], ◌∷◌, ◌++◌, length, Option, Some, None, Ok, refl, sym, ap, ◌∙◌, subst, arith}
+use Rattle.std.proofs.Common.{◌≡◌, ℕ, suc, ◌+◌, ◌%◌, ◌^◌, ◌≤◌, ◌-◌, ◌-ℤ◌, pos, negsuc, Bool, true, false, cond, List, [], ◌∷◌, ◌++◌, length, Option, Some, None, Ok, refl, sym, ap, ◌∙◌, subst, arith}
+use Rattle.std.proofs.Math.Nat.{add-mod-mod}
 use Rattle.r2_num.specs.declared.kinds.IntKind.{IntKind}
 use Rattle.r2_num.specs.declared.kinds.IntKind.TheVariants.{I64, U64}
 use Rattle.r2_num.specs.declared.operations.Op.TheVariants.{Div}
@@ -193,7 +194,7 @@ module _ (r : Reading) (s : Source) (code : Flat) where
   -- a step of an object: what is stored, and what is kept
   step_value : (w : Way) (old size : ℕ) → (old + step_by w size) % 2 ^ 64 ≡ stepped_by w old size
   step_value Up old size = refl
-  step_value Down old size = refl
+  step_value Down old size = add-mod-mod old (2 ^ 64 - size % 2 ^ 64) (2 ^ 64)
 
   step_kept : (g : Given) (old new : ℕ) → cond (keeps_old g) old new ≡ given g old new
   step_kept New old new = refl

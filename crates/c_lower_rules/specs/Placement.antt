@@ -63,7 +63,7 @@ MoveAt x Down size at to = (m : ℕ) × Has (instrs x) at (instr.Change (change.
 -- how far a step goes, as a number of 64 bits
 abbrev pub step_by : Way → ℕ → ℕ
 step_by Up size = size
-step_by Down size = 2 ^ 64 - wrap size
+step_by Down size = wrap (2 ^ 64 - wrap size)
 
 abbrev pub keeps_old : Given → Bool
 keeps_old New = false

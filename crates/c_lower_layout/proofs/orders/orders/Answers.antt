@@ -10,8 +10,8 @@ loop-place-preserved c = λ q.
     let n = c.loop-place.place in
     let so_far = texts_in (take n c.args.texts.now) in
     let t = c.index-texts-place.result in
-    let at : c.in_ok-small.field-0 ≡ length so_far = c.in_ok-small.ensures ∙ sym (texts_length (take n c.args.texts.now) ∙ length-take-le n c.args.texts.now (omega arith)) in
+    let at : c.small.result ≡ length so_far = c.small.ensures ∙ sym (texts_length (take n c.args.texts.now) ∙ length-take-le n c.args.texts.now (omega arith)) in
     c.in_ok-note.ensures q
-    ∙ (ap (λ (o : Option ℕ). or_there o (nat_eq q t.from) c.in_ok-small.field-0) (c.loop-place.invariant q)
+    ∙ (ap (λ (o : Option ℕ). or_there o (nat_eq q t.from) c.small.result) (c.loop-place.invariant q)
     ∙ (ap (or_there (found q so_far) (nat_eq q t.from)) at
     ∙ (sym (found_more q t.from so_far) ∙ ap (found q) (sym (texts_more c.args.texts.now n t c.index-texts-place.is (omega arith))))))

@@ -1,4 +1,4 @@
-use Rattle.std.proofs.Common.{◌≡◌, List, [], sym, ap, ◌∙◌}
+use Rattle.std.proofs.Common.{◌≡◌, ◌<◌, ◌^◌, List, [], sym, ap, ◌∙◌, subst}
 use Rattle.std.proofs.lemmas.Result.{IfOk-weaker}
 use Rattle.c_types_model.specs.Layouts.{end_from, offsets_from}
 use Rattle.c_types_model.specs.declared.extent.Extent.{Extent}
@@ -18,6 +18,12 @@ extents_here p types structs ids et es =
     ap (λ (ts : List Ty). extents_at structs (types_in ts ids)) et
     ∙ (ap (λ (xs : List Extent). extents_at xs (types_in p.table.types ids)) (es ∙ sym (extents_declared p.table.types p.structs.members 0 p.structs.extents))
     ∙ sym (extents_mapped (program_in p []) (types_in p.table.types ids)))
+
+pub row_of-requires-clause-small : goal.row_of-requires-clause-small
+unfolding source_in
+row_of-requires-clause-small c =
+    let all = extents_here c.args.self.now c.types.result.now c.extents.result.now c.args.ids.now c.types.ensures c.extents.ensures in
+    subst (λ (es : List Extent). end_from 0 es < 2 ^ 64) (sym all) c.requires.small
 
 pub returns-clause-offsets : goal.returns-clause-offsets
 unfolding source_in
