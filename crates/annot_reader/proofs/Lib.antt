@@ -7,3 +7,4 @@ mod Noting
 mod Meant
 mod Finding
 mod Saying
+mod Holding

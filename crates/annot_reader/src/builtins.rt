@@ -6,7 +6,7 @@ ghost use Rattle.annot_reader.specs.Builtins.{annots_of, builtin_note, builtin_n
 use annot_reader_functions::FunctionNotes;
 use annot_reader_words::{Annots, Param};
 use c_builtins::{BUILTINS, Builtin};
-use c_syntax::Seq;
+use c_syntax::{Seq, SharedSeq};
 use std::alloc::{AllocError, Global};
 use stub_core::{Size, Term};
 
@@ -74,7 +74,7 @@ fn notes(alloc: Global, builtin: Builtin) -> Result<FunctionNotes, AllocError>
     Ok(FunctionNotes {
         in_cut: builtin.is_in_interface(),
         annots: annots(alloc, params),
-        holds: Seq::from(Vec::new(alloc)),
+        holds: SharedSeq::empty(),
     })
 }
 

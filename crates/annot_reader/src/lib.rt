@@ -11,6 +11,7 @@ mod iface;
 mod interface;
 mod laws;
 mod reading;
+mod sharing;
 mod source;
 
 pub use cut::interface_of;

@@ -18,6 +18,7 @@ ghost use Rattle.annot_reader.specs.Reading.{AreRead, noted_global, nothing_read
 ghost use Rattle.annot_reader_functions.specs.Seen.{declared_by};
 
 use crate::growing::append;
+use crate::sharing::add;
 use crate::source::Source;
 use annot_reader_functions::{FunctionNotes, function_named, function_notes};
 use annot_reader_words::{AnnotationError, bare_decls, decl_node, declared_later, global_notes};
@@ -85,7 +86,7 @@ impl Reading {
         }
         let prototype = heading.prototype();
         let notes = function_notes(alloc, env, source.tree, id, &prototype, source.cut)?;
-        append(&mut self.functions, notes)?;
+        add(&mut self.functions, notes)?;
         Ok(())
     }
 

@@ -8,7 +8,7 @@ ghost use Rattle.annot_reader_functions.specs.Sayings.{IsNoted, IsSaid};
 use crate::notes::FunctionNotes;
 use crate::said::Said;
 use annot_reader_words::{Annots, Param};
-use c_syntax::Seq;
+use c_syntax::{Seq, SharedSeq};
 use std::alloc::{AllocError, Global};
 
 // Mutexes as values of int.
@@ -29,6 +29,7 @@ pub(crate) fn notes_of(
         AreRead ps params.items → IfOk result (IsNoted cut (record n { params = ps })) }
 {
     let holds = as_ints(alloc, said.holds.as_slice())?;
+    let holds = SharedSeq::from_vec(holds)?;
     Ok(FunctionNotes {
         in_cut: said.in_cut,
         annots: Annots {
@@ -37,6 +38,6 @@ pub(crate) fn notes_of(
             commit: said.commit,
             cache: said.cache,
         },
-        holds: Seq::from(holds),
+        holds,
     })
 }
