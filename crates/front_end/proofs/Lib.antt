@@ -2,3 +2,4 @@ mod Lowering
 mod Refusals
 mod Accepting
 pub mod OneAnswer
+mod Few

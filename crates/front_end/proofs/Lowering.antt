@@ -1,5 +1,5 @@
 -- More values than may wait are those of the source.
-use Rattle.std.proofs.Common.{◌≡◌, ◌<◌, ◌≤◌, ◌↔◌, if◌then◌else◌, inl, inr, ℕ, suc, ◌+◌, min, max, Bool, true, false, ◌||◌, nat_lt, cond, List, [], ◌∷◌, map, Option, Some, None, is_some, option_map, Result, Err, sym, ap, ◌∙◌, subst, refl, arith, le-ltb, lt-ltb}
+use Rattle.std.proofs.Common.{◌≡◌, ◌<◌, ◌≤◌, ◌↔◌, if◌then◌else◌, inl, inr, ℕ, suc, ◌+◌, ◌*◌, min, max, Bool, true, false, ◌||◌, nat_lt, cond, List, [], ◌∷◌, map, Option, Some, None, is_some, option_map, Result, Err, sym, ap, ◌∙◌, subst, refl, arith, le-ltb, lt-ltb}
 use Rattle.std.proofs.lemmas.Bool.{cases_lt}
 use Rattle.c_code.specs.Machine.{Flat}
 use Rattle.c_syntax.specs.Syntax.{Decls}
@@ -19,11 +19,21 @@ use Rattle.c_lower.specs.Depths.{counted_at, first_wide, is_wide as is_wide_in, 
 use Rattle.c_lower_stack.specs.Functions.{function_depth}
 use Rattle.c_lower_stack.specs.Depths.{capped}
 use Rattle.c_lower_laws.specs.NoMore.{NoMore, body_depth}
+use Rattle.c_lower_layout.specs.Sources.{source_in}
+use Rattle.c_lower_sizes.specs.Sizes.{functions_size, most_per_node}
 use Rattle.front_end.specs.declared.error.SourceError.TheVariants as errors
 use Rattle.front_end.specs.declared.error.SourceLimit.TheVariants.{Nodes, Values}
 use Rattle.front_end.specs.Answers.{IsTooLarge}
 use Rattle.front_end.specs.Errors.{by_code}
 use Rattle.front_end.specs.Sources.{is_wide, too_large}
+
+-- the code is as small as its nodes say
+pub code_small : (ds : Decls) (p : Program) (d : Declared) (n : ℕ) → n ≡ nodes.capped (source_nodes ds) → functions_size p.functions ≤ most_per_node * source_nodes ds → IsProgram d p → n ≤ most_nodes
+    → functions_size (source_in d).program.functions ≤ most_per_node * n
+unfolding source_in
+code_small ds p d n counted h is few =
+    let same : p.functions ≡ map (function_in d.table) d.functions = sym (ap (λ (q : Program). q.functions) is) in
+    subst (λ (fs : List SourceFunction). functions_size fs ≤ most_per_node * n) same (omega (arith, h, counted, few))
 
 -- a count of 8 bits is too great where what it counts is
 capped_test : (n : ℕ) → nat_lt 64 (min n 255) ≡ nat_lt 64 n

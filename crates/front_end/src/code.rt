@@ -1,7 +1,6 @@
 //! The flat code of a source.
 
-ghost use Rattle.std.specs.Prelude.{◌≡◌, None, IfErr, IfOk, OnOk};
-ghost use Rattle.c_syntax.specs.Stands.{Holds};
+ghost use Rattle.std.specs.Prelude.{◌≡◌, ◌<◌, ◌^◌, None, IfErr, IfOk, OnOk, length};
 ghost use Rattle.c_syntax.specs.Syntax.{Decls};
 ghost use Rattle.c_types_rules.specs.Limits.{Typed, outcome};
 ghost use Rattle.c_types_rules.specs.Sources.{Program};
@@ -15,6 +14,7 @@ use c_code::Code;
 use c_code_fused::FusedCode;
 use c_lower::lower;
 use c_lower_laws::{typed_bodies_are_no_deeper, typed_programs_fit};
+use c_lower_sizes::code_is_small;
 use c_lower_stack::function_depth;
 use c_parser::Parsed;
 use c_types_program::TypedProgram;
@@ -27,8 +27,9 @@ pub(crate) fn code_of(
     parsed: &Parsed,
     program: &TypedProgram,
 ) -> Result<FusedCode, SourceError>
-    requires { (ds : Decls) × (p : Program) × Holds parsed.now.tree ds × (outcome ds ≡ Typed p) ×
+    requires typed { (ds : Decls) × (p : Program) × IsCountedTree parsed.now ds × (outcome ds ≡ Typed p) ×
         IsProgram program.now p }
+    requires texts { length program.now.texts < 2 ^ 32 }
     ensures small { (ds : Decls) (p : Program) → IsCountedTree parsed.now ds → outcome ds ≡ Typed p →
         IsProgram program.now p → OnOk result (too_large ds ≡ None) }
     ensures code { IfOk result (IsCode program.now) }
@@ -41,8 +42,9 @@ pub(crate) fn code_of(
 
 // The same as its instructions alone.
 fn flat_code_of(alloc: Global, parsed: &Parsed, program: &TypedProgram) -> Result<Code, SourceError>
-    requires { (ds : Decls) × (p : Program) × Holds parsed.now.tree ds × (outcome ds ≡ Typed p) ×
+    requires typed { (ds : Decls) × (p : Program) × IsCountedTree parsed.now ds × (outcome ds ≡ Typed p) ×
         IsProgram program.now p }
+    requires texts { length program.now.texts < 2 ^ 32 }
     ensures small { (ds : Decls) (p : Program) → IsCountedTree parsed.now ds → outcome ds ≡ Typed p →
         IsProgram program.now p → OnOk result (too_large ds ≡ None) }
     ensures code { IfOk result (IsCode program.now) }
@@ -52,5 +54,6 @@ fn flat_code_of(alloc: Global, parsed: &Parsed, program: &TypedProgram) -> Resul
     let depth = function_depth(alloc, &parsed.tree)?;
     typed_programs_fit();
     typed_bodies_are_no_deeper();
+    code_is_small();
     Ok(lower(alloc, program, parsed.nodes, &depth)?)
 }

@@ -35,6 +35,7 @@ pub struct CheckedSource {
 fn tokens_of(alloc: Global, bytes: &[u8]) -> Result<Vec<Token>, SourceError>
     requires { length bytes.now ≤ 1048576 }
     ensures tokens { IfOk result (λ v. IsTokens bytes.now v.items) }
+    ensures few { IfOk result (λ v. length v.items ≤ length bytes.now) }
     ensures refused { (cut : List ℕ) → IfErr result (IsSourceError bytes.now cut) }
 {
     match lex(alloc, bytes) {

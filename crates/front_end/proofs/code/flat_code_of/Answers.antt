@@ -5,11 +5,18 @@ use Rattle.c_lower_stack.specs.Functions.{function_depth}
 use Rattle.c_lower_stack.specs.Depths.{capped}
 use Rattle.front_end.specs.declared.error.SourceError.{SourceError}
 use Rattle.front_end.specs.Answers.{IsTooLarge}
-use Rattle.front_end.proofs.Lowering.{counted, large, small}
+use Rattle.front_end.proofs.Lowering.{code_small, counted, large, small}
 use Rattle.front_end.proofs.code.flat_code_of.Goals as goal
 
 pub lower-requires : goal.lower-requires
-lower-requires c = c.typed_programs_fit.ensures c.requires.0 c.requires.1 c.args.program.now c.requires.3 c.requires.4
+lower-requires c =
+    let t = c.requires.typed in
+    let d = c.args.program.now in
+    record {
+      fit = c.typed_programs_fit.ensures t.0 t.1 d t.3 t.4;
+      texts = c.requires.texts;
+      small = λ few. code_small t.0 t.1 d c.args.parsed.now.nodes t.2.1 (c.code_is_small.ensures t.0 t.1 t.3) t.4 few;
+    }
 
 pub returns-in_err-lower-clause-refused : goal.returns-in_err-lower-clause-refused
 returns-in_err-lower-clause-refused c = λ ds p tree typed is.

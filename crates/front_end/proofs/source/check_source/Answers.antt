@@ -1,10 +1,11 @@
-use Rattle.std.proofs.Common.{List, Err, ap, sym, ◌∙◌, subst}
+use Rattle.std.proofs.Common.{◌≤◌, List, Err, length, ap, sym, ◌∙◌, subst, arith}
 use Rattle.c_lexer.specs.declared.token.Token.{Token}
 use Rattle.std.proofs.lemmas.Result.{err_from_is_err_and}
 use Rattle.c_lexer.specs.Lexing.{IsTokens}
 use Rattle.c_parser.specs.Parsed.{IsCounted}
 use Rattle.front_end.specs.Answers.{IsChecked, IsTyped}
 use Rattle.front_end.proofs.Accepting.{accepted, source_of}
+use Rattle.front_end.proofs.Few.{few_texts}
 use Rattle.front_end.proofs.Refusals.{by_size, read}
 use Rattle.front_end.proofs.source.check_source.Goals as goal
 
@@ -55,7 +56,11 @@ code_of-requires c =
     subst (λ (v : List Token). IsTyped N v p.0 c.in_ok-source.source) c.deref-2.ensures.value (c.in_ok-source.ensures.typed p.0 p.3.0 (c.numbers_fit.ensures bytes ts p.0 lexed p.1))
     in
     let reads = c.in_ok-program.ensures bytes p.0 source t in
-    (p.0, t.program, t.holds, t.typed, reads.0)
+    let texts : length c.in_ok-program.program.texts ≤ length ts = omega (arith, ap length (reads.1 ∙ t.texts), few_texts ts) in
+    record {
+      typed = (p.0, t.program, p.3, t.typed, reads.0);
+      texts = omega (arith, texts, c.in_ok-tokens.ensures.few, c.requires);
+    }
 
 pub returns-in_err-code : goal.returns-in_err-code
 returns-in_err-code c =
