@@ -1,0 +1,12 @@
+pub mod HandedDown
+pub mod Deciding
+pub mod Decided
+pub mod Picking
+pub mod Sorted
+pub mod OneEvent
+pub mod Lasts
+pub mod PlainSteps
+pub mod EventSteps
+pub mod OneStep
+pub mod OneFault
+pub mod Runs
