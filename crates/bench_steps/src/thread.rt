@@ -199,8 +199,8 @@ fn made(
     requires { IsInside (laid code.now placed.now) thread.old.config }
 {
     let mut calls = 0;
+    let mut want = thread.next(code, placed);
     for step in 0..MOST {
-        let want = thread.next(code, placed);
         if let Want::Ended { result } = want {
             return Some((step - calls, result));
         }
@@ -209,10 +209,11 @@ fn made(
                 return None;
             }
             calls += 1;
+            want = thread.next(code, placed);
             continue;
         }
         let answer = answer_to(want, thread, memory)?;
-        thread.feed(code, placed, answer);
+        want = thread.feed_next(code, placed, answer);
     }
     None
 }

@@ -1,6 +1,6 @@
 //! What a thread is asked and told.
 
-ghost use Rattle.std.specs.Prelude.{◌≡◌, ◌^◌, ℕ, ◌<◌, ◌≤◌, false, true, Option, [], ◌∷◌, length, Some, IfOk};
+ghost use Rattle.std.specs.Prelude.{◌≡◌, ◌^◌, ℕ, ◌<◌, ◌≤◌, false, true, Option, [], ◌∷◌, length, Some, IfOk, IfSome};
 ghost use Rattle.marks.specs.declared.side.Side.TheVariants.{Replay};
 ghost use Rattle.memory_map.specs.declared.placed.Placed.{Placed as Places};
 ghost use Rattle.c_code.specs.Machine.{Laid, Done, Starting, action, callee as callee_of};
@@ -98,15 +98,51 @@ impl Thread {
     }
 
     /// What came of the next mark or call. The thread goes on up to the one after it.
+    #[inline(always)]
     pub fn feed(&mut self, code: &FusedCode, placed: &Placed, answer: Answer)
         requires inside { IsInside (laid code.now placed.now) self.old.config }
         requires may { MayFeed (laid code.now placed.now) self.old.config (told answer) }
         ensures fed { self.new ≡ after_answer (laid code.now placed.now) self.old (told answer) }
         ensures inside { IsInside (laid code.now placed.now) self.new.config }
     {
+        let _want = self.go_on(code, placed, answer);
+    }
+
+    /// The same, and then the thread's next mark or call, as `next` says it.
+    #[inline(always)]
+    pub fn feed_next(&mut self, code: &FusedCode, placed: &Placed, answer: Answer) -> Want
+        requires inside { IsInside (laid code.now placed.now) self.old.config }
+        requires may { MayFeed (laid code.now placed.now) self.old.config (told answer) }
+        ensures fed { self.new ≡ after_answer (laid code.now placed.now) self.old (told answer) }
+        ensures inside { IsInside (laid code.now placed.now) self.new.config }
+        ensures want { shown (laid code.now placed.now)
+            (action (laid code.now placed.now) self.new.config) ≡ Some result }
+        ensures call { (f : ℕ) → result ≡ WantedCall f →
+            IsAtCall (laid code.now placed.now) self.new.config f }
+        ensures ret { (f v : ℕ) → result ≡ WantedRet f v →
+            IsAtReturn (laid code.now placed.now) self.new.config f v }
+        ensures answers { (next : Answers) → IsNeeded result next →
+            MayFeed (laid code.now placed.now) self.new.config (told next) }
+    {
+        match self.go_on(code, placed, answer) {
+            Some(want) => want,
+            None => self.next(code, placed),
+        }
+    }
+
+    // The thread goes on up to its next mark or call, which is told where it is a mark of an instruction.
+    #[inline(always)]
+    fn go_on(&mut self, code: &FusedCode, placed: &Placed, answer: Answer) -> Option<Want>
+        requires inside { IsInside (laid code.now placed.now) self.old.config }
+        requires may { MayFeed (laid code.now placed.now) self.old.config (told answer) }
+        ensures fed { self.new ≡ after_answer (laid code.now placed.now) self.old (told answer) }
+        ensures inside { IsInside (laid code.now placed.now) self.new.config }
+        ensures want { IfSome result (λ want. shown (laid code.now placed.now)
+            (action (laid code.now placed.now) self.new.config) ≡ Some want) }
+    {
         check(code);
         self.position.take(code, placed, answer);
-        self.position.settle(code, placed);
+        self.position.settle(code, placed)
     }
 
     /// The event of the call that is next was made: the thread is below the cut.

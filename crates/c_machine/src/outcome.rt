@@ -44,10 +44,10 @@ pub(crate) enum Outcome {
     Pends(Call),
 }
 
-// Where passing some instructions leads: the activation goes on at the place; or the instruction there makes a mark, or this call.
+// Where passing some instructions leads: the activation goes on at the place; or the instruction there makes this mark, or this call.
 #[derive(Clone, Copy)]
 pub(crate) enum Passed {
     On(u32),
-    Marks(u32),
+    Marks(u32, Want),
     Calls(u32, Call),
 }

@@ -7,7 +7,7 @@ use Rattle.c_machine.specs.Moves.{ThreadState, IsInside, MayFeed, FitsIn, rested
 use Rattle.c_machine.proofs.Onward.{After}
 use Rattle.c_machine.proofs.Insides.{fed_on, fed_fits, fed_inside, enters_there}
 use Rattle.c_machine.proofs.Space.{take_room, settle_room, kept_room}
-use Rattle.c_machine.proofs.thread.Thread.feed.Goals as goal
+use Rattle.c_machine.proofs.thread.Thread.go_on.Goals as goal
 
 pub take-requires-clause-room : goal.take-requires-clause-room
 take-requires-clause-room c =
