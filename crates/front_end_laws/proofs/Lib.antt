@@ -1,0 +1,6 @@
+mod Found
+mod Rules
+mod Declared
+mod Followed
+mod Listed
+mod Whole
