@@ -30,7 +30,7 @@ use Rattle.c_types_program.specs.declared.function.Body.{Body}
 use Rattle.c_types_program.specs.declared.function.Function.{Function}
 use Rattle.c_types_program.specs.Declarations.{Declared, body_in, function_in}
 use Rattle.c_types_program.specs.Programs.{program_in}
-use Rattle.c_lower.specs.Depths.{first_wide}
+use Rattle.c_lower.specs.Depths.{first_wide, functions_in}
 use Rattle.c_lower.specs.Lowered.{builtin_info, code_of, codes_of, frame_of, infos_from, lowered}
 use Rattle.c_lower.proofs.Valid.{valid_made}
 
@@ -138,7 +138,7 @@ frames_small p fit k f e = by f.body refl
         (fit.bodies (builtin_count + k) (body_in p.table b) body).small
 
 -- of a program whose evaluation stack is small all numbers in the code fit
-pub all_short : (p : Declared) → IsFit p → ((us : List ℕ) × (first_wide p.table us 0 p.functions ≡ None)) → length (codes_of p p.functions) < 2 ^ 32
+pub all_short : (p : Declared) → IsFit p → first_wide 0 (functions_in p) ≡ None → length (codes_of p p.functions) < 2 ^ 32
     → ((s : Source) (code : Flat) (sig : CType → ℕ) (height : ℕ → ℕ) → IsMadeOf s code sig height → IsSteady code height) → All IsShort (codes_of p p.functions)
 all_short p fit few small law = valid_short (lowered p) (valid_made p (map (builtin_info p) BUILTINS) (infos_from p 0 p.functions) (codes_of p p.functions) refl refl refl fit few small law)
 

@@ -1,5 +1,5 @@
 -- The code of a program whose evaluation stack is small is valid.
-use Rattle.std.proofs.Common.{◌≡◌, ℕ, zero, suc, ◌+◌, ◌^◌, ◌<◌, ◌≤◌, Bool, true, false, ◌||◌, cond, List, [], ◌∷◌, ◌++◌, length, map, Option, Some, None, refl, sym, ap, ◌∙◌, subst, arith}
+use Rattle.std.proofs.Common.{◌≡◌, ℕ, zero, suc, ◌+◌, ◌^◌, ◌<◌, ◌≤◌, max, Bool, true, false, cond, List, [], ◌∷◌, ◌++◌, length, map, Option, Some, None, refl, sym, ap, ◌∙◌, subst, arith}
 use Rattle.std.specs.Prelude.{nat_lt, slice_get}
 use Rattle.std.specs.Option.{option_map}
 use Rattle.std.proofs.lemmas.List.{length-map}
@@ -27,11 +27,10 @@ use Rattle.c_types_program.specs.declared.function.Body.{Body}
 use Rattle.c_types_program.specs.declared.function.Function.{Function}
 use Rattle.c_types_program.specs.Declarations.{Declared, body_in, function_in}
 use Rattle.c_types_program.specs.Programs.{texts_in}
-use Rattle.c_types_program.specs.Statements.{statement_in}
 use Rattle.c_lower_layout.specs.Sources.{fixed_types, sig_in, source_in, types_of_functions}
 use Rattle.c_lower_laws.specs.Fits.{IsFit, Knows}
 use Rattle.c_lower.specs.Lowered.{IsSourceOf, builtin_info, code_of, codes_of, infos_from, lowered}
-use Rattle.c_lower.specs.Depths.{first_wide, is_wide, counted_at}
+use Rattle.c_lower.specs.Depths.{body_depth, first_wide, functions_in, greatest_depth, is_wide}
 use Rattle.c_lower_layout.proofs.Numbers.{one_place}
 use Rattle.c_lower.proofs.Standing.{height_in}
 use Rattle.c_lower.proofs.Laid.{all_heights, among, heights_of, infos_counted, stands_at, start}
@@ -41,24 +40,16 @@ abbrev nowhere : Placed
 nowhere = record { globals = []; strings = []; replay = []; system = []; faces = [] }
 
 -- no function up to the end is wide
-all_few : (t : Table) (us : List ℕ) (n : ℕ) (fs : List Function) → first_wide t us n fs ≡ None → (k : ℕ) (g : Function) → slice_get fs k ≡ Some g → is_wide t g.body (counted_at us (n + k)) ≡ false
-all_few t us n [] e k g h = absurd cc
-all_few t us n (f ∷ fs) e k g h = by (is_wide t f.body (counted_at us n)) refl k h (λ r m c. all_few t us (suc n) fs r m g c)
+all_few : (t : Table) (n : ℕ) (fs : List Function) → first_wide n (map (function_in t) fs) ≡ None → (k : ℕ) (g : Function) → slice_get fs k ≡ Some g → is_wide (option_map (body_in t) g.body) ≡ false
+all_few t n [] e k g h = absurd cc
+all_few t n (f ∷ fs) e k g h = by (is_wide (option_map (body_in t) f.body)) refl k h (λ r m c. all_few t (suc n) fs r m g c)
   where
-    by : (b : Bool) → is_wide t f.body (counted_at us n) ≡ b → (k : ℕ) → slice_get (f ∷ fs) k ≡ Some g
-        → (first_wide t us (suc n) fs ≡ None → (m : ℕ) → slice_get fs m ≡ Some g → is_wide t g.body (counted_at us (suc n + m)) ≡ false) → is_wide t g.body (counted_at us (n + k)) ≡ false
-    by true w k h later = let some : first_wide t us n (f ∷ fs) ≡ Some (16 + n) = ap (λ c. cond c (Some (16 + n)) (first_wide t us (suc n) fs)) w in absurd cc
-    by false w zero h later =
-        let here : n + 0 ≡ n = omega arith in
-        ap (λ (x : Function). is_wide t x.body (counted_at us (n + 0))) (sym (same_Some f g h)) ∙ (ap (λ m. is_wide t f.body (counted_at us m)) here ∙ w)
-    by false w (suc m) h later =
-        let there : n + suc m ≡ suc n + m = omega arith in
-        ap (λ i. is_wide t g.body (counted_at us i)) there ∙ later (sym (ap (λ c. cond c (Some (16 + n)) (first_wide t us (suc n) fs)) w) ∙ e) m h
-
--- where neither of two tests holds, the second doesn't
-second_false : (a b : Bool) → (a || b) ≡ false → b ≡ false
-second_false true b h = absurd cc
-second_false false b h = h
+    by : (b : Bool) → is_wide (option_map (body_in t) f.body) ≡ b → (k : ℕ) → slice_get (f ∷ fs) k ≡ Some g
+        → (first_wide (suc n) (map (function_in t) fs) ≡ None → (m : ℕ) → slice_get fs m ≡ Some g → is_wide (option_map (body_in t) g.body) ≡ false) → is_wide (option_map (body_in t) g.body) ≡ false
+    by true w k h later =
+        let some : first_wide n (map (function_in t) (f ∷ fs)) ≡ Some (16 + n) = ap (λ c. cond c (Some (16 + n)) (first_wide (suc n) (map (function_in t) fs))) w in absurd cc
+    by false w zero h later = ap (λ (x : Function). is_wide (option_map (body_in t) x.body)) (sym (same_Some f g h)) ∙ w
+    by false w (suc m) h later = later (sym (ap (λ c. cond c (Some (16 + n)) (first_wide (suc n) (map (function_in t) fs))) w) ∙ e) m h
 
 get_some : (fs : List Function) (k : ℕ) → k < length fs → (g : Function) × (slice_get fs k ≡ Some g)
 get_some [] k lt = absurd (omega arith)
@@ -116,21 +107,22 @@ module _ (p : Declared) where
           let there : 0 + start p w.place p.functions + by ≡ q = let m : start p w.place p.functions ≡ start p k p.functions = ap (λ j. start p j p.functions) place in omega arith in
           record { func = 16 + k; body = b; defined = defined; by = by; inside = omega arith; there = ap (λ m. m + by) (entry_is p [] nowhere (16 + k) b defined) ∙ there }
 
-  few_in : (us : List ℕ) → first_wide p.table us 0 p.functions ≡ None → (f : ℕ) (b : typed.Body) → Found p [] nowhere f b → statement_depth b.statements ≤ 64
-  few_in us few f b w =
-      let n = counted_at us (0 + w.place) in
-      let no : is_wide p.table w.function.body n ≡ false = all_few p.table us 0 p.functions few w.place w.function w.there in
-      let test : nat_lt 64 (statement_depth (statement_in p.table w.body.statements)) ≡ false =
-      second_false (nat_lt 64 n) (nat_lt 64 (statement_depth (statement_in p.table w.body.statements))) (ap (λ o. is_wide p.table o n) (sym w.has) ∙ no) in
-      subst (λ (c : typed.Body). statement_depth c.statements ≤ 64) w.means (ltb-false 64 (statement_depth (statement_in p.table w.body.statements)) test)
+  few_in : first_wide 0 (functions_in p) ≡ None → (f : ℕ) (b : typed.Body) → Found p [] nowhere f b → statement_depth b.statements ≤ 64
+  few_in few f b w =
+      let c = body_in p.table w.body in
+      let no : is_wide (option_map (body_in p.table) w.function.body) ≡ false = all_few p.table 0 p.functions few w.place w.function w.there in
+      let test : nat_lt 64 (body_depth c) ≡ false = ap (λ o. is_wide (option_map (body_in p.table) o)) (sym w.has) ∙ no in
+      let most : max (statement_depth c.statements) (greatest_depth c.unevaluated) ≤ 64 = ltb-false 64 (body_depth c) test in
+      let own : statement_depth c.statements ≤ 64 = omega (arith, most) in
+      subst (λ (d : typed.Body). statement_depth d.statements ≤ 64) w.means own
 
-  made : (us : List ℕ) → IsFit p → first_wide p.table us 0 p.functions ≡ None → IsMadeOf s code sig height
+  made : IsFit p → first_wide 0 (functions_in p) ≡ None → IsMadeOf s code sig height
   unfolding source_in
-  made us fit few = record {
+  made fit few = record {
     emitted = emitted p [] nowhere;
     within = within;
     stands = λ f b d. subst (λ n. Stand height n (body_heights b)) (sym (entry_is p [] nowhere f b d)) (stands f b (body_found p [] nowhere f b d));
-    fits = λ f b d. record { few = few_in us few f b (body_found p [] nowhere f b d); calls = (fit.bodies f b d).calls code knows; holds = (fit.bodies f b d).holds };
+    fits = λ f b d. record { few = few_in few f b (body_found p [] nowhere f b d); calls = (fit.bodies f b d).calls code knows; holds = (fit.bodies f b d).holds };
   }
 
   one_type : (f g : ℕ) (a b : FuncInfo) → func_of code f ≡ Some a → func_of code g ≡ Some b → a.sig ≡ b.sig → (a.params ≡ b.params) × (a.result ≡ b.result)
@@ -156,11 +148,11 @@ module _ (p : Declared) where
   is_builtin : (b : Builtin) → IsBuiltin (builtin_info p b) (prototype (shapes_of (params_of_prototype (prototype_of b))) (shape_of (result_of_prototype (prototype_of b))))
   is_builtin b = record { params = refl; result = refl; no_body = refl }
 
-  pub valid : IsFit p → ((us : List ℕ) × (first_wide p.table us 0 p.functions ≡ None)) → length (codes_of p p.functions) < 2 ^ 32 → ((height : ℕ → ℕ) → IsMadeOf s code sig height → IsSteady code height) → IsValid code
+  pub valid : IsFit p → first_wide 0 (functions_in p) ≡ None → length (codes_of p p.functions) < 2 ^ 32 → ((height : ℕ → ℕ) → IsMadeOf s code sig height → IsSteady code height) → IsValid code
   unfolding source_in
   valid fit few short law = record {
     height = height;
-    steady = law height (made few.0 fit few.1);
+    steady = law height (made fit few);
     few_params = λ f info e. let h = typed_at p [] nowhere f info e in subst (λ ps. length ps ≤ 8) (sym h.0) (fit.few_params f);
     one_type = one_type;
     starts = starts;
@@ -171,7 +163,7 @@ module _ (p : Declared) where
 
 -- the same of parts that were put together
 pub valid_made : (p : Declared) (bs ss : List FuncInfo) (is : List Instr) → bs ≡ map (builtin_info p) BUILTINS → ss ≡ infos_from p 0 p.functions → is ≡ codes_of p p.functions
-    → IsFit p → ((us : List ℕ) × (first_wide p.table us 0 p.functions ≡ None)) → length is < 2 ^ 32 → ((s : Source) (code : Flat) (sig : CType → ℕ) (height : ℕ → ℕ) → IsMadeOf s code sig height → IsSteady code height)
+    → IsFit p → first_wide 0 (functions_in p) ≡ None → length is < 2 ^ 32 → ((s : Source) (code : Flat) (sig : CType → ℕ) (height : ℕ → ℕ) → IsMadeOf s code sig height → IsSteady code height)
     → IsValid (flat bs ss is)
 valid_made p bs ss is eb es ei fit few short law =
     let same : flat bs ss is ≡ lowered p = ap (λ l. flat l ss is) eb ∙ (ap (λ l. flat (map (builtin_info p) BUILTINS) l is) es ∙ ap (λ l. flat (map (builtin_info p) BUILTINS) (infos_from p 0 p.functions) l) ei) in

@@ -1,12 +1,10 @@
 -- The depth of the evaluation stack in the functions of a program.
-use Rattle.std.specs.Prelude.{ℕ, suc, ◌+◌, Bool, ◌||◌, if◌then◌else◌, nat_lt, max, min, List, [], ◌∷◌, slice_index_or, Option, Some, None}
+use Rattle.std.specs.Prelude.{ℕ, suc, ◌+◌, Bool, false, if◌then◌else◌, nat_lt, max, min, List, [], ◌∷◌, map, Option, Some, None}
 use Rattle.c_builtins.specs.Table.{first_source_function}
 use Rattle.c_code.specs.Valid.{most_values}
-use Rattle.c_types_rules.specs.TypedTree.{Callee, Typed, AnObject, AFunction, AValue, SourceFunction, BuiltinFunction, Through}
-use Rattle.c_types_nodes.specs.Tables.{Table}
-use Rattle.c_types_program.specs.declared.function.Body.{Body}
-use Rattle.c_types_program.specs.declared.function.Function.{Function}
-use Rattle.c_types_program.specs.Statements.{statement_in}
+use Rattle.c_types_rules.specs.TypedTree.{Body, Callee, Typed, AnObject, AFunction, AValue, SourceFunction, BuiltinFunction, Through}
+use Rattle.c_types_rules.specs.Sources.{Function}
+use Rattle.c_types_program.specs.Declarations.{Declared, function_in}
 use Rattle.c_lower_rules.specs.Heights.{call_depth, object_depth, statement_depth, value_depth}
 
 -- a count of 8 bits; more than 255 count as 255
@@ -31,23 +29,30 @@ calling_depth (AnObject o) n = max 1 n
 calling_depth (AFunction f t) n = call_depth f n
 calling_depth (AValue v) n = max 1 n
 
--- whether the evaluation stack is deeper than 64 values in a function, where its source says that so many
--- do
-abbrev pub is_wide : Table → Option Body → (counted : ℕ) → Bool
-is_wide t None n = nat_lt most_values n
-is_wide t (Some b) n = nat_lt most_values n ||
-    nat_lt most_values (statement_depth (statement_in t b.statements))
+-- the greatest depth over expressions, before each of which the evaluation stack is empty
+abbrev pub greatest_depth : List Typed → ℕ
+greatest_depth [] = 0
+greatest_depth (x ∷ xs) = max (typed_depth x) (greatest_depth xs)
 
--- the depth of the evaluation stack that the source tells in the function at a place; none where nothing is
--- said of it
-abbrev pub counted_at : List ℕ → ℕ → ℕ
-counted_at us place = slice_index_or us place 0
+-- the greatest depth over all expressions in the block of a body, also those that aren't evaluated: operands of
+-- sizeof, and lengths of arrays
+abbrev pub body_depth : Body → ℕ
+body_depth b = max (statement_depth b.statements) (greatest_depth b.unevaluated)
+
+-- whether the evaluation stack is deeper than 64 values in what a function does
+abbrev pub is_wide : Option Body → Bool
+is_wide None = false
+is_wide (Some b) = nat_lt most_values (body_depth b)
 
 -- the number of the first such function, where these have the places from one on
-abbrev pub first_wide : Table → (counted : List ℕ) → (place : ℕ) → List Function → Option ℕ
-first_wide t us place [] = None
-first_wide t us place (f ∷ fs) = if is_wide t f.body (counted_at us place)
-    then Some (first_source_function + place) else first_wide t us (suc place) fs
+abbrev pub first_wide : (place : ℕ) → List Function → Option ℕ
+first_wide place [] = None
+first_wide place (f ∷ fs) = if is_wide f.body then Some (first_source_function + place)
+    else first_wide (suc place) fs
+
+-- the functions that a program declares, by number less 16
+abbrev pub functions_in : Declared → List Function
+functions_in p = map (function_in p.table) p.functions
 
 -- so many nodes a source may have
 abbrev pub most_nodes : ℕ

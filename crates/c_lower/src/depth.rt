@@ -40,9 +40,9 @@ fn sum(sum: Sum, pointer: u8, index: u8) -> u8
     }
 }
 
-// The greatest depth of the evaluation stack in an expression. More than 255 count as 255.
+/// The greatest depth of the evaluation stack in an expression. More than 255 count as 255.
 #[cycle(depth)]
-fn node_depth(table: &TypedTable, id: NodeId) -> u8
+pub fn node_depth(table: &TypedTable, id: NodeId) -> u8
     requires { IsNode table.now id }
     ensures { result ≡ capped (typed_depth (node_at table.now id)) }
 {

@@ -1,6 +1,6 @@
 //! Lowering.
 
-ghost use Rattle.std.specs.Prelude.{◌≡◌, ◌↔◌, ◌*◌, ◌<◌, ◌≤◌, ◌^◌, ℕ, List, None, Some, IfOk, OnOk, length};
+ghost use Rattle.std.specs.Prelude.{◌≡◌, ◌↔◌, ◌*◌, ◌<◌, ◌≤◌, ◌^◌, ℕ, None, Some, IfOk, OnOk, length};
 ghost use Rattle.c_code.specs.Typed.{KeepsTypes};
 ghost use Rattle.c_semantics.specs.Context.{Source};
 ghost use Rattle.c_lower_rules.specs.Laws.{MakesTheMarks, laid};
@@ -10,7 +10,7 @@ ghost use Rattle.c_lower_sizes.specs.Sizes.{functions_size, most_per_node};
 ghost use Rattle.c_lower.specs.Lowered.{IsSourceOf, lowered};
 ghost use Rattle.c_lower.specs.Named.{NamesNoMore};
 ghost use Rattle.c_lower.specs.Types.{TellsTypes};
-ghost use Rattle.c_lower.specs.Depths.{first_wide as first_wide_of, most_nodes};
+ghost use Rattle.c_lower.specs.Depths.{first_wide as first_wide_of, functions_in, most_nodes};
 
 use crate::error::LowerError;
 use crate::functions::{builtin_infos, function_info};
@@ -30,7 +30,7 @@ pub const MOST_NODES: usize = 131_072;
 // The code of a program whose evaluation stack is small.
 fn code(alloc: Global, program: &TypedProgram) -> Result<Code, AllocError>
     requires fit { IsFit program.now }
-    requires few { (us : List ℕ) × (first_wide_of program.now.table us 0 program.now.functions ≡ None) }
+    requires few { first_wide_of 0 (functions_in program.now) ≡ None }
     requires texts { length program.now.texts < 2 ^ 32 }
     requires small { functions_size (source_in program.now).program.functions < 2 ^ 32 }
     ensures { IfOk result (λ c. c ≡ lowered program.now) }
@@ -47,21 +47,12 @@ fn code(alloc: Global, program: &TypedProgram) -> Result<Code, AllocError>
     Ok(Code::new(builtins, sources, instrs))
 }
 
-/// The code of a program whose source has so many nodes. `counted` says of each function, in their order,
-/// the greatest depth of the evaluation
-/// stack in the expressions of its body as the source says it, those under `sizeof` and in lengths of arrays
-/// among them; more than 255
-/// count as 255, and where it ends there are none.
+/// The code of a program whose source has so many nodes.
 ///
 /// `Long` where the nodes are more than 131,072; else `Wide` with the number of the first function whose
-/// evaluation stack is deeper than 64
-/// values, as is counted or in its typed body; else the code, or `Memory` where there is no memory for it.
-pub fn lower(
-    alloc: Global,
-    program: &TypedProgram,
-    nodes: usize,
-    counted: &[u8],
-) -> Result<Code, LowerError>
+/// evaluation stack is deeper than 64 values, also in what isn't evaluated in its block: operands of `sizeof`,
+/// and lengths of arrays; else the code, or `Memory` where there is no memory for it.
+pub fn lower(alloc: Global, program: &TypedProgram, nodes: usize) -> Result<Code, LowerError>
     requires fit { IsFit program.now }
     requires texts { length program.now.texts < 2 ^ 32 }
     // The code needs no more instructions than its nodes may give.
@@ -69,9 +60,9 @@ pub fn lower(
         functions_size (source_in program.now).program.functions ≤ most_per_node * nodes }
     ensures long { (result ≡ Err LowerError.Long) ↔ (most_nodes < nodes) }
     ensures wide { (f : ℕ) → (result ≡ Err (LowerError.Wide f)) ↔ ((nodes ≤ most_nodes) ×
-        (first_wide_of program.now.table counted.now 0 program.now.functions ≡ Some f)) }
+        (first_wide_of 0 (functions_in program.now) ≡ Some f)) }
     ensures few { OnOk result ((nodes ≤ most_nodes) ×
-        (first_wide_of program.now.table counted.now 0 program.now.functions ≡ None)) }
+        (first_wide_of 0 (functions_in program.now) ≡ None)) }
     ensures code { IfOk result (λ c. c ≡ lowered program.now) }
     ensures marks { IfOk result (λ c. (s : Source) → IsSourceOf program.now s → MakesTheMarks s c) }
     ensures keeps { IfOk result (λ c. (s : Source) → IsSourceOf program.now s → KeepsTypes (laid s c)) }
@@ -83,7 +74,7 @@ pub fn lower(
     }
     emitted_code_makes_the_marks();
     code_of_sources_keeps_types();
-    match first_wide(program, counted) {
+    match first_wide(program) {
         Some(number) => Err(LowerError::Wide(number)),
         None => Ok(code(alloc, program)?),
     }

@@ -1,14 +1,15 @@
 //! Functions whose evaluation stack is too deep.
 
-ghost use Rattle.std.specs.Prelude.{◌≡◌, ◌+◌, ◌^◌, ◌≤◌, length};
+ghost use Rattle.std.specs.Prelude.{◌≡◌, ◌+◌, ◌^◌, ◌≤◌, Some, length};
+ghost use Rattle.std.specs.Option.{option_map};
 ghost use Rattle.c_builtins.specs.Table.{first_source_function};
-ghost use Rattle.c_types_program.specs.Declarations.{IsBody};
+ghost use Rattle.c_types_program.specs.Declarations.{IsBody, body_in};
 ghost use Rattle.c_types_program.specs.Statements.{AllStatements, IsMaybeAt, IsStatement, maybe_at, statement_in, statements_in};
-ghost use Rattle.c_types_nodes.specs.Tables.{Table};
+ghost use Rattle.c_types_nodes.specs.Lists.{AreNodes, nodes_at};
 ghost use Rattle.c_lower_rules.specs.Heights.{maybe_depth as maybe_depth_of, statement_depth as statement_depth_of, statements_depth as statements_depth_of};
-ghost use Rattle.c_lower.specs.Depths.{capped, first_wide as first_wide_of, is_wide as is_wide_of, counted_at};
+ghost use Rattle.c_lower.specs.Depths.{body_depth as body_depth_of, capped, first_wide as first_wide_of, functions_in, greatest_depth as greatest_depth_of, is_wide as is_wide_of};
 
-use crate::depth::{either, value_depth};
+use crate::depth::{either, node_depth, value_depth};
 use c_builtins::FIRST_SOURCE_FUNCTION;
 use c_types_nodes::{NodeId, TypedTable};
 use c_types_program::{Body, Statement, TypedProgram};
@@ -82,34 +83,48 @@ fn statements_depth(table: &TypedTable, statements: &[Statement]) -> u8
     most
 }
 
-// Whether the evaluation stack is deeper than 64 values in a function, where its source says that so many do.
-fn is_wide(table: &TypedTable, body: &Option<Body>, counted: u8) -> bool
+// The greatest depth of the evaluation stack in expressions that aren't evaluated. More than 255 count as 255.
+fn greatest_depth(table: &TypedTable, ids: &[NodeId]) -> u8
+    requires { AreNodes table.now ids.now }
+    ensures { result ≡ capped (greatest_depth_of (nodes_at table.now ids.now)) }
+{
+    let mut most = 0;
+    for i in (0..ids.len()).rev() {
+        most = either(node_depth(table, ids[i]), most);
+    }
+    most
+}
+
+// The greatest depth of the evaluation stack in the block of a function. More than 255 count as 255.
+fn body_depth(table: &TypedTable, body: &Body) -> u8
+    requires { IsBody table.now (Some body.now) }
+    ensures { result ≡ capped (body_depth_of (body_in table.now body.now)) }
+{
+    either(
+        statement_depth(table, &body.statements),
+        greatest_depth(table, body.unevaluated.as_slice()),
+    )
+}
+
+// Whether the evaluation stack is deeper than 64 values in what a function does.
+fn is_wide(table: &TypedTable, body: &Option<Body>) -> bool
     requires { IsBody table.now body.now }
-    ensures { result ≡ is_wide_of table.now body.now counted }
+    ensures { result ≡ is_wide_of (option_map (body_in table.now) body.now) }
 {
     match body {
-        None => counted > MOST_VALUES,
-        Some(body) => counted > MOST_VALUES
-            || statement_depth(table, &body.statements) > MOST_VALUES,
+        None => false,
+        Some(body) => body_depth(table, body) > MOST_VALUES,
     }
 }
 
-// The count of the function at a place; 0 where there is none.
-fn count_at(counts: &[u8], place: usize) -> u8
-    ensures { result ≡ counted_at counts.now place }
-{
-    counts.get(place).copied().unwrap_or(0)
-}
-
 /// The number of the first function whose evaluation stack is deeper than 64 values; `None` where there is
-/// none. It takes time linear in
-/// the code.
-pub fn first_wide(program: &TypedProgram, counted: &[u8]) -> Option<u16>
+/// none. It takes time linear in the nodes of the program.
+pub fn first_wide(program: &TypedProgram) -> Option<u16>
     requires { first_source_function + length program.now.functions ≤ 2 ^ 16 }
-    ensures { result ≡ first_wide_of program.now.table counted.now 0 program.now.functions }
+    ensures { result ≡ first_wide_of 0 (functions_in program.now) }
 {
     for (place, function) in program.functions().iter().enumerate() {
-        if is_wide(program.table(), &function.body, count_at(counted, place)) {
+        if is_wide(program.table(), &function.body) {
             return Some(FIRST_SOURCE_FUNCTION + place as u16);
         }
     }

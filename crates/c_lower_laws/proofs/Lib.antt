@@ -8,18 +8,3 @@ pub mod Programs
 pub mod Frames
 mod Small
 pub mod Whole
-mod HeldValues
-mod Names
-mod Within
-mod Operators
-mod Assignments
-mod Designators
-mod Calls
-mod Expressions
-mod BodyValues
-mod LocalValues
-mod Statements
-mod Counts
-mod Parts
-mod Functions
-mod Sources

@@ -1,5 +1,5 @@
 -- The functions of a typed source convert their results, since a `return` does so as if by assignment.
-use Rattle.std.proofs.Common.{◌≡◌, ℕ, Bool, true, false, List, refl}
+use Rattle.std.proofs.Common.{◌≡◌, ℕ, Bool, true, false, List, [], refl}
 use Rattle.c_syntax.specs.Syntax.{Expr, MaybeExpr, Decl, Decls, Parts, Rest, Stmt, Entries, Entry, First, NoExpr, OneExpr, Declare, NoDecls, MoreDecls, Plain, Braces, NoRest, Initial, Body, Members, Block, Expression, If, IfElse, While, Do, For, Break, Continue, Return, NoEntries, MoreEntries, LocalEntry, StmtEntry, NoFirst, LocalFirst, ExprFirst}
 use Rattle.c_types_model.specs.Types.{CType, Void, Integer, PointerTo, ArrayOf, StructOf, UndefinedStruct, FunctionOf}
 use Rattle.c_types_rules.specs.Checked.{Checked, Fine, Noted, Notes, Broken, heard, keep, noting, ◌>>=◌, ◌>>◌}
@@ -185,8 +185,8 @@ Gives t b = Converts (result_of t) b.statements
 block_gives : (env : Environment) (t : CType) (ps : Parts) (s : Stmt) → Holds (Gives t) (block_body env t ps s)
 block_gives env t ps s = search (holds_on, then_block)
   where
-    then_block : (d : Declared) → Holds (Gives t) (heard (block_of s (record { result = result_of t; in_loop = false }) d) >>= (λ a. Fine (record { from = start_of_stmt s; locals = a.0.0; statements = a.0.1; unevaluated = a.1 })))
-    then_block d = holds_then (λ a. Made (result_of t) a.0) (Gives t) (heard (block_of s (record { result = result_of t; in_loop = false }) d)) (λ a. Fine (record { from = start_of_stmt s; locals = a.0.0; statements = a.0.1; unevaluated = a.1 })) (holds_heard (Made (result_of t)) (block_of s (record { result = result_of t; in_loop = false }) d) (block_converts s (record { result = result_of t; in_loop = false }) d)) (λ a h. h)
+    then_block : (d : Declared) → Holds (Gives t) (heard (block_of s (record { result = result_of t; in_loop = false }) d) >>= (λ a. Fine (record { from = start_of_stmt s; locals = a.0.0; statements = a.0.1; in_params = []; unevaluated = a.1 })))
+    then_block d = holds_then (λ a. Made (result_of t) a.0) (Gives t) (heard (block_of s (record { result = result_of t; in_loop = false }) d)) (λ a. Fine (record { from = start_of_stmt s; locals = a.0.0; statements = a.0.1; in_params = []; unevaluated = a.1 })) (holds_heard (Made (result_of t)) (block_of s (record { result = result_of t; in_loop = false }) d) (block_converts s (record { result = result_of t; in_loop = false }) d)) (λ a h. h)
 
 pub body_gives : (env : Environment) (t : CType) (ps : Parts) (s : Stmt) → Holds (Gives t) (body_of env t ps s)
 body_gives env t ps s = holds_on (Gives t) (heard (parameter_types (nearest ps) (inner env) 0)) _ (λ us. holds_then (Gives t) (Gives t) (block_body env t ps s) _ (block_gives env t ps s) (λ b h. h))

@@ -25,13 +25,14 @@ module _ (t u : Table) (k : Keeps t u) where
 
   pub body_kept : (b : Body) → IsBody t (Some b) → body_in u b ≡ body_in t b
   body_kept b h =
-      ap (λ cs. record { from = b.from; locals = cs; statements = statement_in u b.statements; unevaluated = nodes_at u b.unevaluated }) (types_kept b.locals h.0)
-      ∙ (ap (λ s. record { from = b.from; locals = types_in t.types b.locals; statements = s; unevaluated = nodes_at u b.unevaluated }) (statement_kept t u k b.statements h.1)
-      ∙ ap (λ xs. record { from = b.from; locals = types_in t.types b.locals; statements = statement_in t b.statements; unevaluated = xs }) (nodes_kept t u k b.unevaluated h.2))
+      ap (λ cs. record { from = b.from; locals = cs; statements = statement_in u b.statements; in_params = nodes_at u b.in_params; unevaluated = nodes_at u b.unevaluated }) (types_kept b.locals h.0)
+      ∙ (ap (λ s. record { from = b.from; locals = types_in t.types b.locals; statements = s; in_params = nodes_at u b.in_params; unevaluated = nodes_at u b.unevaluated }) (statement_kept t u k b.statements h.1)
+      ∙ (ap (λ xs. record { from = b.from; locals = types_in t.types b.locals; statements = statement_in t b.statements; in_params = xs; unevaluated = nodes_at u b.unevaluated }) (nodes_kept t u k b.in_params h.2)
+      ∙ ap (λ xs. record { from = b.from; locals = types_in t.types b.locals; statements = statement_in t b.statements; in_params = nodes_at t b.in_params; unevaluated = xs }) (nodes_kept t u k b.unevaluated h.3)))
 
   pub is_body_kept : (b : Option Body) → IsBody t b → IsBody u b
   is_body_kept None h = tt
-  is_body_kept (Some b) h = (All-weaker (IsBelow (length t.types)) (IsBelow (length u.types)) (λ id lt. is_type_kept t u k id lt) b.locals h.0, is_statement_kept t u k b.statements h.1, are_nodes_kept t u k b.unevaluated h.2)
+  is_body_kept (Some b) h = (All-weaker (IsBelow (length t.types)) (IsBelow (length u.types)) (λ id lt. is_type_kept t u k id lt) b.locals h.0, is_statement_kept t u k b.statements h.1, are_nodes_kept t u k b.in_params h.2, are_nodes_kept t u k b.unevaluated h.3)
 
   maybe_body_kept : (b : Option Body) → IsBody t b → option_map (body_in u) b ≡ option_map (body_in t) b
   maybe_body_kept None h = refl

@@ -1,5 +1,5 @@
 -- What stands unevaluated in small sources.
-use Rattle.std.specs.Prelude.{List, [], map, codes, Option, Some, None}
+use Rattle.std.specs.Prelude.{List, [], ◌++◌, map, codes, Option, Some, None}
 use Rattle.c_syntax.specs.Syntax.{Decl, Expr, SizeofExpr, SizeofType, Declare, MoreDecls, NoDecls, NoAnnots, Parts, NoParts, Params, NoRest, Body, Block, MoreEntries, NoEntries, StmtEntry, Return, OneExpr}
 use Rattle.c_types_rules.specs.TypedTree as typed
 use Rattle.c_types_rules.specs.TypedTree.{Typed}
@@ -9,7 +9,7 @@ use Rattle.c_types_rules.specs.Limits as limits
 use Rattle.c_types_examples.specs.Small.{char_base, declaring, int_base, num, source}
 
 abbrev in_body : Option typed.Body → List Typed
-in_body (Some b) = b.unevaluated
+in_body (Some b) = b.in_params ++ b.unevaluated
 in_body None = []
 
 abbrev bodies_found : Outcome → List (List Typed)

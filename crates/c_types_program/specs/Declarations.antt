@@ -61,6 +61,8 @@ body_in t b = record {
   locals = types_in t.types b.locals;
   statements =
       statement_in t b.statements;
+  in_params =
+      nodes_at t b.in_params;
   unevaluated =
       nodes_at t b.unevaluated;
 }
@@ -103,8 +105,8 @@ structs_in types ds = structs_from types ds.members 0 ds.extents
 
 abbrev pub IsBody : Table → Option Body → Type 0
 IsBody t None = Unit {0}
-IsBody t (Some b) = All (IsBelow (length t.types)) b.locals × IsStatement t b.statements × AreNodes t
-    b.unevaluated
+IsBody t (Some b) = All (IsBelow (length t.types)) b.locals × IsStatement t b.statements ×
+    AreNodes t b.in_params × AreNodes t b.unevaluated
 
 pub record IsFunction (t : Table) (f : Function) : Type 0 where
   pub type : IsBelow (length t.types) f.ty

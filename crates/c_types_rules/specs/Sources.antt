@@ -191,15 +191,20 @@ block_body env t ps s = do
   within ← parameters (nearest ps) (inner env) 0 (params_of t)
   a ← heard (block_of s (record { result = result_of t; in_loop = false })
       (record { env = within; locals = listed (params_of t) }))
-  Fine (record { from = start_of_stmt s; locals = a.0.0; statements = a.0.1; unevaluated = a.1 })
+  Fine (record {
+    from = start_of_stmt s;
+    locals = a.0.0;
+    statements = a.0.1;
+    in_params = [];
+    unevaluated = a.1;
+  })
 
--- the same, where what stands unevaluated in the parameters belongs to the body, before what stands in the
--- block
+-- the same, with what stands unevaluated in the parameters
 abbrev pub body_of : Environment → CType → Parts → Stmt → Checked typed.Body
 body_of env t ps s = do
   params ← heard (parameter_types (nearest ps) (inner env) 0)
   b ← block_body env t ps s
-  Fine (record b { unevaluated = params.1 ++ b.unevaluated })
+  Fine (record b { in_params = params.1 })
 
 -- a function that has a body once at most
 abbrev pub function_defined : List (List ℕ) → Program → (from place : ℕ) → (name : List ℕ) → CType →

@@ -120,12 +120,13 @@ joined NoStatements b = b
 joined (MoreStatements s a) b = MoreStatements s (joined a b)
 
 -- what a function does: the offset of its outermost block, the types of its parameters and locals by place,
--- its statements, and what stands in them unevaluated: operands of sizeof, and lengths of arrays in the
--- order of the source, each after those within it
+-- its statements, and what stands unevaluated in its parameters and in its block: operands of sizeof, and
+-- lengths of arrays, in the order of the source, each after those within it
 pub record Body : Type 0 where
   pub from : ℕ
   pub locals : List CType
   pub statements : Statement
+  pub in_params : List Typed
   pub unevaluated : List Typed
 
 abbrev pub char : CType

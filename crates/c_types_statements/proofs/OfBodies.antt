@@ -3,6 +3,7 @@ use Rattle.std.proofs.Common.{◌≡◌, ℕ, false, List, [], ◌∷◌, length
 use Rattle.std.specs.Prelude.{Vec}
 use Rattle.std.specs.declared.alloc.Global.{Global}
 use Rattle.std.specs.List.{All}
+use Rattle.std.proofs.lemmas.List.Elements.{All-nil}
 use Rattle.c_syntax.specs.declared.id.StmtId.{StmtId}
 use Rattle.c_syntax.specs.declared.statement.Entry.{Entry}
 use Rattle.c_syntax.specs.declared.statement.Stmt.{Stmt as StmtNode}
@@ -21,7 +22,7 @@ use Rattle.c_types_rules.specs.Sources.{block_of, listed, parameters, params_of,
 use Rattle.c_types_rules.specs.Statements as rules
 use Rattle.c_types_rules.specs.Statements.{Declared, entries, start_of_stmt, statement}
 use Rattle.c_types_nodes.specs.declared.ids.NodeId.{NodeId}
-use Rattle.c_types_nodes.specs.Tables.{Table}
+use Rattle.c_types_nodes.specs.Tables.{IsNode, Table}
 use Rattle.c_types_nodes.specs.Lists.{AreNodes, nodes_at}
 use Rattle.c_types_program.specs.declared.function.Body.{Body}
 use Rattle.c_types_program.specs.declared.statement.Statement.{Statement}
@@ -82,18 +83,19 @@ listed_types : (ts : List CType) (ids : List TypeId) → listed (all_at ts ids) 
 listed_types ts [] = refl
 listed_types ts (id ∷ ids) = ap (λ z. at ts id ∷ z) (listed_types ts ids)
 
-body_stands : (d : State) (found : List TypeId) (made : Statement) (ids : List NodeId) (body : Body) (from : ℕ) (y : (List CType × typed.Statement) × List typed.Typed) → body.from ≡ from → body.locals ≡ found → body.statements ≡ made → body.unevaluated ≡ ids
+body_stands : (d : State) (found : List TypeId) (made : Statement) (ids : List NodeId) (body : Body) (from : ℕ) (y : (List CType × typed.Statement) × List typed.Typed) → body.from ≡ from → body.locals ≡ found → body.statements ≡ made → body.in_params ≡ [] → body.unevaluated ≡ ids
     → All (IsBelow (length d.table.types)) found → AreNodes d.table ids → IsPart d (IsTyped d found) y (made, ids)
-    → BodyStands d.table (record { from = from; locals = y.0.0; statements = y.0.1; unevaluated = y.1 }) body
-body_stands d found made ids body from y g e f u below all h = record {
-  inside = (subst (All (IsBelow (length d.table.types))) (sym e) below, subst (IsStatement d.table) (sym f) h.0.1.inside, subst (AreNodes d.table) (sym u) all);
+    → BodyStands d.table (record { from = from; locals = y.0.0; statements = y.0.1; in_params = []; unevaluated = y.1 }) body
+body_stands d found made ids body from y g e f i u below all h = record {
+  inside = (subst (All (IsBelow (length d.table.types))) (sym e) below, subst (IsStatement d.table) (sym f) h.0.1.inside, subst (AreNodes d.table) (sym i) (All-nil (IsNode d.table)), subst (AreNodes d.table) (sym u) all);
   is =
-      ap (λ z. record { from = z; locals = types_in d.table.types body.locals; statements = statement_in d.table body.statements; unevaluated = nodes_at d.table body.unevaluated }) g
-      ∙ (ap (λ z. record { from = from; locals = types_in d.table.types z; statements = statement_in d.table body.statements; unevaluated = nodes_at d.table body.unevaluated }) e
-      ∙ (ap (λ z. record { from = from; locals = types_in d.table.types found; statements = statement_in d.table z; unevaluated = nodes_at d.table body.unevaluated }) f
-      ∙ (ap (λ z. record { from = from; locals = z; statements = statement_in d.table made; unevaluated = nodes_at d.table body.unevaluated }) h.0.0
-      ∙ (ap (λ z. record { from = from; locals = y.0.0; statements = z; unevaluated = nodes_at d.table body.unevaluated }) h.0.1.is
-      ∙ ap (λ z. record { from = from; locals = y.0.0; statements = y.0.1; unevaluated = z }) (ap (nodes_at d.table) u ∙ h.1)))));
+      ap (λ z. record { from = z; locals = types_in d.table.types body.locals; statements = statement_in d.table body.statements; in_params = nodes_at d.table body.in_params; unevaluated = nodes_at d.table body.unevaluated }) g
+      ∙ (ap (λ z. record { from = from; locals = types_in d.table.types z; statements = statement_in d.table body.statements; in_params = nodes_at d.table body.in_params; unevaluated = nodes_at d.table body.unevaluated }) e
+      ∙ (ap (λ z. record { from = from; locals = types_in d.table.types found; statements = statement_in d.table z; in_params = nodes_at d.table body.in_params; unevaluated = nodes_at d.table body.unevaluated }) f
+      ∙ (ap (λ z. record { from = from; locals = z; statements = statement_in d.table made; in_params = nodes_at d.table body.in_params; unevaluated = nodes_at d.table body.unevaluated }) h.0.0
+      ∙ (ap (λ z. record { from = from; locals = y.0.0; statements = z; in_params = nodes_at d.table body.in_params; unevaluated = nodes_at d.table body.unevaluated }) h.0.1.is
+      ∙ (ap (λ z. record { from = from; locals = y.0.0; statements = y.0.1; in_params = nodes_at d.table z; unevaluated = nodes_at d.table body.unevaluated }) i
+      ∙ ap (λ z. record { from = from; locals = y.0.0; statements = y.0.1; in_params = []; unevaluated = z }) (ap (nodes_at d.table) u ∙ h.1))))));
 }
 
 -- the outermost block, with what stands in it unevaluated
@@ -136,7 +138,7 @@ module _ (a b d : State) (sig : Signature) (c : CType) (ds : Decls) (s : Stmt) (
   block_place = record { result = result_of c; in_loop = false }
 
   abbrev made_body : (List CType × typed.Statement) × List typed.Typed → Checked typed.Body
-  made_body y = Fine (record { from = start_of_stmt s; locals = y.0.0; statements = y.0.1; unevaluated = y.1 })
+  made_body y = Fine (record { from = start_of_stmt s; locals = y.0.0; statements = y.0.1; in_params = []; unevaluated = y.1 })
 
   abbrev block_part : Environment → Checked typed.Body
   block_part within = heard (block_of s block_place (record { env = within; locals = listed (params_of c) })) >>= made_body
@@ -168,9 +170,9 @@ module _ (a b d : State) (sig : Signature) (c : CType) (ds : Decls) (s : Stmt) (
         (moved (IsBlock d found) (Err e) within at h))
 
     pub body_found : (found : List TypeId) (made : Statement) (ids : List NodeId) (body : Body) → Finds b d (IsBlock d found) (heard (block_of s (place_in b q) (declared_in b sig.params.items))) (Ok (made, ids))
-        → All (IsBelow (length d.table.types)) found → AreNodes d.table ids → body.from ≡ start_of_stmt s → body.locals ≡ found → body.statements ≡ made → body.unevaluated ≡ ids → Finds a d (BodyStands d.table) (body_here a.env c ds s) (Ok body)
-    body_found found made ids body h below all g e f u =
+        → All (IsBelow (length d.table.types)) found → AreNodes d.table ids → body.from ≡ start_of_stmt s → body.locals ≡ found → body.statements ≡ made → body.in_params ≡ [] → body.unevaluated ≡ ids → Finds a d (BodyStands d.table) (body_here a.env c ds s) (Ok body)
+    body_found found made ids body h below all g e f i u =
         gone_on (notes_of a) (notes_of b) (notes_of d) (IsEnv b) (BodyStands d.table) (parameters ds a.env 0 (params_of c)) block_part tt (Ok body) (in_turn_declared (Ok tt) (IsEnv b) declared) (λ within at.
         gone_on (notes_of b) (notes_of d) (notes_of d) (IsBlock d found) (BodyStands d.table) (heard (block_of s block_place (record { env = within; locals = listed (params_of c) }))) made_body (made, ids) (Ok body)
         (moved (IsBlock d found) (Ok (made, ids)) within at h)
-        (λ y typed_so. (body_stands d found made ids body (start_of_stmt s) y g e f u below all typed_so, refl)))
+        (λ y typed_so. (body_stands d found made ids body (start_of_stmt s) y g e f i u below all typed_so, refl)))

@@ -1,7 +1,5 @@
 -- What functions do, with what stands unevaluated in their parameters.
-use Rattle.std.proofs.Common.{◌≡◌, ◌++◌, List, [], Result, Ok, Err, refl, sym, ap, ◌∙◌, subst}
-use Rattle.std.proofs.lemmas.List.{map-append}
-use Rattle.std.proofs.lemmas.List.Elements.{All-append}
+use Rattle.std.proofs.Common.{◌≡◌, List, [], Result, Ok, Err, refl, sym, ap, ◌∙◌, subst}
 use Rattle.c_syntax.specs.Syntax.{Decls, Parts, Stmt}
 use Rattle.c_types_model.specs.Types.{CType, CTypes}
 use Rattle.c_types_table.specs.declared.ids.TypeId.{TypeId}
@@ -12,7 +10,7 @@ use Rattle.c_types_rules.specs.Expressions.{parameter_types}
 use Rattle.c_types_rules.specs.TypedTree as typed
 use Rattle.c_types_rules.specs.Sources.{block_body, body_of, nearest}
 use Rattle.c_types_nodes.specs.declared.ids.NodeId.{NodeId}
-use Rattle.c_types_nodes.specs.Tables.{IsNode, Keeps, Table, node_at}
+use Rattle.c_types_nodes.specs.Tables.{Keeps, Table}
 use Rattle.c_types_nodes.specs.Lists.{AreNodes, nodes_at}
 use Rattle.c_types_nodes.proofs.Lists.{are_nodes_kept, nodes_kept}
 use Rattle.c_types_operators.specs.declared.error.TypeError.{TypeError}
@@ -51,7 +49,7 @@ module _ (a b d : State) (ty : TypeId) (ps : Parts) (s : Stmt) where
   t = type_at a.table.types ty
 
   abbrev with_first : List typed.Typed → typed.Body → typed.Body
-  with_first us y = record y { unevaluated = us ++ y.unevaluated }
+  with_first us y = record y { in_params = us }
 
   abbrev after : CTypes × List typed.Typed → Checked typed.Body
   after us = block_body a.env t ps s >>= (λ y. Fine (with_first us.1 y))
@@ -72,15 +70,15 @@ module _ (a b d : State) (ty : TypeId) (ps : Parts) (s : Stmt) where
         gone_on (notes_of a) (notes_of b) (notes_of d) (AreHeard b.table) (BodyStands d.table) first after ids (Err e) heard_so (λ us at.
         stopped_in (notes_of b) (notes_of d) (notes_of d) (BodyStands d.table) (BodyStands d.table) (block_body a.env t ps s) (λ y. Fine (with_first us.1 y)) e (block_here (Err e) h))
 
-    joined_stands : (us : List typed.Typed) (y : typed.Body) (body : Body) → AreNodes b.table ids → Keeps b.table d.table → nodes_at b.table ids ≡ us → BodyStands d.table y body → BodyStands d.table (with_first us y) (record body { unevaluated = ids ++ body.unevaluated })
+    joined_stands : (us : List typed.Typed) (y : typed.Body) (body : Body) → AreNodes b.table ids → Keeps b.table d.table → nodes_at b.table ids ≡ us → BodyStands d.table y body → BodyStands d.table (with_first us y) (record body { in_params = ids })
     joined_stands us y body all k at h = record {
-      inside = (h.inside.0, h.inside.1, All-append (IsNode d.table) ids body.unevaluated (are_nodes_kept b.table d.table k ids all) h.inside.2);
+      inside = (h.inside.0, h.inside.1, are_nodes_kept b.table d.table k ids all, h.inside.3);
       is =
-          ap (λ xs. record (body_in d.table body) { unevaluated = xs }) (map-append (node_at d.table) ids body.unevaluated ∙ ap (λ xs. xs ++ nodes_at d.table body.unevaluated) (nodes_kept b.table d.table k ids all ∙ at))
+          ap (λ xs. record (body_in d.table body) { in_params = xs }) (nodes_kept b.table d.table k ids all ∙ at)
           ∙ ap (with_first us) h.is;
     }
 
-    pub body_made : (body made : Body) → AreNodes b.table ids → Keeps b.table d.table → made ≡ record body { unevaluated = ids ++ body.unevaluated } → Finds b d (BodyStands d.table) (block_body b.env (type_at b.table.types ty) ps s) (Ok body)
+    pub body_made : (body made : Body) → AreNodes b.table ids → Keeps b.table d.table → made ≡ record body { in_params = ids } → Finds b d (BodyStands d.table) (block_body b.env (type_at b.table.types ty) ps s) (Ok body)
         → Finds a d (BodyStands d.table) (body_of a.env t ps s) (Ok made)
     body_made body made all k same h =
         gone_on (notes_of a) (notes_of b) (notes_of d) (AreHeard b.table) (BodyStands d.table) first after ids (Ok made) heard_so (λ us at.

@@ -1,5 +1,5 @@
 -- What parts of statements are.
-use Rattle.std.specs.Prelude.{ℕ, Bool, false, List, Option}
+use Rattle.std.specs.Prelude.{ℕ, Bool, false, List, [], Option}
 use Rattle.c_syntax.specs.Syntax.{Expr, MaybeExpr, Decl, Decls, First, Stmt, Declare}
 use Rattle.c_types_model.specs.Types.{CType}
 use Rattle.c_types_rules.specs.Checked.{heard, Checked, Fine, keep, ◌>>=◌, ◌>>◌}
@@ -57,4 +57,10 @@ body_here env t ds s = do
   within ← parameters ds env 0 (params_of t)
   a ← heard (block_of s (record { result = result_of t; in_loop = false })
       (record { env = within; locals = listed (params_of t) }))
-  Fine (record { from = start_of_stmt s; locals = a.0.0; statements = a.0.1; unevaluated = a.1 })
+  Fine (record {
+    from = start_of_stmt s;
+    locals = a.0.0;
+    statements = a.0.1;
+    in_params = [];
+    unevaluated = a.1;
+  })

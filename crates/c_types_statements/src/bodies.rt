@@ -1,6 +1,6 @@
 //! What functions do (C11 6.9.1).
 
-ghost use Rattle.std.specs.Prelude.{◌≡◌, ◌<◌, ◌++◌, length, IfOk};
+ghost use Rattle.std.specs.Prelude.{◌≡◌, ◌<◌, length, IfOk};
 ghost use Rattle.std.specs.List.{All};
 ghost use Rattle.c_syntax.specs.Stands.{StandDecls, StandParts, StandsStmt};
 ghost use Rattle.c_syntax.specs.Syntax.{Decls, Parts, Stmt};
@@ -29,7 +29,6 @@ use c_types_nodes::NodeIds;
 use c_types_operators::TypeError;
 use c_types_program::{Body, Statement};
 use c_types_table::{TypeId, TypeIds};
-use std::alloc::AllocError;
 
 // The outermost block of a function, whose scope is the innermost one.
 fn outermost(
@@ -108,6 +107,7 @@ fn body_here(
         from: tree.stmt(id).from,
         locals: TypeIds::from(locals),
         statements,
+        in_params: NodeIds::from(Vec::new(env.alloc())),
         unevaluated,
     })
 }
@@ -153,25 +153,25 @@ fn heard_parameters(
     Ok(env.part_unevaluated(before))
 }
 
-// The body with these nodes before those that stand in it unevaluated.
-fn with_nodes(env: &Environment, first: &NodeIds, body: Body) -> Result<Body, AllocError>
-    ensures { IfOk result (λ b. b ≡ record body { unevaluated = first.now ++ body.unevaluated }) }
+// The body, where these nodes stand unevaluated in its parameters.
+fn with_params(in_params: NodeIds, body: Body) -> Body
+    ensures { result ≡ record body { in_params = in_params } }
 {
     let Body {
         from,
         locals,
         statements,
+        in_params: before,
         unevaluated,
     } = body;
-    let mut all = Vec::new(env.alloc());
-    all.extend_from_slice(first.as_slice())?;
-    all.extend_from_slice(unevaluated.as_slice())?;
-    Ok(Body {
+    drop(before);
+    Body {
         from,
         locals,
         statements,
-        unevaluated: NodeIds::from(all),
-    })
+        in_params,
+        unevaluated,
+    }
 }
 
 /// What a function of this type does, by the parts of its declarator and its block. Its parameters are in the scope of that block
@@ -196,7 +196,7 @@ pub fn body(
     // What is declared, and what numbers stand for, is as before, also after an error.
     ensures kept { Stays env.old env.new }
 {
-    let first = heard_parameters(env, tree, nearest_params(parts))?;
+    let in_params = heard_parameters(env, tree, nearest_params(parts))?;
     let body = block_body(env, tree, ty, parts, id)?;
-    Ok(with_nodes(env, &first, body)?)
+    Ok(with_params(in_params, body))
 }

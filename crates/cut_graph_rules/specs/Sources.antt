@@ -5,10 +5,10 @@ use Rattle.c_types_rules.specs.Initials.{Known, Initial, Initials, Number, Addre
 use Rattle.c_types_rules.specs.Sources as sources
 use Rattle.c_types_rules.specs.Sources.{Program}
 use Rattle.cut_graph_rules.specs.declared.mention.Mention.{Mention}
-use Rattle.cut_graph_rules.specs.declared.mention.Mention.TheVariants.{Function, Global, Written}
+use Rattle.cut_graph_rules.specs.declared.mention.Mention.TheVariants.{Function}
 use Rattle.cut_graph_rules.specs.Mentions.{statement_mentions, unevaluated_mentions}
 
--- a body, with what stands in it and in its parameters unevaluated
+-- a body, with what stands in it unevaluated; what stands in the types of its parameters is no part of it
 abbrev pub body_mentions : Body → List Mention
 body_mentions b = statement_mentions b.statements ++ unevaluated_mentions b.unevaluated
 
@@ -19,11 +19,12 @@ function_mentions None = []
 
 -- ---- values of globals
 
--- the address of a global is that under `&`, or of an array whose name stands alone
+-- only functions that are named here count where a global is named; a global's address in the value of another
+-- is followed no further
 abbrev pub known_mentions : Known → List Mention
 known_mentions (Number n) = []
 known_mentions (AddressOfText from) = []
-known_mentions (AddressOfGlobal place) = Written place ∷ Global place ∷ []
+known_mentions (AddressOfGlobal place) = []
 known_mentions (AddressOfFunction from number) = Function number ∷ []
 
 abbrev mutual

@@ -22,7 +22,7 @@ pub typed_source : (N : Nodes) (ts : List Token) (ds : Decls) (s : TypedSource) 
 typed_source N ts ds s t = record { holds = t.holds; fits = t.fits; typed = t.typed; env = t.is.env; functions = t.is.functions; numbers = t.is.are_functions }
 
 pub accepted : (bytes cut : List ℕ) (N : Nodes) (ds : Decls) (s : TypedSource) (c : CheckedSource) → (source : IsSource bytes ds) → (t : IsTyped N source.tokens ds s) → IsProgram c.program t.program → c.program.texts ≡ s.texts
-    → IsInterface cut (annotations ds t.program) (Ok c.interface) → too_large ds ≡ None → IsCode c.program c.code → IsAccepted bytes cut c
+    → IsInterface cut (annotations ds t.program) (Ok c.interface) → too_large ds t.program ≡ None → IsCode c.program c.code → IsAccepted bytes cut c
 accepted bytes cut N ds s c source t program texts reads small code = record {
   right = record { ds = ds; source = source; right = read cut ds t.program c.interface t.typed reads ∙ small };
   says = subst (λ (o : Outcome). SaysOf cut source.tokens ds o c) (sym t.typed) (program, texts ∙ t.texts, reads, code);

@@ -97,36 +97,36 @@ program_of ds texts tags s is = typed_program ds texts tags (outcome ds) s refl 
 
 -- ---- annotations
 
-broken_annotations : (cut : List ℕ) (ds : Decls) (c : Checked Annotated) (f r : ℕ) → IsInterface cut c (Err (reading.Rule f r)) → fault_of_annotations cut ds c ≡ Some (found (rules.Annotation r) f)
-broken_annotations cut ds (Broken from rule) f r is = ap (λ (n : ℕ). Some (found (rules.Annotation rule) n)) (sym is.0) ∙ ap (λ (n : ℕ). Some (found (rules.Annotation n) f)) (sym is.1)
-broken_annotations cut ds (Fine a) f r is = absurd is
-broken_annotations cut ds (Noted n a) f r is = absurd is
+broken_annotations : (cut : List ℕ) (ds : Decls) (p : Program) (c : Checked Annotated) (f r : ℕ) → IsInterface cut c (Err (reading.Rule f r)) → fault_of_annotations cut ds p c ≡ Some (found (rules.Annotation r) f)
+broken_annotations cut ds p (Broken from rule) f r is = ap (λ (n : ℕ). Some (found (rules.Annotation rule) n)) (sym is.0) ∙ ap (λ (n : ℕ). Some (found (rules.Annotation n) f)) (sym is.1)
+broken_annotations cut ds p (Fine a) f r is = absurd is
+broken_annotations cut ds p (Noted n a) f r is = absurd is
 
-no_cut : (cut : List ℕ) (ds : Decls) (c : Checked Annotated) → IsInterface cut c (Err reading.NoSuchCut) → fault_of_annotations cut ds c ≡ Some errors.NoSuchCut
-no_cut cut ds (Fine a) is = ap (unless_named ds) is
-no_cut cut ds (Noted n a) is = ap (unless_named ds) is
-no_cut cut ds (Broken from rule) is = absurd is
+no_cut : (cut : List ℕ) (ds : Decls) (p : Program) (c : Checked Annotated) → IsInterface cut c (Err reading.NoSuchCut) → fault_of_annotations cut ds p c ≡ Some errors.NoSuchCut
+no_cut cut ds p (Fine a) is = ap (unless_named ds p) is
+no_cut cut ds p (Noted n a) is = ap (unless_named ds p) is
+no_cut cut ds p (Broken from rule) is = absurd is
 
 pub by_reading : (bytes cut : List ℕ) (ds : Decls) (p : Program) (error : InterfaceError) → outcome ds ≡ limits.Typed p → IsSource bytes ds
     → IsInterface cut (annotations ds p) (Err error) → IsSourceError bytes cut (by_annotations error)
 by_reading bytes cut ds p (reading.Rule f r) same source is =
-    refused (found (rules.Annotation r) f) ds source (ap (fault_of_types cut ds) same ∙ broken_annotations cut ds (annotations ds p) f r is)
-by_reading bytes cut ds p reading.NoSuchCut same source is = refused errors.NoSuchCut ds source (ap (fault_of_types cut ds) same ∙ no_cut cut ds (annotations ds p) is)
+    refused (found (rules.Annotation r) f) ds source (ap (fault_of_types cut ds) same ∙ broken_annotations cut ds p (annotations ds p) f r is)
+by_reading bytes cut ds p reading.NoSuchCut same source is = refused errors.NoSuchCut ds source (ap (fault_of_types cut ds) same ∙ no_cut cut ds p (annotations ds p) is)
 by_reading bytes cut ds p reading.Memory same source is = tt
 
-named : (cut : List ℕ) (ds : Decls) (c : Checked Annotated) (i : Interface) → IsInterface cut c (Ok i) → fault_of_annotations cut ds c ≡ too_large ds
-named cut ds (Fine a) i is = ap (unless_named ds) is.1
-named cut ds (Noted n a) i is = ap (unless_named ds) is.1
-named cut ds (Broken from rule) i is = absurd is
+named : (cut : List ℕ) (ds : Decls) (p : Program) (c : Checked Annotated) (i : Interface) → IsInterface cut c (Ok i) → fault_of_annotations cut ds p c ≡ too_large ds p
+named cut ds p (Fine a) i is = ap (unless_named ds p) is.1
+named cut ds p (Noted n a) i is = ap (unless_named ds p) is.1
+named cut ds p (Broken from rule) i is = absurd is
 
 -- where the interface of the cut was read, nothing else can be wrong than that the source is too large
-pub read : (cut : List ℕ) (ds : Decls) (p : Program) (i : Interface) → outcome ds ≡ limits.Typed p → IsInterface cut (annotations ds p) (Ok i) → fault_of cut ds ≡ too_large ds
-read cut ds p i same is = ap (fault_of_types cut ds) same ∙ named cut ds (annotations ds p) i is
+pub read : (cut : List ℕ) (ds : Decls) (p : Program) (i : Interface) → outcome ds ≡ limits.Typed p → IsInterface cut (annotations ds p) (Ok i) → fault_of cut ds ≡ too_large ds p
+read cut ds p i same is = ap (fault_of_types cut ds) same ∙ named cut ds p (annotations ds p) i is
 
 -- ---- code
 
-pub by_size : (bytes cut : List ℕ) (ds : Decls) (error : SourceError) → IsSource bytes ds → fault_of cut ds ≡ too_large ds → IsTooLarge ds error → IsSourceError bytes cut error
-by_size bytes cut ds (errors.Fault f) source same is = refused (errors.Fault f) ds source (same ∙ is)
-by_size bytes cut ds errors.NoSuchCut source same is = refused errors.NoSuchCut ds source (same ∙ is)
-by_size bytes cut ds (errors.Limit l) source same is = refused (errors.Limit l) ds source (same ∙ is)
-by_size bytes cut ds errors.Memory source same is = tt
+pub by_size : (bytes cut : List ℕ) (ds : Decls) (p : Program) (error : SourceError) → IsSource bytes ds → fault_of cut ds ≡ too_large ds p → IsTooLarge ds p error → IsSourceError bytes cut error
+by_size bytes cut ds p (errors.Fault f) source same is = refused (errors.Fault f) ds source (same ∙ is)
+by_size bytes cut ds p errors.NoSuchCut source same is = refused errors.NoSuchCut ds source (same ∙ is)
+by_size bytes cut ds p (errors.Limit l) source same is = refused (errors.Limit l) ds source (same ∙ is)
+by_size bytes cut ds p errors.Memory source same is = tt

@@ -63,10 +63,10 @@ abbrev pub IsSourceError : (bytes cut : List ℕ) → SourceError → Type 0
 IsSourceError bytes cut Memory = Unit {0}
 IsSourceError bytes cut error = IsWrong bytes cut error
 
--- this is too much of a source; of memory nothing is said
-abbrev pub IsTooLarge : Decls → SourceError → Type 0
-IsTooLarge ds Memory = Unit {0}
-IsTooLarge ds error = too_large ds ≡ Some error
+-- this is too much of a source that is typed as this program; of memory nothing is said
+abbrev pub IsTooLarge : Decls → Program → SourceError → Type 0
+IsTooLarge ds p Memory = Unit {0}
+IsTooLarge ds p error = too_large ds p ≡ Some error
 
 -- the program with these strings, and the interface of the cut, are what the source says, or its
 -- annotations are wrong in this way

@@ -1,19 +1,19 @@
 -- What the bytes of a source and the name of a cut say: that the source is accepted, or what is wrong with
 -- it.
-use Rattle.std.specs.Prelude.{◌≡◌, ℕ, Bool, true, false, ◌||◌, nat_lt, if◌then◌else◌, List, [], ◌∷◌, Option, Some, None}
+use Rattle.std.specs.Prelude.{◌≡◌, ℕ, Bool, true, false, nat_lt, if◌then◌else◌, List, Option, Some, None}
+use Rattle.std.specs.Option.{option_map}
 use Rattle.c_lexer.specs.declared.token.Token.{Token}
 use Rattle.c_lexer.specs.declared.error.LexError.{LexError}
 use Rattle.c_lexer.specs.Lexing as lexing
 use Rattle.c_syntax.specs.Sources.{Spells}
 use Rattle.c_syntax.specs.Syntax.{Decls}
 use Rattle.c_parser_depth.specs.Deep.{IsDeepAt, IsShallow}
-use Rattle.c_code.specs.Valid.{most_values}
 use Rattle.c_parser_nodes.specs.Counts.{source_nodes}
-use Rattle.c_lower_stack.specs.Functions.{function_depth}
-use Rattle.c_lower.specs.Depths.{most_nodes}
+use Rattle.c_lower.specs.Depths.{first_wide, most_nodes}
 use Rattle.c_types_rules.specs.Checked.{Checked, Fine, Noted, Broken}
 use Rattle.c_types_rules.specs.Limits as typing
 use Rattle.c_types_rules.specs.Limits.{outcome}
+use Rattle.c_types_rules.specs.Sources.{Program}
 use Rattle.annot_reader_rules.specs.Cuts.{annotations, is_named}
 use Rattle.annot_reader_rules.specs.Notes.{Annotated}
 use Rattle.c_types.specs.declared.error.Which.{Which}
@@ -39,32 +39,30 @@ which_of typing.Object = numbers.Object
 which_of typing.Globals = numbers.Globals
 which_of typing.Frame = numbers.Frame
 
--- the evaluation stack is deeper than 64 values in one of the functions that have these numbers
-abbrev pub is_wide : List ℕ → Bool
-is_wide [] = false
-is_wide (n ∷ ns) = nat_lt most_values n || is_wide ns
+-- what there is too much of where a source has so many nodes, and the function of this number is the first
+-- in which the evaluation stack is too deep
+abbrev pub unless_large : (nodes : ℕ) → (wide : Option ℕ) → Option SourceError
+unless_large nodes wide = if nat_lt most_nodes nodes then Some (Limit Nodes)
+    else option_map (λ f. Limit Values) wide
 
-abbrev pub unless_large : (nodes : ℕ) → (depth : List ℕ) → Option SourceError
-unless_large nodes depth = if nat_lt most_nodes nodes then Some (Limit Nodes) else if is_wide depth then
-    Some (Limit Values) else None
+-- what there is too much of to make flat code of a source that is typed as this program
+abbrev pub too_large : Decls → Program → Option SourceError
+too_large ds p = unless_large (source_nodes ds) (first_wide 0 p.functions)
 
--- what there is too much of to make flat code of a source
-abbrev pub too_large : Decls → Option SourceError
-too_large ds = unless_large (source_nodes ds) (function_depth ds)
+abbrev pub unless_named : Decls → Program → Bool → Option SourceError
+unless_named ds p true = too_large ds p
+unless_named ds p false = Some NoSuchCut
 
-abbrev pub unless_named : Decls → Bool → Option SourceError
-unless_named ds true = too_large ds
-unless_named ds false = Some NoSuchCut
-
-abbrev pub fault_of_annotations : (cut : List ℕ) → Decls → Checked Annotated → Option SourceError
-fault_of_annotations cut ds (Fine a) = unless_named ds (is_named cut a)
-fault_of_annotations cut ds (Noted n a) = unless_named ds (is_named cut a)
-fault_of_annotations cut ds (Broken from rule) = Some (found (rules.Annotation rule) from)
+abbrev pub fault_of_annotations : (cut : List ℕ) → Decls → Program → Checked Annotated →
+    Option SourceError
+fault_of_annotations cut ds p (Fine a) = unless_named ds p (is_named cut a)
+fault_of_annotations cut ds p (Noted n a) = unless_named ds p (is_named cut a)
+fault_of_annotations cut ds p (Broken from rule) = Some (found (rules.Annotation rule) from)
 
 abbrev pub fault_of_types : (cut : List ℕ) → Decls → typing.Outcome → Option SourceError
 fault_of_types cut ds (typing.Rule from rule) = Some (found (rules.Type rule) from)
 fault_of_types cut ds (typing.Limit which) = Some (Limit (Types (which_of which)))
-fault_of_types cut ds (typing.Typed p) = fault_of_annotations cut ds (annotations ds p)
+fault_of_types cut ds (typing.Typed p) = fault_of_annotations cut ds p (annotations ds p)
 
 -- what is wrong with a source that has a tree: its types, their limits, its annotations, that none names
 -- the cut, or that it is too large

@@ -13,9 +13,8 @@ use crate::error::SourceError;
 use c_code::Code;
 use c_code_fused::FusedCode;
 use c_lower::lower;
-use c_lower_laws::{typed_bodies_are_no_deeper, typed_programs_fit};
+use c_lower_laws::typed_programs_fit;
 use c_lower_sizes::code_is_small;
-use c_lower_stack::function_depth;
 use c_parser::Parsed;
 use c_types_program::TypedProgram;
 use std::alloc::Global;
@@ -31,10 +30,10 @@ pub(crate) fn code_of(
         IsProgram program.now p }
     requires texts { length program.now.texts < 2 ^ 32 }
     ensures small { (ds : Decls) (p : Program) → IsCountedTree parsed.now ds → outcome ds ≡ Typed p →
-        IsProgram program.now p → OnOk result (too_large ds ≡ None) }
+        IsProgram program.now p → OnOk result (too_large ds p ≡ None) }
     ensures code { IfOk result (IsCode program.now) }
     ensures refused { (ds : Decls) (p : Program) → IsCountedTree parsed.now ds → outcome ds ≡ Typed p →
-        IsProgram program.now p → IfErr result (IsTooLarge ds) }
+        IsProgram program.now p → IfErr result (IsTooLarge ds p) }
 {
     let code = flat_code_of(alloc, parsed, program)?;
     Ok(FusedCode::new(alloc, code)?)
@@ -46,14 +45,12 @@ fn flat_code_of(alloc: Global, parsed: &Parsed, program: &TypedProgram) -> Resul
         IsProgram program.now p }
     requires texts { length program.now.texts < 2 ^ 32 }
     ensures small { (ds : Decls) (p : Program) → IsCountedTree parsed.now ds → outcome ds ≡ Typed p →
-        IsProgram program.now p → OnOk result (too_large ds ≡ None) }
+        IsProgram program.now p → OnOk result (too_large ds p ≡ None) }
     ensures code { IfOk result (IsCode program.now) }
     ensures refused { (ds : Decls) (p : Program) → IsCountedTree parsed.now ds → outcome ds ≡ Typed p →
-        IsProgram program.now p → IfErr result (IsTooLarge ds) }
+        IsProgram program.now p → IfErr result (IsTooLarge ds p) }
 {
-    let depth = function_depth(alloc, &parsed.tree)?;
     typed_programs_fit();
-    typed_bodies_are_no_deeper();
     code_is_small();
-    Ok(lower(alloc, program, parsed.nodes, &depth)?)
+    Ok(lower(alloc, program, parsed.nodes)?)
 }

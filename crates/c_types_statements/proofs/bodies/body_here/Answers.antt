@@ -45,7 +45,7 @@ returns-clause-agrees c =
     let a = c.args.env.now in
     let b = c.declare_parameters.new.env in
     let d = c.heard_block.new.env in
-    λ t ds s is h k. body_found a b d c.args.signature t ds s is (same_parameters a b ds (IsEnv b) (Ok tt) _ _ c.deref.ensures.value (c.in_ok-declare_parameters.ensures.agrees ds h)) c.in_ok-declare_parameters.ensures.kept _ refl c.heard_block.new.locals.items c.in_ok-statements.statements c.in_ok-statements.unevaluated _ (c.in_ok-statements.ensures.agrees s k) c.in_ok-statements.ensures.locals c.in_ok-statements.ensures.inside (stmt_starts c.args.tree.now c.args.id c.stmt.result.now s c.stmt.ensures.node k) c.from.ensures refl refl
+    λ t ds s is h k. body_found a b d c.args.signature t ds s is (same_parameters a b ds (IsEnv b) (Ok tt) _ _ c.deref.ensures.value (c.in_ok-declare_parameters.ensures.agrees ds h)) c.in_ok-declare_parameters.ensures.kept _ refl c.heard_block.new.locals.items c.in_ok-statements.statements c.in_ok-statements.unevaluated _ (c.in_ok-statements.ensures.agrees s k) c.in_ok-statements.ensures.locals c.in_ok-statements.ensures.inside (stmt_starts c.args.tree.now c.args.id c.stmt.result.now s c.stmt.ensures.node k) c.from.ensures refl (c.from-2.ensures ∙ c.new.ensures.items) refl
 
 pub returns-clause-kept : goal.returns-clause-kept
 returns-clause-kept c = then_stay_around _ _ _ c.in_ok-declare_parameters.ensures.kept c.in_ok-statements.ensures.kept

@@ -1,11 +1,11 @@
-use Rattle.std.proofs.Common.{◌≡◌, Result, Err, IfErr, map, ap, sym, subst, ◌∙◌}
+use Rattle.std.proofs.Common.{Result, Err, IfErr, ap, sym, subst, ◌∙◌}
 use Rattle.std.proofs.lemmas.Result.{err_from_is_err_and}
 use Rattle.c_code.specs.Machine.{Flat}
-use Rattle.c_lower_stack.specs.Functions.{function_depth}
-use Rattle.c_lower_stack.specs.Depths.{capped}
+use Rattle.c_types_rules.specs.Sources.{Program}
+use Rattle.c_lower.specs.Depths.{functions_in}
 use Rattle.front_end.specs.declared.error.SourceError.{SourceError}
 use Rattle.front_end.specs.Answers.{IsTooLarge}
-use Rattle.front_end.proofs.Lowering.{code_small, counted, large, small}
+use Rattle.front_end.proofs.Lowering.{code_small, large, small}
 use Rattle.front_end.proofs.code.flat_code_of.Goals as goal
 
 pub lower-requires : goal.lower-requires
@@ -20,16 +20,10 @@ lower-requires c =
 
 pub returns-in_err-lower-clause-refused : goal.returns-in_err-lower-clause-refused
 returns-in_err-lower-clause-refused c = λ ds p tree typed is.
-    let d = c.args.program.now in
-    let q = err_from_is_err_and c.from_residual-in_err-lower.result c.from_residual-in_err-lower.ensures.1 in
-    let us : c.deref.result.now ≡ map capped (function_depth ds) = c.deref.ensures.value ∙ c.in_ok-depth.ensures ds tree.0 in
-    let all = counted ds p d c.args.parsed.now.nodes c.deref.result.now tree.1 us (c.typed_bodies_are_no_deeper.ensures ds p typed) is in
-    subst (λ (r : Result Flat SourceError). IfErr r (IsTooLarge ds)) (sym (q.1 ∙ ap Err q.2))
-    (large ds d.table d.functions c.args.parsed.now.nodes c.deref.result.now all c.in_err-lower.field-0.0 c.in_err-lower.ensures.long c.in_err-lower.ensures.wide)
+    let q = err_from_is_err_and c.from_residual.result c.from_residual.ensures.1 in
+    subst (λ (r : Result Flat SourceError). IfErr r (IsTooLarge ds p)) (sym (q.1 ∙ ap Err q.2))
+    (large ds p (functions_in c.args.program.now) c.args.parsed.now.nodes tree.1 (ap (λ (q : Program). q.functions) is) c.in_err-lower.field-0.0 c.in_err-lower.ensures.long c.in_err-lower.ensures.wide)
 
 pub returns-clause-small : goal.returns-clause-small
 returns-clause-small c = λ ds p tree typed is.
-    let d = c.args.program.now in
-    let us : c.deref.result.now ≡ map capped (function_depth ds) = c.deref.ensures.value ∙ c.in_ok-depth.ensures ds tree.0 in
-    let all = counted ds p d c.args.parsed.now.nodes c.deref.result.now tree.1 us (c.typed_bodies_are_no_deeper.ensures ds p typed) is in
-    small ds d.table d.functions c.args.parsed.now.nodes c.deref.result.now all c.in_ok-lower.ensures.few
+    small ds p (functions_in c.args.program.now) c.args.parsed.now.nodes tree.1 (ap (λ (q : Program). q.functions) is) c.in_ok-lower.ensures.few

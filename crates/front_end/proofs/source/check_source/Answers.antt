@@ -78,7 +78,7 @@ returns-in_err-code c =
     let e = err_from_is_err_and c.from_residual-in_err-code.result c.from_residual-in_err-code.ensures.1 in
     let cut = c.args.cut.now in
     subst (IsChecked bytes cut) (sym (e.1 ∙ ap Err e.2))
-    (by_size bytes cut p.0 c.in_err-code.field-0.0 source (read cut p.0 t.program c.in_ok-program.interface t.typed reads.2) (c.in_err-code.ensures.refused p.0 t.program p.3 t.typed reads.0))
+    (by_size bytes cut p.0 t.program c.in_err-code.field-0.0 source (read cut p.0 t.program c.in_ok-program.interface t.typed reads.2) (c.in_err-code.ensures.refused p.0 t.program p.3 t.typed reads.0))
 
 pub returns : goal.returns
 returns c =
