@@ -1,0 +1,4 @@
+pub mod Given
+pub mod Found
+pub mod Named
+pub mod Sorted

@@ -1,0 +1,12 @@
+//! Which function is the first to mention a global or a function.
+#![tactic(auto)]
+
+mod kind;
+mod laws;
+mod row;
+mod sides;
+
+pub use kind::Kind;
+pub use laws::first_functions_are_found;
+pub use row::{Entry, empty, first, note, number};
+pub use sides::{Counts, Sides};
