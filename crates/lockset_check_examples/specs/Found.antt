@@ -1,35 +1,17 @@
 -- What is found in small sources, each once and in order.
-use Rattle.std.specs.Prelude.{ℕ, ℤ, pos, ◌-◌, Bool, true, nat_lt, if◌then◌else◌, List, [], ◌∷◌, map, Option, Some, None, slice_get}
+use Rattle.std.specs.Prelude.{ℕ, Bool, true, if◌then◌else◌, List, [], ◌∷◌, Option, Some, None}
 use Rattle.c_syntax.specs.Syntax.{Decl, Decls}
 use Rattle.c_types_rules.specs.Checked.{Checked, Fine, Noted, Broken}
 use Rattle.c_types_rules.specs.Sources.{Program}
 use Rattle.c_types_rules.specs.Limits.{Outcome, outcome}
 use Rattle.c_types_rules.specs.Limits as limits
-use Rattle.annot_reader_rules.specs.Notes.{Annotated, Notes}
+use Rattle.annot_reader_rules.specs.Notes.{Annotated}
 use Rattle.annot_reader_rules.specs.Cuts.{annotations}
 use Rattle.lockset_check_examples.specs.Pieces.{source}
 use Rattle.lockset_check_rules.specs.declared.finding.LockFinding.{LockFinding}
-use Rattle.lockset_check_rules.specs.Guards.{Guarded}
+use Rattle.lockset_check_rules.specs.Annotations.{guarded}
 use Rattle.lockset_check_rules.specs.Sources.{source_found}
 use Rattle.lockset_check_rules.specs.Order.{comes_before}
-
-abbrev as_int : Option (Option ℕ) → Option ℤ
-as_int (Some (Some k)) = Some (pos k)
-as_int (Some None) = None
-as_int None = None
-
-abbrev held_by : Option Notes → List ℤ
-held_by (Some n) = map (λ k. pos k) n.holds
-held_by None = []
-
--- the mutexes of a source by its annotations
-abbrev guarded : Program → Annotated → Guarded
-guarded p a = record {
-  functions = p.functions;
-  globals = p.globals;
-  guard = λ place. as_int (slice_get a.guards place);
-  holds = λ number. if nat_lt number 16 then [] else held_by (slice_get a.functions (number - 16));
-}
 
 -- a finding at its place among others, where it isn't there
 abbrev placed : LockFinding → List LockFinding → List LockFinding

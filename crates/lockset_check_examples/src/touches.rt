@@ -3,6 +3,7 @@
 ghost use Rattle.std.specs.Prelude.{◌≡◌, codes, [], ◌∷◌, Some};
 ghost use Rattle.lockset_check_rules.specs.declared.finding.LockFinding.TheVariants.{Address, NotConstant, Unheld};
 ghost use Rattle.lockset_check_examples.specs.Found.{found};
+ghost use Rattle.lockset_check_examples.specs.Further.{named_mutex, part_is_address, pointed_is_address};
 ghost use Rattle.lockset_check_examples.specs.Programs.{address_taken, array_is_address, changed_unheld, chosen_mutex, converted_mutex, divided_mutex, loaded_unheld, named_unheld, other_address, row_is_no_address, sequence_mutex, size_is_not_looked_at, stored_unheld, struct_not_loaded, touched_held, turned_unheld};
 
 /// A guarded global is held where it is named, and where it is loaded or stored to.
@@ -23,6 +24,8 @@ pub fn addresses_are_found()
         Some (Address 53 (codes "n") ∷ Unheld 53 (codes "n") ∷ []) }
     ensures other { found other_address ≡ Some [] }
     ensures row { found row_is_no_address ≡ Some [] }
+    ensures part { found part_is_address ≡ Some (Address 57 (codes "n") ∷ []) }
+    ensures pointed { found pointed_is_address ≡ Some (Address 53 (codes "n") ∷ []) }
     ensures array { found array_is_address ≡ Some (Address 56 (codes "n") ∷ []) }
 {}
 
@@ -31,5 +34,6 @@ pub fn constants_name_mutexes()
     ensures converted { found converted_mutex ≡ Some [] }
     ensures chosen { found chosen_mutex ≡ Some [] }
     ensures divided { found divided_mutex ≡ Some (NotConstant 40 ∷ []) }
+    ensures named { found named_mutex ≡ Some (NotConstant 40 ∷ []) }
     ensures sequence { found sequence_mutex ≡ Some (NotConstant 40 ∷ []) }
 {}

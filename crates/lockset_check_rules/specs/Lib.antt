@@ -6,3 +6,6 @@ pub mod Values
 pub mod Statements
 pub mod Sources
 pub mod Order
+pub mod Comparison
+pub mod Lines
+pub mod Annotations

@@ -1,0 +1,4 @@
+pub mod Lists
+pub mod Passing
+pub mod Sources
+pub mod Weights
