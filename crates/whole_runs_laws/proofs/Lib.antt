@@ -10,3 +10,6 @@ pub mod EventSteps
 pub mod OneStep
 pub mod OneFault
 pub mod Runs
+pub mod Existing
+pub mod FaultsBelow
+pub mod FaultsAbove

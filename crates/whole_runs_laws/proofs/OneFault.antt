@@ -26,7 +26,7 @@ use Rattle.whole_runs_laws.proofs.Lasts.{answers_to, fault_breach}
 use Rattle.whole_runs_laws.proofs.PlainSteps.{is_plain, side_is}
 use Rattle.whole_runs_laws.proofs.OneStep.{same_side_true, mark_path, plain_side}
 
-no_event : (a : Act) (kind : FaultKind) → act_fault a None ≡ Some kind → is_event a ≡ false
+pub no_event : (a : Act) (kind : FaultKind) → act_fault a None ≡ Some kind → is_event a ≡ false
 no_event (Made e) kind h = cc
 no_event (Fault k c ins outs at) kind h = refl
 no_event Turn kind h = refl

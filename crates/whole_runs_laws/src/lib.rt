@@ -3,4 +3,7 @@
 
 mod laws;
 
-pub use laws::{faults_are_determined, one_run, steps_are_determined, tests_decide};
+pub use laws::{
+    faults_are_determined, faults_below_can_be_met, faults_can_be_met, one_run,
+    steps_are_determined, steps_make_a_run, tests_decide,
+};

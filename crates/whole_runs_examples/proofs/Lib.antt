@@ -1,0 +1,9 @@
+pub mod Tried
+pub mod Allowing
+pub mod Running
+pub mod Ending
+pub mod Refusing
+pub mod SumScenes
+pub mod LockScenes
+pub mod RegionScenes
+pub mod CrossingScenes
