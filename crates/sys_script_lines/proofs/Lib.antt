@@ -1,4 +1,5 @@
 pub mod Cuts
+pub mod FarEnds
 pub mod Joined
 pub mod Hex
 pub mod Digits

@@ -1,7 +1,10 @@
 //! Texts with bytes that part them.
 
 ghost use Rattle.std.specs.Prelude.{◌≡◌, ◌∷◌, ◌+◌, ◌<◌, [], length, IfSome, IfNone};
+ghost use Rattle.memchr.specs.Find.{IsFirstByte, is_byte};
 ghost use Rattle.sys_script_lines.specs.Parts.{cut_at, pair_of, parts};
+
+use memchr::memchr;
 
 /// What stands before the first `end`, and what after it; `None` where there is none.
 pub(crate) fn cut(text: &[u8], end: u8) -> Option<(&[u8], &[u8])>
@@ -16,4 +19,29 @@ pub(crate) fn cut(text: &[u8], end: u8) -> Option<(&[u8], &[u8])>
         }
     }
     None
+}
+
+/// Where the first `end` is. What may be far is searched many bytes at a time, but not where it comes first.
+#[inline]
+#[tactic(auto, using(crate::proofs::FarEnds::far_here))]
+fn far_end(text: &[u8], end: u8) -> Option<usize>
+    ensures { IsFirstByte (is_byte end) text.now result }
+{
+    match text {
+        [first, ..] if *first == end => Some(0),
+        _ => memchr(end, text),
+    }
+}
+
+/// The same as `cut`, where the first `end` may be far.
+pub(crate) fn cut_far(text: &[u8], end: u8) -> Option<(&[u8], &[u8])>
+    ensures cut { pair_of (λ x. x.now) result ≡ cut_at end text.now }
+    ensures parts { IfSome result (λ x. parts end text.now ≡ x.0.now ∷ parts end x.1.now) }
+    ensures last { IfNone result (parts end text.now ≡ text.now ∷ []) }
+    ensures shorter { IfSome result (λ x. length x.1.now < length text.now) }
+{
+    match far_end(text, end) {
+        Some(at) => Some((&text[..at], &text[at + 1..])),
+        None => None,
+    }
 }

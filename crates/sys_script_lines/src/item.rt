@@ -1,6 +1,6 @@
 //! What one line says.
 
-ghost use Rattle.std.specs.Prelude.{◌≡◌};
+ghost use Rattle.std.specs.Prelude.{◌≡◌, ◌++◌, IfSome, codes};
 ghost use Rattle.sys_script_lines.specs.Externals.{named_in};
 ghost use Rattle.sys_script_lines.specs.Lines.{budget_line, chunk_line, said_by, says};
 ghost use Rattle.sys_script_lines.specs.Says.{Says, same};
@@ -69,10 +69,23 @@ fn said_by(alloc: Global, externals: &Externals, word: &[u8], rest: &[u8]) -> Re
     }
 }
 
+/// The words after `answer `, with which most lines begin.
+fn answer_words(line: &[u8]) -> Option<&[u8]>
+    ensures { IfSome result (λ words. line.now ≡ codes "answer " ++ words.now) }
+{
+    match line {
+        [b'a', b'n', b's', b'w', b'e', b'r', b' ', words @ ..] => Some(words),
+        _ => None,
+    }
+}
+
 /// What a line says, without the byte that ends it.
 pub(crate) fn item_of(alloc: Global, externals: &Externals, line: &[u8]) -> Result<Item, Wrong>
     ensures { Says same result (says (named_in externals.now) line.now) }
 {
+    if let Some(words) = answer_words(line) {
+        return Ok(Item::Answer(answer(alloc, externals, words)?));
+    }
     match line {
         [] | [b'#', ..] => Ok(Item::Nothing),
         _ => match cut(line, b' ') {

@@ -6,7 +6,7 @@ ghost use Rattle.sys_script_lines.specs.Pieces.{hex_byte, hex_bytes, hex_digit, 
 ghost use Rattle.sys_script_lines.specs.Says.{Says};
 ghost use Rattle.sys_script_lines.specs.Parts.{parts};
 
-use crate::cut::cut;
+use crate::cut::cut_far;
 use crate::error::Wrong;
 use run_events::Bytes;
 use std::alloc::Global;
@@ -68,7 +68,7 @@ pub(crate) fn pieces(alloc: Global, expected: usize, words: &[u8]) -> Result<Vec
 {
     let mut pieces = Vec::with_capacity(alloc, expected.min(words.len()))?;
     let mut rest = words;
-    while let Some((word, after)) = cut(rest, b' ') {
+    while let Some((word, after)) = cut_far(rest, b' ') {
         let bytes = piece(alloc, word)?;
         pieces.push(Bytes::from(bytes))?;
         rest = after;

@@ -5,7 +5,7 @@ ghost use Rattle.sys_script_lines.specs.Externals.{named_in};
 ghost use Rattle.sys_script_lines.specs.Says.{Says};
 ghost use Rattle.sys_script_lines.specs.Scripts.{IsRead, after_line, script_of};
 
-use crate::cut::cut;
+use crate::cut::cut_far;
 use crate::error::{ScriptError, Wrong};
 use crate::externals::Externals;
 use crate::item::item_of;
@@ -41,7 +41,7 @@ pub fn read_lines(
     let mut said = Said::new(alloc);
     let mut rest = bytes;
     let mut number = 1;
-    while let Some((line, after)) = cut(rest, b'\n') {
+    while let Some((line, after)) = cut_far(rest, b'\n') {
         match take_line(&mut said, alloc, externals, line) {
             Ok(()) => {
                 rest = after;
