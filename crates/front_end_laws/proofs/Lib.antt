@@ -1,6 +1,6 @@
-mod Found
+pub mod Found
 mod Rules
 mod Declared
 mod Followed
 mod Listed
-mod Whole
+pub mod Whole

@@ -88,6 +88,10 @@ follow ds p e = all_follow (at_file (tags_of ds) p) p (tags_of ds) ds nothing no
     nowhere : (k : ℕ) (n : Notes) → slice_get nothing_read.functions k ≡ Some n → ⊥
     nowhere k n h = cc
 
+-- something is said of each function
+pub all_said : (ds : Decls) (p : Program) (a : Annotated) → outcome ds ≡ Typed p → value (annotations ds p) ≡ Some a → length a.functions ≡ length p.functions
+all_said ds p a e here = let follows : Follows p p a = holds_at (Follows p p) (annotations ds p) a (follow ds p e) here in follows.count
+
 read : (cut : List ℕ) (c : Checked Annotated) (i : Interface) → IsInterface cut c (Ok i) → (a : Annotated) × (value c ≡ Some a) × IsRead cut a i
 read cut (Fine a) i h = (a, refl, h.0)
 read cut (Noted n a) i h = (a, refl, h.0)

@@ -1,6 +1,7 @@
 -- Each outcome has a status with a cause.
 use Rattle.std.proofs.Common.{◌≡◌, ◌≤◌, ◌<◌, ◌∷◌, [], ◌⊎◌, inl, inr, ℕ, List, Bool, true, false, Option, Some, None, length, codes, sym, ◌∙◌, ap, refl, subst}
-use Rattle.front_end.specs.Sources.{IsRight, IsWrong}
+use Rattle.cut_check.specs.Lines.{LinesOf}
+use Rattle.front_end.specs.Sources.{IsWrong}
 use Rattle.front_end.specs.declared.error.SourceError.{SourceError}
 use Rattle.front_end.specs.declared.error.SourceError.TheVariants as errors
 use Rattle.log_closure.specs.Events.{Part, In}
@@ -22,9 +23,10 @@ use Rattle.r2_cli_outcome.proofs.Consequences.{leaves_cause}
 use Rattle.r2_cli.specs.declared.help.TheConstants.{HELP, VERSION}
 use Rattle.r2_cli.specs.Source as source_stage
 use Rattle.r2_cli.specs.Source.{SourceOf, refused_for, source}
-use Rattle.r2_cli.specs.Words.{Form, help, version, order, check, gen, IsForm, IsUsage, source_of, log_of, inputs_of}
-use Rattle.r2_cli.specs.Commands.{command, generated, order_outcome, IsOutcome, OutcomeOf, no_form, formed}
+use Rattle.r2_cli.specs.Words.{Form, help, version, order, check, stubs, gen, IsForm, IsUsage, source_of, log_of, inputs_of}
+use Rattle.r2_cli.specs.Commands.{command, generated, order_outcome, IsOutcome, OutcomeOf, StubsOf, no_form, formed}
 use Rattle.r2_cli.specs.Causes as cause
+use Rattle.r2_cli.proofs.CommandLemmas.{stubs_end}
 use Rattle.r2_cli.specs.Causes.{Cause, IsCaused, IsComplete, IsTooLong, ReadsLog, ReadsSource, long_log, long_source}
 
 -- the outcome's status has a cause
@@ -57,6 +59,8 @@ ends_source words held a b form src cut is of reads o (stop (input.missing h)) =
 ends_source words held a b form src cut is of reads o (stop (input.too_long h m)) = cause.too_long is (long_source of (sym h) m)
 ends_source words held a b form src cut is of reads o (on {a = bytes} (input.read h short) (source_stage.wrong {error = error} bad)) =
     ends_wrong words held a b form bytes cut error is (record { name = src; is_source = of; there = sym h; short = short }) bad
+ends_source words held a b form src cut is of reads o (on {a = bytes} (input.read h short) (source_stage.found are some)) =
+    cause.found is (record { name = src; is_source = of; there = sym h; short = short }) are some
 
 -- ---- commands
 
@@ -67,8 +71,11 @@ ends_command words held a b (order name) is =
     ends_then (Caused words held a b) (log (Of held) name) (λ part. Only (passed (order_outcome part.whole part.events))) (ends_log words held a b (order name) name is refl (inl refl))
     (λ part. ends_only (Caused words held a b) (order_outcome part.whole part.events))
 ends_command words held a b (check src cut) is =
-    ends_then (Caused words held a b) (source (Of held) src cut) (λ accepted. Only (passed (printed Done (codes "typed\n") []))) (ends_source words held a b (check src cut) src cut is refl (inl refl))
-    (λ accepted. ends_only (Caused words held a b) (printed Done (codes "typed\n") []))
+    ends_then (Caused words held a b) (source (Of held) src cut) (λ accepted. Only (passed (printed Done (codes "accepted\n") []))) (ends_source words held a b (check src cut) src cut is refl (inl refl))
+    (λ accepted. ends_only (Caused words held a b) (printed Done (codes "accepted\n") []))
+ends_command words held a b (stubs src cut) is =
+    ends_then (Caused words held a b) (source (Of held) src cut) (λ bytes. Then (StubsOf cut bytes) (λ text. Only (passed (printed Done text [])))) (ends_source words held a b (stubs src cut) src cut is refl (inl refl))
+    (λ bytes. stubs_end (Caused words held a b) cut bytes)
 ends_command words held a b (gen rounds src sys) is = ends_only (Caused words held a b) (generated rounds src sys)
 
 of_same : (words : List (List ℕ)) (held : Contents) (a b : World) (o p : Outcome) → Only (passed p) (passed o) → Caused words held a b p → Caused words held a b o
@@ -81,16 +88,19 @@ ordered_cause words held a b name part true is e (bytes, there, short, of) =
 ordered_cause words held a b name part false is e (bytes, there, short, of) =
     cause.short {form = order name} is (record { name = name; is_log = refl; there = sym there; short = short }) of e
 
-checked_cause : (words : List (List ℕ)) (held : Contents) (a b : World) (src cut : List ℕ) (accepted : Unit {0}) → IsForm words (check src cut) → source (Of held) src cut (passed accepted) → Cause words held a b Done
-checked_cause words held a b src cut accepted is (on {a = bytes} (input.read there short) (source_stage.right right)) =
-    cause.done (check src cut) is (bytes, record { name = src; is_source = refl; there = sym there; short = short }, right)
+-- a source whose cut is accepted, of a command that reads it
+accepted_there : (held : Contents) (form : Form) (src cut accepted : List ℕ) → source_of form ≡ Some (src, cut) → source (Of held) src cut (passed accepted) → (bytes : List ℕ) × ReadsSource held form bytes cut × LinesOf bytes cut []
+accepted_there held form src cut accepted of (on {a = bytes} (input.read there short) (source_stage.accepted none)) =
+    (bytes, record { name = src; is_source = of; there = sym there; short = short }, none)
 
 done_command : (words : List (List ℕ)) (held : Contents) (a b : World) (form : Form) (o : Outcome) → IsForm words form → command (Of held) form (passed o) → Caused words held a b o
 done_command words held a b help o is h = of_same words held a b o (printed Done HELP.now []) h (cause.done help is tt)
 done_command words held a b version o is h = of_same words held a b o (printed Done VERSION.now []) h (cause.done version is tt)
 done_command words held a b (order name) o is (on {a = part} h k) =
     of_same words held a b o (order_outcome part.whole part.events) k (ordered_cause words held a b name part part.whole is refl (part_there held name part h))
-done_command words held a b (check src cut) o is (on {a = accepted} h k) = of_same words held a b o (printed Done (codes "typed\n") []) k (checked_cause words held a b src cut accepted is h)
+done_command words held a b (check src cut) o is (on {a = accepted} h k) = of_same words held a b o (printed Done (codes "accepted\n") []) k (cause.done (check src cut) is (accepted_there held (check src cut) src cut accepted refl h))
+done_command words held a b (stubs src cut) o is (on {a = accepted} h (on {a = text} i k)) =
+    of_same words held a b o (printed Done text []) k (cause.done (stubs src cut) is (accepted_there held (stubs src cut) src cut accepted refl h))
 done_command words held a b (gen rounds src sys) o is h = of_same words held a b o (generated rounds src sys) h (cause.done (gen rounds src sys) is tt)
 
 comes_cause : (words : List (List ℕ)) (held : Contents) (a b : World) (form : Form) (o : Outcome) → IsForm words form → Comes (command (Of held) form) o → Caused words held a b o

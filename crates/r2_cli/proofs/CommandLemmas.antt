@@ -22,11 +22,19 @@ use Rattle.generated_files.specs.declared.texts.TheConstants.{SYSTEM}
 use Rattle.r2_cli.specs.declared.help.TheConstants.{HELP, VERSION}
 use Rattle.r2_cli.specs.Source as source_stage
 use Rattle.r2_cli.specs.Source.{SourceOf, refused_for, source}
-use Rattle.r2_cli.specs.Words.{Form, help, version, order, check, gen, IsForm, IsUsage, inputs_of, outputs_of}
+use Rattle.r2_cli.specs.Words.{Form, help, version, order, check, stubs, gen, IsForm, IsUsage, inputs_of, outputs_of}
 use Rattle.r2_cli.specs.Commands as outcomes
-use Rattle.r2_cli.specs.Commands.{command, generated, order_outcome, IsOutcome, OutcomeOf, SameOutcome, no_form, formed}
+use Rattle.r2_cli.specs.Commands.{command, generated, order_outcome, IsOutcome, OutcomeOf, SameOutcome, StubsOf, no_form, formed}
 use Rattle.r2_cli.proofs.FormLemmas.{one_form, in_has, has_in}
-use Rattle.r2_cli.proofs.SourceLemmas.{self, one_source}
+use Rattle.r2_cli.proofs.SourceLemmas.{self, one_source, one_stubs_of}
+
+-- what follows an accepted source
+
+abbrev stubs_printed : (cut bytes : List ℕ) → Answer Outcome → Type 0
+stubs_printed cut bytes = Then (StubsOf cut bytes) (λ text. Only (passed (printed Done text [])))
+
+pub stubs_end : (P : Outcome → Type 0) (cut bytes : List ℕ) → EndsIn P (stubs_printed cut bytes)
+stubs_end P cut bytes = ends_then P (StubsOf cut bytes) (λ text. Only (passed (printed Done text []))) (λ o h. elim h [ ]) (λ text. ends_only P (printed Done text []))
 
 -- ---- one outcome
 
@@ -36,7 +44,10 @@ one_command held version = one_only SameOutcome (printed Done VERSION.now [])
 one_command held (order name) =
     one_then SameOutcome (log (Of held) name) (λ part. Only (passed (order_outcome part.whole part.events))) (one_log SameOutcome self held name) (λ part. one_only SameOutcome (order_outcome part.whole part.events))
 one_command held (check src cut) =
-    one_then SameOutcome (source (Of held) src cut) (λ accepted. Only (passed (printed Done (codes "typed\n") []))) (one_source held src cut) (λ accepted. one_only SameOutcome (printed Done (codes "typed\n") []))
+    one_then SameOutcome (source (Of held) src cut) (λ accepted. Only (passed (printed Done (codes "accepted\n") []))) (one_source held src cut) (λ accepted. one_only SameOutcome (printed Done (codes "accepted\n") []))
+one_command held (stubs src cut) =
+    one_then SameOutcome (source (Of held) src cut) (stubs_printed cut) (one_source held src cut)
+    (λ bytes. one_then SameOutcome (StubsOf cut bytes) (λ text. Only (passed (printed Done text []))) (one_stubs_of cut bytes) (λ text. one_only SameOutcome (printed Done text [])))
 one_command held (gen rounds src sys) = one_only SameOutcome (generated rounds src sys)
 
 pub one_outcome : (words : List (List ℕ)) (held : Contents) (o p : Outcome) → IsOutcome (Of held) words o → IsOutcome (Of held) words p → SameOutcome o p
@@ -60,7 +71,9 @@ reads_command version = λ s t f ans h. h
 reads_command (order name) =
     reads_both (name ∷ []) (λ reading. log reading name) (λ reading part. Only (passed (order_outcome part.whole part.events))) (reads_log (name ∷ []) name (has_first name [])) (λ part s t f ans h. h)
 reads_command (check src cut) =
-    reads_both (src ∷ []) (λ reading. source reading src cut) (λ reading accepted. Only (passed (printed Done (codes "typed\n") []))) (reads_source (src ∷ []) src cut (has_first src [])) (λ accepted s t f ans h. h)
+    reads_both (src ∷ []) (λ reading. source reading src cut) (λ reading accepted. Only (passed (printed Done (codes "accepted\n") []))) (reads_source (src ∷ []) src cut (has_first src [])) (λ accepted s t f ans h. h)
+reads_command (stubs src cut) =
+    reads_both (src ∷ []) (λ reading. source reading src cut) (λ reading. stubs_printed cut) (reads_source (src ∷ []) src cut (has_first src [])) (λ bytes s t f ans h. h)
 reads_command (gen rounds src sys) = λ s t f ans h. h
 
 comes_by : (form : Form) (s t : Reading) → ((n : List ℕ) (x : Option (List ℕ)) → has (inputs_of form) n ≡ true → s n x → t n x) → (o : Outcome) → Comes (command s form) o → Comes (command t form) o
@@ -78,7 +91,7 @@ inputs_decide words held other o same (formed form is h) =
 named_log : (files : Store) (name : List ℕ) (ans : Answer Part) → log (Sees files) name ans → IsNamed (name ∷ []) files (λ held. log (Of held) name ans)
 named_log files name ans h = named_last (name ∷ []) files (λ reading. Input reading name (codes "log") 67108864) LogOf ans (named_input files name (codes "log") 67108864) h
 
-named_source : (files : Store) (src cut : List ℕ) (ans : Answer (Unit {0})) → source (Sees files) src cut ans → IsNamed (src ∷ []) files (λ held. source (Of held) src cut ans)
+named_source : (files : Store) (src cut : List ℕ) (ans : Answer (List ℕ)) → source (Sees files) src cut ans → IsNamed (src ∷ []) files (λ held. source (Of held) src cut ans)
 named_source files src cut ans h = named_last (src ∷ []) files (λ reading. Input reading src (codes "source") 1048576) (SourceOf cut) ans (named_input files src (codes "source") 1048576) h
 
 named_command : (files : Store) (form : Form) (ans : Answer Outcome) → command (Sees files) form ans → IsNamed (inputs_of form) files (λ held. command (Of held) form ans)
@@ -87,7 +100,8 @@ named_command files version ans h = named_none files (λ held. command (Of held)
 named_command files (order name) ans h =
     named_last (name ∷ []) files (λ reading. log reading name) (λ part. Only (passed (order_outcome part.whole part.events))) ans (named_log files name) h
 named_command files (check src cut) ans h =
-    named_last (src ∷ []) files (λ reading. source reading src cut) (λ accepted. Only (passed (printed Done (codes "typed\n") []))) ans (named_source files src cut) h
+    named_last (src ∷ []) files (λ reading. source reading src cut) (λ accepted. Only (passed (printed Done (codes "accepted\n") []))) ans (named_source files src cut) h
+named_command files (stubs src cut) ans h = named_last (src ∷ []) files (λ reading. source reading src cut) (stubs_printed cut) ans (named_source files src cut) h
 named_command files (gen rounds src sys) ans h = named_none files (λ held. command (Of held) (gen rounds src sys) ans) (λ held. h)
 
 pub of_contents : (files : Store) (words : List (List ℕ)) (o : Outcome) → IsOutcome (Sees files) words o → OutcomeOf files words o
@@ -114,7 +128,8 @@ done_avoids : (n : List ℕ) (reading : Reading) (form : Form) (o : Outcome) →
 done_avoids n reading help o f h = print_avoids n o (printed Done HELP.now []) h (λ (e : out ≡ file n). cc, tt)
 done_avoids n reading version o f h = print_avoids n o (printed Done VERSION.now []) h (λ (e : out ≡ file n). cc, tt)
 done_avoids n reading (order name) o f (on {a = part} h k) = print_avoids n o (order_outcome part.whole part.events) k (order_avoids n part.whole part)
-done_avoids n reading (check src cut) o f (on {a = accepted} h k) = print_avoids n o (printed Done (codes "typed\n") []) k (λ (e : out ≡ file n). cc, tt)
+done_avoids n reading (check src cut) o f (on {a = accepted} h k) = print_avoids n o (printed Done (codes "accepted\n") []) k (λ (e : out ≡ file n). cc, tt)
+done_avoids n reading (stubs src cut) o f (on {a = bytes} h (on {a = text} i k)) = print_avoids n o (printed Done text []) k (λ (e : out ≡ file n). cc, tt)
 done_avoids n reading (gen rounds src sys) o f h = print_avoids n o (generated rounds src sys) h (two_avoid n (source_text rounds) SYSTEM.now src sys f)
 
 input_avoids : (n : List ℕ) (reading : Reading) (name word : List ℕ) (most : ℕ) → EndsIn (λ o. Avoids n o.writes) (Input reading name word most)
@@ -140,6 +155,7 @@ source_avoids n reading src cut =
   where
     of_bytes : (bytes : List ℕ) → EndsIn (λ o. Avoids n o.writes) (SourceOf cut bytes)
     of_bytes bytes o (source_stage.wrong {error = error} is) = refused_avoids n cut error
+    of_bytes bytes o (source_stage.found are some) = (λ (e : out ≡ file n). cc, tt)
 
 ended_avoids : (n : List ℕ) (reading : Reading) (form : Form) → EndsIn (λ o. Avoids n o.writes) (command reading form)
 ended_avoids n reading help = ends_only (λ o. Avoids n o.writes) (printed Done HELP.now [])
@@ -148,8 +164,10 @@ ended_avoids n reading (order name) =
     ends_then (λ o. Avoids n o.writes) (log reading name) (λ part. Only (passed (order_outcome part.whole part.events))) (log_avoids n reading name)
     (λ part. ends_only (λ o. Avoids n o.writes) (order_outcome part.whole part.events))
 ended_avoids n reading (check src cut) =
-    ends_then (λ o. Avoids n o.writes) (source reading src cut) (λ accepted. Only (passed (printed Done (codes "typed\n") []))) (source_avoids n reading src cut)
-    (λ accepted. ends_only (λ o. Avoids n o.writes) (printed Done (codes "typed\n") []))
+    ends_then (λ o. Avoids n o.writes) (source reading src cut) (λ accepted. Only (passed (printed Done (codes "accepted\n") []))) (source_avoids n reading src cut)
+    (λ accepted. ends_only (λ o. Avoids n o.writes) (printed Done (codes "accepted\n") []))
+ended_avoids n reading (stubs src cut) =
+    ends_then (λ o. Avoids n o.writes) (source reading src cut) (stubs_printed cut) (source_avoids n reading src cut) (λ bytes. stubs_end (λ o. Avoids n o.writes) cut bytes)
 ended_avoids n reading (gen rounds src sys) = ends_only (λ o. Avoids n o.writes) (generated rounds src sys)
 
 comes_avoids : (n : List ℕ) (reading : Reading) (form : Form) (o : Outcome) → (In n (outputs_of form) → ⊥) → Comes (command reading form) o → Avoids n o.writes

@@ -1,6 +1,7 @@
 -- When each status comes.
-use Rattle.std.specs.Prelude.{◌≡◌, ◌≤◌, ◌<◌, ℕ, List, Bool, true, false, Option, Some, None, length}
-use Rattle.front_end.specs.Sources.{IsRight, IsWrong}
+use Rattle.std.specs.Prelude.{◌≡◌, ◌≢◌, ◌≤◌, ◌<◌, ℕ, List, [], Bool, true, false, Option, Some, None, length}
+use Rattle.cut_check.specs.Lines.{LinesOf}
+use Rattle.front_end.specs.Sources.{IsWrong}
 use Rattle.front_end.specs.declared.error.SourceError.{SourceError}
 use Rattle.front_end.specs.declared.error.SourceError.TheVariants as errors
 use Rattle.front_end.specs.declared.error.SourceFault.{SourceFault}
@@ -9,13 +10,13 @@ use Rattle.log_closure.specs.Events.{Part, In}
 use Rattle.r2_base.specs.Causes.{Rose}
 use Rattle.r2_base.specs.Seen.{Contents}
 use Rattle.r2_cli_outcome.specs.declared.status.Status.{Status}
-use Rattle.r2_cli_outcome.specs.declared.status.Status.TheVariants.{Done, Usage, Source, Short, BadLog, ReadFault, WriteFault, Limit, NoMemory}
+use Rattle.r2_cli_outcome.specs.declared.status.Status.TheVariants.{Done, Findings, Usage, Source, Short, BadLog, ReadFault, WriteFault, Limit, NoMemory}
 use Rattle.r2_cli_outcome.specs.World.{World}
 use Rattle.r2_cli_outcome.specs.Outcome.{Target}
 use Rattle.r2_cli_outcome.specs.Reading.{AreOf}
 use Rattle.r2_cli_outcome.specs.Left.{faults_at}
 use Rattle.r2_cli_outcome.specs.Log.{IsLogPart, IsBadLog}
-use Rattle.r2_cli.specs.Words.{Form, help, version, order, check, gen, IsForm, IsUsage, source_of, log_of, inputs_of}
+use Rattle.r2_cli.specs.Words.{Form, help, version, order, check, stubs, gen, IsForm, IsUsage, source_of, log_of, inputs_of}
 
 -- the command reads a log of at most 67,108,864 bytes, and this is what it holds
 pub record ReadsLog (contents : Contents) (form : Form) (bytes : List ℕ) : Type 0 where
@@ -31,14 +32,17 @@ pub record ReadsSource (contents : Contents) (form : Form) (bytes cut : List ℕ
   pub there : contents name ≡ Some bytes
   pub short : length bytes ≤ 1048576
 
--- the command's job is complete: of a log that it reads, the whole is there
+-- the command's job is complete: of a log that it reads, the whole is there; a source that it reads is
+-- right, and nothing is found in its cut
 abbrev pub IsComplete : Contents → Form → Type 0
 IsComplete contents help = Unit {0}
 IsComplete contents version = Unit {0}
 IsComplete contents (order log) = (bytes : List ℕ) × (part : Part) × ReadsLog contents (order log) bytes ×
     IsLogPart bytes part × (part.whole ≡ true)
 IsComplete contents (check src cut) = (bytes : List ℕ) × ReadsSource contents (check src cut) bytes cut ×
-    IsRight bytes cut
+    LinesOf bytes cut []
+IsComplete contents (stubs src cut) = (bytes : List ℕ) × ReadsSource contents (stubs src cut) bytes cut ×
+    LinesOf bytes cut []
 IsComplete contents (gen rounds src sys) = Unit {0}
 
 -- what an input file holds exceeds its limit
@@ -52,6 +56,9 @@ pub data IsTooLong (contents : Contents) (form : Form) : Type 0 where
 -- call
 pub data Cause (words : List (List ℕ)) (contents : Contents) (old new : World) : Status → Type 0 where
   done : (form : Form) → IsForm words form → IsComplete contents form → Cause words contents old new Done
+  found : {form : Form} {bytes cut : List ℕ} {lines : List (List ℕ)} → IsForm words form →
+      ReadsSource contents form bytes cut → LinesOf bytes cut lines → lines ≢ [] →
+      Cause words contents old new Findings
   usage : IsUsage words → Cause words contents old new Usage
   source : {form : Form} {bytes cut : List ℕ} {fault : SourceFault} → IsForm words form →
       ReadsSource contents form bytes cut → IsWrong bytes cut (errors.Fault fault) →

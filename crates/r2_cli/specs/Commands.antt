@@ -3,6 +3,7 @@
 use Rattle.std.specs.Prelude.{List, [], ◌∷◌, ℕ, codes, Bool, true, false, Option}
 use Rattle.log_closure.specs.Events.{LogEvent, Part}
 use Rattle.event_texts.specs.EventTexts.{order_text}
+use Rattle.cut_check.specs.Stubs.{StubsText}
 use Rattle.generated_files.specs.Source.{source_text}
 use Rattle.generated_files.specs.declared.texts.TheConstants.{SYSTEM}
 use Rattle.front_end.specs.declared.error.SourceRule.TheVariants.{Token, Deep}
@@ -10,11 +11,11 @@ use Rattle.r2_base.specs.Seen.{Contents, Store}
 use Rattle.r2_cli_outcome.specs.declared.status.Status.TheVariants.{Done, Usage, Source, Short}
 use Rattle.r2_cli_outcome.specs.Outcome.{Outcome, file, refusal, printed, line_of}
 use Rattle.r2_cli_outcome.specs.Reading.{Reading, Of, AreOf}
-use Rattle.r2_cli_outcome.specs.Stages.{Stage, Only, Comes, passed, ◌>>=◌}
+use Rattle.r2_cli_outcome.specs.Stages.{Answer, Stage, Only, Comes, passed, ◌>>=◌}
 use Rattle.r2_cli_outcome.specs.Log.{log}
 use Rattle.r2_cli.specs.declared.help.TheConstants.{HELP, VERSION}
 use Rattle.r2_cli.specs.Source.{source, source_words}
-use Rattle.r2_cli.specs.Words.{Form, help, version, order, check, gen, IsForm, IsUsage}
+use Rattle.r2_cli.specs.Words.{Form, help, version, order, check, stubs, gen, IsForm, IsUsage}
 
 -- the events are printed, of a whole log or of one that is cut short
 abbrev pub order_outcome : Bool → List LogEvent → Outcome
@@ -30,6 +31,10 @@ generated rounds src sys = record {
   line = [];
 }
 
+-- the text of the stubs of a source
+pub data StubsOf (cut bytes : List ℕ) : Answer (List ℕ) → Type 0 where
+  printed_as : {text : List ℕ} → StubsText bytes cut text → StubsOf cut bytes (passed text)
+
 abbrev pub command : Reading → Form → Stage Outcome
 command reading help = Only (passed (printed Done HELP.now []))
 command reading version = Only (passed (printed Done VERSION.now []))
@@ -38,7 +43,11 @@ command reading (order name) = do
   Only (passed (order_outcome part.whole part.events))
 command reading (check src cut) = do
   accepted ← source reading src cut
-  Only (passed (printed Done (codes "typed\n") []))
+  Only (passed (printed Done (codes "accepted\n") []))
+command reading (stubs src cut) = do
+  accepted ← source reading src cut
+  text ← StubsOf cut accepted
+  Only (passed (printed Done text []))
 command reading (gen rounds src sys) = Only (passed (generated rounds src sys))
 
 -- the outcome of the words: that of the command whose form they have, or else Usage

@@ -1,15 +1,16 @@
--- The stage that reads a source: it is accepted with its cut, or what is wrong with it is named.
-use Rattle.std.specs.Prelude.{ℕ, List, ◌++◌, codes, decimal}
+-- The stage that reads a source: its cut is accepted, or what is wrong with it is named.
+use Rattle.std.specs.Prelude.{◌≢◌, ℕ, List, [], ◌++◌, codes, decimal}
 use Rattle.c_types.specs.declared.error.Which.TheVariants as numbers
-use Rattle.front_end.specs.Sources.{IsRight, IsWrong}
+use Rattle.cut_check.specs.Lines.{LinesOf, text_of}
+use Rattle.front_end.specs.Sources.{IsWrong}
 use Rattle.front_end.specs.declared.error.SourceError.{SourceError}
 use Rattle.front_end.specs.declared.error.SourceError.TheVariants as errors
 use Rattle.front_end.specs.declared.error.SourceLimit.{SourceLimit}
 use Rattle.front_end.specs.declared.error.SourceLimit.TheVariants.{Types, Nodes, Values}
 use Rattle.front_end.specs.declared.error.SourceRule.{SourceRule}
 use Rattle.front_end.specs.declared.error.SourceRule.TheVariants as rules
-use Rattle.r2_cli_outcome.specs.declared.status.Status.TheVariants.{Source, Limit, NoMemory}
-use Rattle.r2_cli_outcome.specs.Outcome.{Outcome, refusal, limit_words}
+use Rattle.r2_cli_outcome.specs.declared.status.Status.TheVariants.{Findings, Source, Limit, NoMemory}
+use Rattle.r2_cli_outcome.specs.Outcome.{Outcome, refusal, printed, limit_words}
 use Rattle.r2_cli_outcome.specs.Reading.{Reading}
 use Rattle.r2_cli_outcome.specs.Stages.{Answer, Stage, passed, ended, ◌>>=◌}
 use Rattle.r2_cli_outcome.specs.Input.{Input}
@@ -60,13 +61,16 @@ refused_for cut errors.NoSuchCut = refusal Source (no_cut_words cut)
 refused_for cut (errors.Limit limit) = refusal Limit (limit_words (limit_word limit) (limit_number limit))
 refused_for cut errors.Memory = refusal NoMemory (codes "no memory")
 
-pub data SourceOf (cut bytes : List ℕ) : Answer (Unit {0}) → Type 0 where
+-- what the bytes of a source come to: what is wrong with it; the lines of what is found in its cut; or the
+-- bytes, where nothing is found
+pub data SourceOf (cut bytes : List ℕ) : Answer (List ℕ) → Type 0 where
   wrong : {error : SourceError} → IsWrong bytes cut error →
       SourceOf cut bytes (ended (refused_for cut error))
-  right : IsRight bytes cut → SourceOf cut bytes (passed tt)
+  found : {lines : List (List ℕ)} → LinesOf bytes cut lines → lines ≢ [] →
+      SourceOf cut bytes (ended (printed Findings (text_of lines) []))
+  accepted : LinesOf bytes cut [] → SourceOf cut bytes (passed bytes)
 
 -- the reading of a source, its size, its tokens, its grammar, its types with their limits, its annotations
--- with the cut, and the
--- limits of flat code
-abbrev pub source : Reading → (src cut : List ℕ) → Stage (Unit {0})
+-- with the cut, the limits of flat code, and what is found in the cut
+abbrev pub source : Reading → (src cut : List ℕ) → Stage (List ℕ)
 source reading src cut = Input reading src (codes "source") 1048576 >>= SourceOf cut

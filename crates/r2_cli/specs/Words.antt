@@ -12,6 +12,7 @@ pub data Form : Type 0 where
   version : Form
   order : (log : List ℕ) → Form
   check : (src cut : List ℕ) → Form
+  stubs : (src cut : List ℕ) → Form
   gen : (rounds : ℕ) → (src sys : List ℕ) → Form
 
 -- the command line, without the name of the program
@@ -20,6 +21,7 @@ words_of help = codes "--help" ∷ []
 words_of version = codes "--version" ∷ []
 words_of (order log) = codes "order" ∷ log ∷ []
 words_of (check src cut) = codes "check" ∷ src ∷ cut ∷ []
+words_of (stubs src cut) = codes "stubs" ∷ src ∷ cut ∷ []
 words_of (gen rounds src sys) = codes "gen" ∷ decimal rounds ∷ src ∷ sys ∷ []
 
 -- the two files of a generated program have names, and not the same one, and it makes 1 to 40,000 rounds
@@ -36,6 +38,7 @@ HasNames help = Unit {0}
 HasNames version = Unit {0}
 HasNames (order log) = log ≢ []
 HasNames (check src cut) = src ≢ []
+HasNames (stubs src cut) = src ≢ []
 HasNames (gen rounds src sys) = CanGenerate rounds src sys
 
 -- the words have the form
@@ -52,6 +55,7 @@ source_of help = None
 source_of version = None
 source_of (order log) = None
 source_of (check src cut) = Some (src, cut)
+source_of (stubs src cut) = Some (src, cut)
 source_of (gen rounds src sys) = None
 
 -- the log that it reads
@@ -60,6 +64,7 @@ log_of help = None
 log_of version = None
 log_of (order log) = Some log
 log_of (check src cut) = None
+log_of (stubs src cut) = None
 log_of (gen rounds src sys) = None
 
 -- all files that it reads, in their order
@@ -68,6 +73,7 @@ inputs_of help = []
 inputs_of version = []
 inputs_of (order log) = log ∷ []
 inputs_of (check src cut) = src ∷ []
+inputs_of (stubs src cut) = src ∷ []
 inputs_of (gen rounds src sys) = []
 
 -- all files that it writes
@@ -76,4 +82,5 @@ outputs_of help = []
 outputs_of version = []
 outputs_of (order log) = []
 outputs_of (check src cut) = []
+outputs_of (stubs src cut) = []
 outputs_of (gen rounds src sys) = src ∷ sys ∷ []

@@ -7,13 +7,14 @@ ghost use Rattle.r2_cli_outcome.specs.Outcome.{file, printed};
 ghost use Rattle.r2_cli_outcome.specs.Reading.{Sees};
 ghost use Rattle.r2_cli_outcome.specs.Stages.{Only, passed};
 ghost use Rattle.r2_cli_outcome.specs.Plans.{Answers, IsPlanned, outcome_of, write_of};
-ghost use Rattle.r2_cli.specs.Words.{texts_of, order, check};
+ghost use Rattle.r2_cli.specs.Words.{texts_of, order, check, stubs};
 ghost use Rattle.generated_files.specs.Source.{source_text};
 ghost use Rattle.r2_cli.specs.Commands.{command, generated, order_outcome, IsOutcome};
 
 use crate::forms::{Command, command_of};
 use crate::help::{HELP, VERSION};
 use crate::source::source;
+use cut_check::stubs_text;
 use generated_files::SYSTEM;
 use log_closure::Closed;
 use r2_base::Files;
@@ -66,7 +67,17 @@ fn check<F: Files>(alloc: Global, files: &mut F, src: &str, cut: &str) -> Result
         (F.seen files.old).read_faults (F.seen files.new).read_faults result }
 {
     let _accepted = source(alloc, files, src, cut)?;
-    Ok(printed(alloc, "typed\n")?)
+    Ok(printed(alloc, "accepted\n")?)
+}
+
+fn stubs<F: Files>(alloc: Global, files: &mut F, src: &str, cut: &str) -> Result<Plan, End>
+    ensures only { OnlyReads (F.seen files.old) (F.seen files.new) }
+    ensures answers { Answers outcome_of (command (Sees (F.seen files.old)) (stubs src.now cut.now))
+        (F.seen files.old).read_faults (F.seen files.new).read_faults result }
+{
+    let accepted = source(alloc, files, src, cut)?;
+    let text = stubs_text(alloc, &accepted.source)?;
+    Ok(print(alloc, Status::Done, Text::Bytes(text), Vec::new(alloc))?)
 }
 
 /// The two files of a generated program.
@@ -115,6 +126,7 @@ pub fn planned<F: Files>(alloc: Global, words: &[String], files: &mut F) -> Resu
         Command::Version => version(alloc),
         Command::Order { log } => order(alloc, files, log),
         Command::Check { source, cut } => check(alloc, files, source, cut),
+        Command::Stubs { source, cut } => stubs(alloc, files, source, cut),
         Command::Generate {
             rounds,
             source,

@@ -1,7 +1,7 @@
 //! The command line.
 
 ghost use Rattle.std.specs.Prelude.{◌≡◌, ◌≤◌, ℕ, List, IfNone, IfSome, decimal};
-ghost use Rattle.r2_cli.specs.Words.{texts_of, IsForm, IsUsage, CanGenerate, help, version, order, check, gen};
+ghost use Rattle.r2_cli.specs.Words.{texts_of, IsForm, IsUsage, CanGenerate, help, version, order, check, stubs, gen};
 ghost use Rattle.r2_cli.specs.Forms.{form_of};
 
 use r2_base::read_dec;
@@ -18,6 +18,10 @@ pub enum Command<'a> {
         log: &'a str,
     },
     Check {
+        source: &'a str,
+        cut: &'a str,
+    },
+    Stubs {
         source: &'a str,
         cut: &'a str,
     },
@@ -67,6 +71,21 @@ fn check_form(words: &[String]) -> Option<Command<'_>>
     match words {
         [word, source, cut] if word.as_str() == "check" && !source.as_str().is_empty() => {
             Some(Command::Check {
+                source: source.as_str(),
+                cut: cut.as_str(),
+            })
+        }
+        _ => None,
+    }
+}
+
+fn stubs_form(words: &[String]) -> Option<Command<'_>>
+    ensures form { IfSome result (λ c. IsForm (texts_of words.now) (form_of c)) }
+    ensures none { IfNone result ((src cut : List ℕ) → IsForm (texts_of words.now) (stubs src cut) → ⊥) }
+{
+    match words {
+        [word, source, cut] if word.as_str() == "stubs" && !source.as_str().is_empty() => {
+            Some(Command::Stubs {
                 source: source.as_str(),
                 cut: cut.as_str(),
             })
@@ -144,6 +163,9 @@ pub fn command_of(words: &[String]) -> Option<Command<'_>>
         return Some(command);
     }
     if let Some(command) = check_form(words) {
+        return Some(command);
+    }
+    if let Some(command) = stubs_form(words) {
         return Some(command);
     }
     generate_form(words)

@@ -1,18 +1,21 @@
-//! The stage that reads a source.
+//! The stage that reads a source, and looks at its cut.
 
-ghost use Rattle.std.specs.Prelude.{◌≡◌, ◌≤◌, length};
+ghost use Rattle.std.specs.Prelude.{◌≡◌, ◌≤◌, List, ℕ, IfErr, IfOk, length};
+ghost use Rattle.cut_check.specs.Lines.{FoundText};
+ghost use Rattle.front_end.specs.Answers.{IsAccepted};
 ghost use Rattle.front_end.specs.declared.error.SourceError.TheVariants.{Memory as NoSource};
 ghost use Rattle.r2_base.specs.Seen.{OnlyReads};
 ghost use Rattle.r2_cli_outcome.specs.declared.status.Status.TheVariants.{Source};
 ghost use Rattle.r2_cli_outcome.specs.Outcome.{refusal};
 ghost use Rattle.r2_cli_outcome.specs.Reading.{Sees};
-ghost use Rattle.r2_cli_outcome.specs.Plans.{Answers, IsEnd};
+ghost use Rattle.r2_cli_outcome.specs.Plans.{Answers, EndsAs, IsEnd};
 ghost use Rattle.r2_cli.specs.Source.{SourceOf, no_cut_words, refused_for, source, source_words};
 
 use crate::source_words::{cut_words, fault_words, limit_number, limit_word};
+use cut_check::found_text;
 use front_end::{CheckedSource, SourceError, SourceFault, check_source};
 use r2_base::Files;
-use r2_cli_outcome::{End, Status, exceeded, input, refused};
+use r2_cli_outcome::{End, Status, exceeded, input, print_and_end, refused};
 use std::alloc::Global;
 
 /// How many bytes a source may have.
@@ -51,26 +54,58 @@ fn wrong(alloc: Global, cut: &str, error: SourceError) -> End
     }
 }
 
+/// A source whose cut is accepted: its bytes, and what it is by them.
+#[derive(Drop)]
+pub struct AcceptedSource {
+    pub bytes: Vec<u8>,
+    pub source: CheckedSource,
+}
+
 /// The source that the bytes are, or what is wrong with it.
-fn source_of(alloc: Global, bytes: Vec<u8>, cut: &str) -> Result<CheckedSource, End>
-    requires { length bytes.items ≤ 1048576 }
-    ensures { Answers (λ _. tt) (SourceOf cut.now bytes.items) 0 0 result }
+fn checked(alloc: Global, bytes: &[u8], cut: &str) -> Result<CheckedSource, End>
+    requires { length bytes.now ≤ 1048576 }
+    ensures right { IfOk result (IsAccepted bytes.now cut.now) }
+    ensures wrong { IfErr result (EndsAs (SourceOf cut.now bytes.now) 0 0) }
 {
-    match check_source(alloc, &bytes, cut.as_bytes()) {
+    match check_source(alloc, bytes, cut.as_bytes()) {
         Ok(source) => Ok(source),
         Err(error) => Err(wrong(alloc, cut, error)),
     }
 }
 
-/// The source that the file holds: its reading, its size, and then all its rules and limits, in their order.
+/// The end of a command in whose cut this was found, if anything was.
+fn unless_found(alloc: Global, found: Vec<u8>) -> Result<(), End>
+    ensures { (bytes cut : List ℕ) → FoundText bytes cut found.items →
+        Answers (λ _. bytes) (SourceOf cut bytes) 0 0 result }
+{
+    if found.as_slice().is_empty() {
+        return Ok(());
+    }
+    Err(print_and_end(alloc, Status::Findings, found))
+}
+
+/// The source that the bytes are, where its cut is accepted.
+fn source_of(alloc: Global, bytes: Vec<u8>, cut: &str) -> Result<AcceptedSource, End>
+    requires { length bytes.items ≤ 1048576 }
+    ensures accepted { IfOk result (λ s. IsAccepted s.bytes.items cut.now s.source) }
+    ensures answers { Answers (λ s. s.bytes.items) (SourceOf cut.now bytes.items) 0 0 result }
+{
+    let source = checked(alloc, &bytes, cut)?;
+    let found = found_text(alloc, &source)?;
+    unless_found(alloc, found)?;
+    Ok(AcceptedSource { bytes, source })
+}
+
+/// The source that the file holds: its reading, its size, all its rules and limits, in their order, and then its cut.
 pub fn source<F: Files>(
     alloc: Global,
     files: &mut F,
     name: &str,
     cut: &str,
-) -> Result<CheckedSource, End>
+) -> Result<AcceptedSource, End>
     ensures only { OnlyReads (F.seen files.old) (F.seen files.new) }
-    ensures answers { Answers (λ _. tt) (source (Sees (F.seen files.old)) name.now cut.now)
+    ensures accepted { IfOk result (λ s. IsAccepted s.bytes.items cut.now s.source) }
+    ensures answers { Answers (λ s. s.bytes.items) (source (Sees (F.seen files.old)) name.now cut.now)
         (F.seen files.old).read_faults (F.seen files.new).read_faults result }
 {
     let bytes = input(alloc, files, name, "source", SOURCE_LIMIT)?;

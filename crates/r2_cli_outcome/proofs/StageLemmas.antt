@@ -49,10 +49,10 @@ on_value : {T U A B : Type 0} (view : T → A) (see : U → B) (stage : Stage A)
 on_value view see stage next v x y z (Ok u) le s (gives h) = gives (on s h)
 on_value view see stage next v x y z (Err e) le s (ends h) = ends (on_ends stage next (view v) x y z e le s h)
 
-value_of : {T A : Type 0} (view : T → A) (stage : Stage A) (x y : ℕ) (v : T) → Answers view stage x y (Ok v) → stage (passed (view v))
+pub value_of : {T A : Type 0} (view : T → A) (stage : Stage A) (x y : ℕ) (v : T) → Answers view stage x y (Ok v) → stage (passed (view v))
 value_of view stage x y v (gives h) = h
 
-end_of : {T A : Type 0} (view : T → A) (stage : Stage A) (x y : ℕ) (e : End) → Answers view stage x y (Err e) → EndsAs stage x y e
+pub end_of : {T A : Type 0} (view : T → A) (stage : Stage A) (x y : ℕ) (e : End) → Answers view stage x y (Err e) → EndsAs stage x y e
 end_of view stage x y e (ends h) = h
 
 pub went_on : {T U A B : Type 0} (view : T → A) (see : U → B) (stage : Stage A) (next : A → Stage B) (v : T) (x y z : ℕ) (result : Result U End) → x ≤ y
@@ -84,6 +84,12 @@ handed_on view see stage next x y z end (Err e) le is h = ends (subst (λ (k : E
 pub out_of_memory : {U B : Type 0} (see : U → B) (stage : Stage B) (x y : ℕ) (result : Result U End) → IsErrAnd result (λ e. e ≡ NoMemory) → Answers see stage x y result
 out_of_memory see stage x y (Ok u) is = absurd is
 out_of_memory see stage x y (Err e) is = ends (subst (λ (k : End). EndsAs stage x y k) (sym is) tt)
+
+-- and of one in the same stage
+
+pub ends_with : {U B : Type 0} (see : U → B) (stage : Stage B) (x y : ℕ) (end : End) (result : Result U End) → IsErrAnd result (λ e. e ≡ end) → EndsAs stage x y end → Answers see stage x y result
+ends_with see stage x y end (Ok u) is h = absurd is
+ends_with see stage x y end (Err e) is h = ends (subst (λ (k : End). EndsAs stage x y k) (sym is) h)
 
 -- the same answers of a stage that allows more
 

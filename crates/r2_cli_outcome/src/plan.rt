@@ -1,6 +1,6 @@
 //! What a command will write, before anything is written.
 
-ghost use Rattle.std.specs.Prelude.{◌≡◌, IfOk};
+ghost use Rattle.std.specs.Prelude.{◌≡◌, [], IfOk};
 ghost use Rattle.r2_cli_outcome.specs.Outcome.{refusal, line_of, printed};
 ghost use Rattle.r2_cli_outcome.specs.Plans.{IsEnd, bytes_of, outcome_of};
 
@@ -109,4 +109,14 @@ pub fn print(alloc: Global, status: Status, text: Text, line: Vec<u8>) -> Result
         writes,
         line,
     })
+}
+
+/// The end of a command that prints this text and no line.
+pub fn print_and_end(alloc: Global, status: Status, text: Vec<u8>) -> End
+    ensures { IsEnd (printed status text.items []) result }
+{
+    match print(alloc, status, Text::Bytes(text), Vec::new(alloc)) {
+        Ok(plan) => End::Planned(plan),
+        Err(_) => End::NoMemory,
+    }
 }

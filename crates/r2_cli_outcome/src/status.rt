@@ -8,6 +8,8 @@ ghost use Rattle.r2_cli_outcome.specs.Code.{code_of};
 pub enum Status {
     /// The command did what it is for.
     Done,
+    /// The source is right, and its cut isn't: what was found was printed.
+    Findings,
     /// The words have none of the forms of the command line.
     Usage,
     /// The source breaks a rule, or no declaration names the cut.
@@ -33,6 +35,7 @@ impl Status {
     {
         match self {
             Status::Done => 0,
+            Status::Findings => 1,
             Status::Usage => 2,
             Status::Source => 3,
             Status::Short => 8,

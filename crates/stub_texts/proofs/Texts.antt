@@ -5,7 +5,6 @@ use Rattle.std.proofs.Math.Seq.{drop-cons}
 use Rattle.stub_operations.specs.declared.operation.StubOp.{StubOp}
 use Rattle.stub_operations.specs.Growing.{IsAdded}
 use Rattle.stub_operations.proofs.Growing.{nothing, two}
-use Rattle.c_code.specs.Machine.{Flat}
 use Rattle.stub_texts.specs.Texts.{line_text, maybe_text, stub_text, texts_from}
 
 -- the same text
@@ -21,33 +20,33 @@ lines_here ops i op within e =
     ap (λ (j : ℕ). line_text op ++ flat_map line_text (drop j ops)) (sym (add-one i)))
 
 -- the texts from a function on
-pub texts_here : (word : List ℕ) (code : Flat) (all : List (Option (List StubOp))) (i : ℕ)
+pub texts_here : (word : List ℕ) (names : ℕ → List ℕ) (all : List (Option (List StubOp))) (i : ℕ)
     (ops : Option (List StubOp)) → i < length all → get_or all i ops ≡ ops →
-    texts_from word code i (drop i all) ≡ maybe_text word code i ops ++
-    texts_from word code (i + 1) (drop (i + 1) all)
-texts_here word code all i ops within e =
-    ap (texts_from word code i) (drop-cons all i ops within) ∙
-    (ap (λ (x : Option (List StubOp)). maybe_text word code i x ++
-    texts_from word code (i + 1) (drop (suc i) all)) e ∙
-    ap (λ (j : ℕ). maybe_text word code i ops ++ texts_from word code (i + 1) (drop j all)) (sym (add-one i)))
+    texts_from word names i (drop i all) ≡ maybe_text word (names i) i ops ++
+    texts_from word names (i + 1) (drop (i + 1) all)
+texts_here word names all i ops within e =
+    ap (texts_from word names i) (drop-cons all i ops within) ∙
+    (ap (λ (x : Option (List StubOp)). maybe_text word (names i) i x ++
+    texts_from word names (i + 1) (drop (suc i) all)) e ∙
+    ap (λ (j : ℕ). maybe_text word (names i) i ops ++ texts_from word names (i + 1) (drop j all)) (sym (add-one i)))
 
 -- one function more, and then the others
-pub step : (word : List ℕ) (code : Flat) (all : List (Option (List StubOp))) (i : ℕ)
+pub step : (word : List ℕ) (names : ℕ → List ℕ) (all : List (Option (List StubOp))) (i : ℕ)
     (ops : Option (List StubOp)) → i < length all → get_or all i ops ≡ ops →
-    {o p q : Option (List ℕ)} → IsAdded o (maybe_text word code i ops) p →
-    IsAdded p (texts_from word code (i + 1) (drop (i + 1) all)) q → IsAdded o (texts_from word code i (drop i all)) q
-step word code all i ops within e f g = same (sym (texts_here word code all i ops within e)) (two f g)
+    {o p q : Option (List ℕ)} → IsAdded o (maybe_text word (names i) i ops) p →
+    IsAdded p (texts_from word names (i + 1) (drop (i + 1) all)) q → IsAdded o (texts_from word names i (drop i all)) q
+step word names all i ops within e f g = same (sym (texts_here word names all i ops within e)) (two f g)
 
 -- the stub of a function that was added
-pub some_text : (word : List ℕ) (code : Flat) (i : ℕ) {found : Option (List StubOp)} {ops given : List StubOp}
+pub some_text : (word : List ℕ) (names : ℕ → List ℕ) (i : ℕ) {found : Option (List StubOp)} {ops given : List StubOp}
     {o p r : Option (List ℕ)} → found ≡ Some ops → given ≡ ops → p ≡ r →
-    IsAdded o (stub_text word code i given) r → IsAdded o (maybe_text word code i found) p
-some_text word code i {found} {ops} {given} {o} {p} {r} is same_ops same_text f =
-    same (ap (stub_text word code i) same_ops ∙ sym (ap (maybe_text word code i) is))
-    (subst (λ (x : Option (List ℕ)). IsAdded o (stub_text word code i given) x) (sym same_text) f)
+    IsAdded o (stub_text word (names i) i given) r → IsAdded o (maybe_text word (names i) i found) p
+some_text word names i {found} {ops} {given} {o} {p} {r} is same_ops same_text f =
+    same (ap (stub_text word (names i) i) same_ops ∙ sym (ap (maybe_text word (names i) i) is))
+    (subst (λ (x : Option (List ℕ)). IsAdded o (stub_text word (names i) i given) x) (sym same_text) f)
 
-pub none_text : (word : List ℕ) (code : Flat) (i : ℕ) {found : Option (List StubOp)} {o p : Option (List ℕ)} →
-    found ≡ None → p ≡ o → IsAdded o (maybe_text word code i found) p
-none_text word code i {found} {o} {p} is same_text =
-    same (sym (ap (maybe_text word code i) is))
+pub none_text : (word : List ℕ) (names : ℕ → List ℕ) (i : ℕ) {found : Option (List StubOp)} {o p : Option (List ℕ)} →
+    found ≡ None → p ≡ o → IsAdded o (maybe_text word (names i) i found) p
+none_text word names i {found} {o} {p} is same_text =
+    same (sym (ap (maybe_text word (names i) i) is))
     (subst (λ (x : Option (List ℕ)). IsAdded o [] x) (sym same_text) (nothing o))

@@ -60,21 +60,26 @@ abbrev pub name_in : Option FuncInfo → List ℕ
 name_in (Some f) = f.name
 name_in None = []
 
+-- the names of functions by number, as code has them
+abbrev pub names_in : Flat → (number : ℕ) → List ℕ
+names_in code number = name_in (func_of code number)
+
 -- stub WORD NUMBER NAME, a line for each operation, and `end`
-abbrev pub stub_text : (word : List ℕ) → Flat → (number : ℕ) → List StubOp → List ℕ
-stub_text word code number ops = codes "stub " ++ word ++ codes " " ++ decimal number ++ codes " " ++
-    name_in (func_of code number) ++ codes "\n" ++ flat_map line_text ops ++ codes "end\n"
+abbrev pub stub_text : (word name : List ℕ) → (number : ℕ) → List StubOp → List ℕ
+stub_text word name number ops = codes "stub " ++ word ++ codes " " ++ decimal number ++ codes " " ++ name ++
+    codes "\n" ++ flat_map line_text ops ++ codes "end\n"
 
-abbrev pub maybe_text : (word : List ℕ) → Flat → (number : ℕ) → Option (List StubOp) → List ℕ
-maybe_text word code number (Some ops) = stub_text word code number ops
-maybe_text word code number None = []
+abbrev pub maybe_text : (word name : List ℕ) → (number : ℕ) → Option (List StubOp) → List ℕ
+maybe_text word name number (Some ops) = stub_text word name number ops
+maybe_text word name number None = []
 
--- those of functions by number, from this one on
-abbrev pub texts_from : (word : List ℕ) → Flat → (number : ℕ) → List (Option (List StubOp)) → List ℕ
-texts_from word code number [] = []
-texts_from word code number (ops ∷ all) = maybe_text word code number ops ++
-    texts_from word code (number + 1) all
+-- those of functions by number, from this one on, of which these are the names
+abbrev pub texts_from : (word : List ℕ) → (names : ℕ → List ℕ) → (number : ℕ) → List (Option (List StubOp)) →
+    List ℕ
+texts_from word names number [] = []
+texts_from word names number (ops ∷ all) = maybe_text word (names number) number ops ++
+    texts_from word names (number + 1) all
 
 -- the text of a set: of the functions that were added, by number
-abbrev pub stubs_text : (word : List ℕ) → Flat → Stubs → List ℕ
-stubs_text word code s = texts_from word code 0 s.added
+abbrev pub stubs_text : (word : List ℕ) → (names : ℕ → List ℕ) → Stubs → List ℕ
+stubs_text word names s = texts_from word names 0 s.added

@@ -2,9 +2,8 @@
 
 ghost use Rattle.std.specs.Prelude.{◌≡◌, ◌≤◌, ◌<◌, length, IfOk};
 ghost use Rattle.std.specs.List.{flat_map};
-ghost use Rattle.c_code.specs.Machine.{func_of};
 ghost use Rattle.stub_operations.specs.Growing.{IsAdded};
-ghost use Rattle.stub_texts.specs.Texts.{line_text, name_in, stub_text, stubs_text};
+ghost use Rattle.stub_texts.specs.Texts.{line_text, names_in, stub_text, stubs_text};
 
 use crate::buffer::TextBuffer;
 use crate::operation::put_line;
@@ -13,7 +12,7 @@ use std::alloc::{AllocError, Global};
 use stub_operations::{StubOp, StubSet};
 
 fn name_of(code: &Code, number: u16) -> &[u8]
-    ensures { result.now ≡ name_in (func_of code.now number) }
+    ensures { result.now ≡ names_in code.now number }
 {
     match code.func(number) {
         Some(function) => function.name.as_slice(),
@@ -30,7 +29,7 @@ fn put_lines(text: &mut TextBuffer, ops: &[StubOp])
 }
 
 fn put_stub(text: &mut TextBuffer, word: &str, code: &Code, number: u16, ops: &[StubOp])
-    ensures { IsAdded text.old (stub_text word.now code.now number ops.now) text.new }
+    ensures { IsAdded text.old (stub_text word.now (names_in code.now number) number ops.now) text.new }
 {
     text.put(b"stub ");
     text.put(word.as_bytes());
@@ -46,7 +45,7 @@ fn put_stub(text: &mut TextBuffer, word: &str, code: &Code, number: u16, ops: &[
 /// The text of the functions that were added to the set, by number: `word` says which set it is. A function that the code doesn't have
 /// has no name. `AllocError` where there is no memory for it.
 pub fn text(alloc: Global, word: &str, code: &Code, set: &StubSet) -> Result<Vec<u8>, AllocError>
-    ensures { IfOk result (λ v. v.items ≡ stubs_text word.now code.now set.now) }
+    ensures { IfOk result (λ v. v.items ≡ stubs_text word.now (names_in code.now) set.now) }
 {
     let all = set.added();
     let mut text = TextBuffer::new(alloc);

@@ -5,8 +5,9 @@ use crate::fault::Fault;
 use crate::marked::put_marked;
 use crate::report::Report;
 use crate::text::put_line;
+use r2_cli_outcome::Status;
 use std::alloc::Global;
-use test_runs::check_cut;
+use test_runs::{Left, check_cut};
 
 /// The cases of a file so far, and what holds for those below.
 #[derive(Drop)]
@@ -54,13 +55,20 @@ fn refused(alloc: Global, status: u8, words: &str) -> Result<Wanted, Fault> {
     Ok(wanted)
 }
 
-/// What `check` leaves that answers these words, where a rule is broken at the mark.
-fn wanted_of(alloc: Global, words: &str, mark: Option<usize>) -> Result<Wanted, Fault> {
-    if words == "typed" {
-        let mut wanted = Wanted::nothing(alloc);
-        put_line(&mut wanted.out, words)?;
-        return Ok(wanted);
+/// What `check` leaves of a source that is right, whatever it found in its cut.
+fn right(alloc: Global, left: &Left) -> Result<Wanted, Fault> {
+    let mut wanted = Wanted::nothing(alloc);
+    if left.status == Status::Findings {
+        wanted.status = 1;
+        wanted.out.extend_from_slice(&left.out)?;
+    } else {
+        put_line(&mut wanted.out, "accepted")?;
     }
+    Ok(wanted)
+}
+
+/// What `check` leaves that refuses a source with these words, where a rule is broken at the mark.
+fn refused_at(alloc: Global, words: &str, mark: Option<usize>) -> Result<Wanted, Fault> {
     if words.starts_with("limit ") {
         return refused(alloc, 13, words);
     }
@@ -113,8 +121,12 @@ impl<'a> Rules<'a> {
         let whole = format!(in self.alloc; "{before}{marked}{after}")?;
         let mut source = Vec::new(self.alloc);
         let mark = put_marked(self.alloc, &mut source, whole.as_str())?;
-        let wanted = wanted_of(self.alloc, self.wanted, mark)?;
         let left = check_cut(self.alloc, &source, "c")?;
+        let wanted = if self.wanted == "right" {
+            right(self.alloc, &left)?
+        } else {
+            refused_at(self.alloc, self.wanted, mark)?
+        };
         compare_run(self.alloc, &wanted, &left)
     }
 }

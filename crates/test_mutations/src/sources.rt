@@ -4,18 +4,21 @@ use r2_cli::Status;
 use std::alloc::{AllocError, Global};
 use test_runs::{Left, POOL, check_cut, check_of, prefix};
 
-/// The status of a refusal has its line, and nothing is printed; else the word is.
+/// The status of a refusal has its line, and nothing is printed; else the word is, or what was found in the cut.
 fn is_an_answer(left: &Left) -> bool {
     match left.status {
-        Status::Done => left.out.as_slice() == b"typed\n".as_slice() && left.err.is_empty(),
+        Status::Done => left.out.as_slice() == b"accepted\n".as_slice() && left.err.is_empty(),
+        Status::Findings => !left.out.is_empty() && left.err.is_empty(),
         Status::Source => left.out.is_empty() && left.err.as_slice().starts_with(b"r2: source "),
         _ => false,
     }
 }
 
-/// Nothing is wrong, or all that is wrong is that there is no `main`.
+/// No rule is broken, or all that is wrong is that there is no `main`.
 fn has_a_tree(left: &Left) -> bool {
-    left.status == Status::Done || left.err.as_slice().ends_with(b" rule 18\n")
+    left.status == Status::Done
+        || left.status == Status::Findings
+        || left.err.as_slice().ends_with(b" rule 18\n")
 }
 
 /// How many prefixes of the pool, of the lengths from `from` to before `to`, have a tree; none where one has

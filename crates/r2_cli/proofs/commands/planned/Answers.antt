@@ -1,6 +1,6 @@
 use Rattle.std.proofs.Common.{refl}
 use Rattle.r2_cli_outcome.proofs.StageLemmas.{plans, plans_refusal, read_nothing}
-use Rattle.r2_cli.specs.Words.{help, version, order, check, gen}
+use Rattle.r2_cli.specs.Words.{help, version, order, check, stubs, gen}
 use Rattle.r2_cli.specs.Commands.{command, no_form, formed}
 use Rattle.r2_cli.proofs.FormLemmas.{is_form_of}
 use Rattle.r2_cli.proofs.commands.planned.Goals as goal
@@ -23,6 +23,10 @@ returns-in-Order-clause-planned g c =
 pub returns-in-Check-clause-planned : goal.returns-in-Check-clause-planned
 returns-in-Check-clause-planned g c =
     plans _ _ _ _ _ (λ o k. formed (check c.in-Check.source.now c.in-Check.cut.now) (is_form_of _ _ _ (check c.in-Check.source.now c.in-Check.cut.now) c.in-Some.ensures.form c.in-Check.is refl) k) c.check.ensures.answers
+
+pub returns-in-Stubs-clause-planned : goal.returns-in-Stubs-clause-planned
+returns-in-Stubs-clause-planned g c =
+    plans _ _ _ _ _ (λ o k. formed (stubs c.in-Stubs.source.now c.in-Stubs.cut.now) (is_form_of _ _ _ (stubs c.in-Stubs.source.now c.in-Stubs.cut.now) c.in-Some.ensures.form c.in-Stubs.is refl) k) c.stubs.ensures.answers
 
 pub returns-in-Generate-clause-planned : goal.returns-in-Generate-clause-planned
 returns-in-Generate-clause-planned g c =

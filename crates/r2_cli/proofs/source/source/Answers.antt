@@ -6,4 +6,4 @@ pub returns-in_err-bytes-clause-answers : goal.returns-in_err-bytes-clause-answe
 returns-in_err-bytes-clause-answers g c = handed_on _ _ _ _ _ _ _ _ _ (omega arith) c.from_residual.ensures.1 c.in_err-bytes.ensures.answers
 
 pub returns-clause-answers : goal.returns-clause-answers
-returns-clause-answers g c = went_on _ _ _ _ _ _ _ _ _ c.in_ok-bytes.ensures.only.later c.in_ok-bytes.ensures.answers (read_nothing _ _ _ _ _ c.source_of.ensures)
+returns-clause-answers g c = went_on _ _ _ _ _ _ _ _ _ c.in_ok-bytes.ensures.only.later c.in_ok-bytes.ensures.answers (read_nothing _ _ _ _ _ c.source_of.ensures.answers)

@@ -1,0 +1,12 @@
+pub mod OneOrder
+pub mod Lines
+pub mod OneText
+mod Accepted
+mod MainPlace
+mod Facts
+mod FlagLists
+mod Interfaces
+mod Limits
+mod Names
+mod StubLists
+mod Texts

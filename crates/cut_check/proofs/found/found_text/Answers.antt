@@ -1,0 +1,50 @@
+use Rattle.std.proofs.Common.{◌++◌, ◌∙◌, ap, arith}
+use Rattle.std.specs.List.{flat_map}
+use Rattle.cut_check.specs.Flags.{ended_line}
+use Rattle.cut_check.specs.Sources.{cut_of}
+use Rattle.cut_check.proofs.Accepted.{known}
+use Rattle.cut_check.proofs.Facts.{few, globals_mentioned, main_inside, mentioned}
+use Rattle.cut_check.proofs.FlagLists.{as_slices}
+use Rattle.cut_check.proofs.Texts.{found_text_is}
+use Rattle.cut_check.proofs.found.found_text.Goals as goal
+
+pub flags_of-requires-clause-functions : goal.flags_of-requires-clause-functions
+flags_of-requires-clause-functions c =
+    few c.requires.0 c.requires.1 c.args.source.now (known c.requires.0 c.requires.1 c.args.source.now c.requires.2)
+
+pub flags_of-requires-clause-mentioned : goal.flags_of-requires-clause-mentioned
+flags_of-requires-clause-mentioned c =
+    let k = known c.requires.0 c.requires.1 c.args.source.now c.requires.2 in
+    mentioned c.requires.0 c.requires.1 c.args.source.now k c.in_ok-mentions.mentions (c.in_ok-mentions.ensures k.program k.is.program)
+
+pub flags_of-requires-clause-globals : goal.flags_of-requires-clause-globals
+flags_of-requires-clause-globals c =
+    let k = known c.requires.0 c.requires.1 c.args.source.now c.requires.2 in
+    let few_globals = globals_mentioned c.requires.0 c.requires.1 c.args.source.now k c.in_ok-mentions.mentions (c.in_ok-mentions.ensures k.program k.is.program) in
+    omega (arith, few_globals)
+
+pub flags_of-requires-clause-main : goal.flags_of-requires-clause-main
+flags_of-requires-clause-main c =
+    main_inside c.requires.0 c.requires.1 c.args.source.now (known c.requires.0 c.requires.1 c.args.source.now c.requires.2)
+
+pub findings-requires-clause-functions : goal.findings-requires-clause-functions
+findings-requires-clause-functions c =
+    let small = few c.requires.0 c.requires.1 c.args.source.now (known c.requires.0 c.requires.1 c.args.source.now c.requires.2) in
+    omega (arith, small)
+
+pub findings-requires-clause-mentions : goal.findings-requires-clause-mentions
+findings-requires-clause-mentions c =
+    let k = known c.requires.0 c.requires.1 c.args.source.now c.requires.2 in
+    let same = mentioned c.requires.0 c.requires.1 c.args.source.now k c.in_ok-mentions.mentions (c.in_ok-mentions.ensures k.program k.is.program) in
+    let small = few c.requires.0 c.requires.1 c.args.source.now k in
+    omega (arith, same, small)
+
+pub returns : goal.returns
+returns c = λ bytes cut h.
+    let source = c.args.source.now in
+    let k = known bytes cut source h in
+    let mine = cut_of cut k.program k.annotated in
+    let flags = c.in_ok-flags.ensures cut k.program k.annotated k.is (c.in_ok-mentions.ensures k.program k.is.program) in
+    let given = as_slices source.program c.in_ok-mentions.mentions c.in_ok-flags.flags mine c.as_slice.result.now c.as_slice-2.result.now c.as_slice-3.result.now c.as_slice.ensures.value c.as_slice-2.ensures.value c.as_slice-3.ensures.value flags in
+    found_text_is bytes cut source k c.in_ok-found.found.items c.put_lines.new.text.items (c.in_ok-found.ensures.findings mine given) c.in_ok-found.ensures.lines
+    (c.in_ok-put_lines.ensures ∙ (ap (λ t. t ++ flat_map ended_line c.deref.result.now) c.new-text.ensures.items ∙ ap (λ xs. flat_map ended_line xs) c.deref.ensures.value))

@@ -1,0 +1,5 @@
+pub mod Sources
+pub mod Lines
+pub mod Interfaces
+pub mod Stubs
+pub mod Flags
