@@ -1,6 +1,6 @@
 //! What one declaration says more.
 
-ghost use Rattle.std.specs.Prelude.{◌≡◌, Option, OnOk};
+ghost use Rattle.std.specs.Prelude.{◌≡◌, None, Option, OnOk};
 ghost use Rattle.std.specs.List.{All};
 ghost use Rattle.c_scopes.specs.Scopes.{innermost};
 ghost use Rattle.c_syntax.specs.Stands.{StandsDecl};
@@ -12,6 +12,7 @@ ghost use Rattle.annot_reader_rules.specs.Cuts.{function_at, noted, noted_functi
 ghost use Rattle.annot_reader_rules.specs.Notes.{Annotated};
 ghost use Rattle.annot_reader_words.specs.Answers.{Tells};
 ghost use Rattle.annot_reader_words.specs.Shown.{IsDecl};
+ghost use Rattle.annot_reader_functions.specs.Known.{AreKnown};
 ghost use Rattle.annot_reader_functions.specs.Rules.{IsTypeName, Stays, function_in};
 ghost use Rattle.annot_reader.specs.Headings.{AreHeadings, IsHeading};
 ghost use Rattle.annot_reader.specs.Reading.{AreRead, noted_global, nothing_read};
@@ -20,7 +21,7 @@ ghost use Rattle.annot_reader_functions.specs.Seen.{declared_by};
 use crate::growing::append;
 use crate::sharing::add;
 use crate::source::Source;
-use annot_reader_functions::{FunctionNotes, function_named, function_notes};
+use annot_reader_functions::{FunctionNotes, Known, function_named, function_notes_after};
 use annot_reader_words::{AnnotationError, bare_decls, decl_node, declared_later, global_notes};
 use c_builtins::FIRST_SOURCE_FUNCTION;
 use c_syntax::{Decl, DeclId, Rest, Tree};
@@ -34,6 +35,8 @@ pub(crate) struct Reading {
     pub(crate) functions: Vec<FunctionNotes>,
     /// The mutexes that guard its globals, by place.
     pub(crate) guards: Vec<Option<i64>>,
+    /// What is known of the annotations of a function, for those that share them.
+    pub(crate) known: Option<Known>,
 }
 
 // The name that a declaration declares, which is empty where it has none.
@@ -51,15 +54,18 @@ impl Reading {
 
     /// Nothing is said.
     pub(crate) fn new(alloc: Global) -> Reading
-        ensures { (cut : List ℕ) → AreRead cut nothing_read result }
+        ensures read { (cut : List ℕ) → AreRead cut nothing_read result }
+        ensures known { result.known ≡ None }
     {
         Reading {
             functions: Vec::new(alloc),
             guards: Vec::new(alloc),
+            known: None,
         }
     }
 
-    // What a declaration of the function at a place says. The first one says it.
+    // What a declaration of the function at a place says. The first one says it. Annotations that it shares with the function before are
+    // read once, if they speak of no parameter.
     fn function(
         &mut self,
         alloc: Global,
@@ -70,12 +76,14 @@ impl Reading {
     ) -> Result<(), AnnotationError>
         requires id { IsTypeName source.now.tree.now id }
         requires numbers { All (IsHeading (declared_by env.old)) source.now.functions.now }
+        requires known { AreKnown source.now.tree.now source.now.cut.now self.old.known }
         ensures agrees { (d : Declaration) (fs : List Function) (a : Annotated) →
             StandsDecl source.now.tree.now id d →
             AreHeadings (declared_by env.old) source.now.functions.now fs →
             AreRead source.now.cut.now a self.old →
             Tells (λ b _. AreRead source.now.cut.now b self.new)
             (noted_function (declared_by env.old).env d place (function_at fs place) a) result }
+        ensures known { OnOk result (AreKnown source.now.tree.now source.now.cut.now self.new.known) }
         ensures kept { OnOk result (Stays (declared_by env.old) (declared_by env.new)) }
     {
         let Some(heading) = source.function(place) else {
@@ -85,16 +93,26 @@ impl Reading {
             return declared_later(alloc, source.tree, id);
         }
         let prototype = heading.prototype();
-        let notes = function_notes(alloc, env, source.tree, id, &prototype, source.cut)?;
-        add(&mut self.functions, notes)?;
+        let notes = function_notes_after(
+            alloc,
+            env,
+            source.tree,
+            id,
+            &prototype,
+            source.cut,
+            &mut self.known,
+        )?;
+        let is_shared = self.known.is_some();
+        add(&mut self.functions, notes, is_shared)?;
         Ok(())
     }
 
     // What the declaration of a global says.
     fn global(&mut self, alloc: Global, tree: &Tree, id: DeclId) -> Result<(), AnnotationError>
         requires { IsDecl tree.now id }
-        ensures { (d : Declaration) (cut : List ℕ) (a : Annotated) → StandsDecl tree.now id d →
+        ensures agrees { (d : Declaration) (cut : List ℕ) (a : Annotated) → StandsDecl tree.now id d →
             AreRead cut a self.old → Tells (λ b _. AreRead cut b self.new) (noted_global d a) result }
+        ensures known { self.new.known ≡ self.old.known }
     {
         let guard = global_notes(alloc, tree, id)?;
         append(&mut self.guards, guard)?;
@@ -112,12 +130,14 @@ impl Reading {
     ) -> Result<(), AnnotationError>
         requires id { IsTypeName source.now.tree.now id }
         requires numbers { All (IsHeading (declared_by env.old)) source.now.functions.now }
+        requires known { AreKnown source.now.tree.now source.now.cut.now self.old.known }
         ensures agrees { (d : Declaration) (p : Program) (m : Option Meaning) (a : Annotated) →
             StandsDecl source.now.tree.now id d →
             AreHeadings (declared_by env.old) source.now.functions.now p.functions →
             number ≡ function_in m → AreRead source.now.cut.now a self.old →
             Tells (λ b _. AreRead source.now.cut.now b self.new)
             (noted_name (declared_by env.old).env p d m a) result }
+        ensures known { OnOk result (AreKnown source.now.tree.now source.now.cut.now self.new.known) }
         ensures kept { OnOk result (Stays (declared_by env.old) (declared_by env.new)) }
     {
         let Some(number) = number else {
@@ -137,12 +157,14 @@ impl Reading {
     ) -> Result<(), AnnotationError>
         requires id { IsTypeName source.now.tree.now id }
         requires numbers { All (IsHeading (declared_by env.old)) source.now.functions.now }
+        requires known { AreKnown source.now.tree.now source.now.cut.now self.old.known }
         ensures agrees { (d : Declaration) (p : Program) (a : Annotated) →
             StandsDecl source.now.tree.now id d →
             AreHeadings (declared_by env.old) source.now.functions.now p.functions →
             innermost (declared_by env.old).env.scopes ≡ p.names → AreRead source.now.cut.now a self.old →
             Tells (λ b _. AreRead source.now.cut.now b self.new) (noted (declared_by env.old).env p d a)
             result }
+        ensures known { OnOk result (AreKnown source.now.tree.now source.now.cut.now self.new.known) }
         ensures kept { OnOk result (Stays (declared_by env.old) (declared_by env.new)) }
     {
         let decl = decl_node(source.tree, id);

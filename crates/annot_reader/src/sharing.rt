@@ -32,13 +32,18 @@ fn with_shared_mutexes(
 }
 
 /// Puts what is said of a function after what is said of those before. Where the same mutexes are held as at the last of them, both
-/// share the list of these. `AllocError` where there is no memory for it.
+/// share the list of these, which isn't looked at where it `is_shared` already, or with none. `AllocError` where there is no memory for
+/// it.
 pub(crate) fn add(
     functions: &mut Vec<FunctionNotes>,
     notes: FunctionNotes,
+    is_shared: bool,
 ) -> Result<(), AllocError>
     ensures { OnOk result (functions.new.items ≡ functions.old.items ++ notes ∷ []) }
 {
+    if is_shared {
+        return append(functions, notes);
+    }
     let notes = with_shared_mutexes(functions.as_slice(), notes)?;
     append(functions, notes)
 }

@@ -52,7 +52,7 @@ function_is env k (Declare from an b ps n r) t ts =
     ∙ (assoc (bare_annots an) (bare_parts (result_parts ps) >> bare_rest r) h ∙ ap (λ c. bare_annots an >> c) (assoc (bare_parts (result_parts ps)) (bare_rest r) h)))
 
 module _ (cut : List ℕ) (env : Environment) (k : FunctionKind) (d : Decl) (t : CType) (ts : CTypes) where
-  abbrev S : Signature
+  abbrev pub S : Signature
   S = signature_with env (own_of d) t ts
 
   abbrev Answer : Type 0
@@ -61,7 +61,7 @@ module _ (cut : List ℕ) (env : Environment) (k : FunctionKind) (d : Decl) (t :
   abbrev pub OfFunction : Answer → Type 0
   OfFunction r = Tells (IsNoted cut) (function_notes env k d t ts) r
 
-  in_steps : (r : Answer) → Tells (IsNoted cut) (bare_outside d >> (heading S k d >>= rest_of env S (own_of d) ts)) r → OfFunction r
+  pub in_steps : (r : Answer) → Tells (IsNoted cut) (bare_outside d >> (heading S k d >>= rest_of env S (own_of d) ts)) r → OfFunction r
   in_steps r h = same_tells (IsNoted cut) (function_notes env k d t ts) _ r (function_is env k d t ts) h
 
   pub breaks_outside : (e : AnnotationError) → Passes (bare_outside d) (Err e) → OfFunction (Err e)

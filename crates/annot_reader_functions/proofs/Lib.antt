@@ -12,4 +12,6 @@ mod Sorting
 mod Factors
 pub mod Saying
 pub mod Staying
+mod Alone
+mod Sharing
 pub mod Numbers

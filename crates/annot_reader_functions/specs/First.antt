@@ -23,3 +23,7 @@ heading s k (Declare from an b ps n r) = do
   m ← all_noted an s k nothing
   keep from 8 (no_holds m.holds || is_empty m.cuts)
   Fine m
+
+-- no parameter outside the function's own list has annotations, beside those in its own annotations
+abbrev pub bare_besides : Decl → Checked (Unit {0})
+bare_besides (Declare from an b ps n r) = bare_parts (result_parts ps) >> bare_rest r

@@ -8,3 +8,4 @@ pub mod Marking
 pub mod Sizing
 pub mod TypeErrors
 pub mod Seen
+pub mod Known

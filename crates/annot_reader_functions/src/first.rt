@@ -69,7 +69,7 @@ fn heading(
 }
 
 // What is said of the parameters, in a scope of their own.
-fn in_scope(
+pub(crate) fn in_scope(
     alloc: Global,
     env: &mut Environment,
     tree: &Tree,

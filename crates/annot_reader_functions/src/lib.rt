@@ -5,6 +5,7 @@ mod finish;
 mod first;
 mod keys;
 mod kind;
+mod known;
 mod list;
 mod marks;
 mod named;
@@ -25,5 +26,6 @@ mod words;
 
 pub use first::function_notes;
 pub use kind::{FunctionKind, Prototype};
+pub use known::{Known, function_notes_after};
 pub use notes::FunctionNotes;
 pub use rules::function_named;

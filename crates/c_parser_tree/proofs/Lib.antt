@@ -1,4 +1,5 @@
 pub mod Newest
+pub mod Alike
 pub mod Grow
 pub mod Ends
 pub mod Likewise

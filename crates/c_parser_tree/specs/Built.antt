@@ -1,5 +1,6 @@
 -- Nodes and pieces after an action.
 use Rattle.std.specs.Prelude.{ℕ, List, [], ◌∷◌, ◌++◌, length, reverse, Option, Some, None}
+use Rattle.std.specs.Option.{option_map}
 use Rattle.c_syntax.specs.declared.expression.ExprKind.{ExprKind}
 use Rattle.c_syntax.specs.declared.statement.StmtKind.{StmtKind}
 use Rattle.c_syntax.specs.declared.statement.Entry.{Entry}
@@ -9,13 +10,15 @@ use Rattle.c_syntax.specs.declared.declaration.PartKind.{PartKind}
 use Rattle.c_syntax.specs.declared.declaration.Value.{Value}
 use Rattle.c_syntax.specs.declared.id.DeclId.{DeclId}
 use Rattle.c_syntax.specs.declared.id.ExprId.{ExprId}
+use Rattle.c_syntax.specs.declared.declaration.Base.{Base}
 use Rattle.c_syntax.specs.declared.declaration.Base.TheVariants as bases
 use Rattle.c_syntax.specs.declared.declaration.Rest.{Rest}
 use Rattle.c_syntax.specs.declared.declaration.Rest.TheVariants as rests
 use Rattle.c_syntax.specs.declared.declaration.Decl.{Decl}
-use Rattle.c_syntax.specs.Nodes.{Nodes}
+use Rattle.c_syntax.specs.Nodes.{Nodes, decl_at}
 use Rattle.c_parser_tree.specs.declared.piece.Declarator.{Declarator}
 use Rattle.c_parser_tree.specs.declared.piece.Shared.{Shared}
+use Rattle.c_parser_tree.specs.declared.piece.Shared.TheVariants as shares
 use Rattle.c_parser_tree.specs.declared.piece.Tag.{Tag}
 use Rattle.c_parser_tree.specs.Nodes.{with_decl, with_stmt, with_expr}
 use Rattle.c_parser_tree.specs.Stacks.{Stacks, push_expr, push_exprs, push_declarator, push_shared, push_decl, push_decls, push_annots, push_annot, push_values, push_entries, push_stmt}
@@ -44,21 +47,38 @@ abbrev pub put_stmt : Nodes → ℕ → StmtKind → Stacks → Option Built
 put_stmt N f k R =
     puts (with_stmt N (record { from = f; kind = k })) (push_stmt (record { 0 = length N.stmts }) R)
 
--- a declaration of this declarator
-abbrev pub decl_of : Declarator → Shared → Rest → Decl
-decl_of d s q = record {
+-- a declaration of this declarator, with these annotations and this type before it
+abbrev pub decl_of : Declarator → List Annot × Base → Rest → Decl
+decl_of d w q = record {
   from = d.from;
-  annots = s.annots;
-  base = s.base;
+  annots = w.0;
+  base = w.1;
   parts = reverse d.parts;
   name = d.name;
   rest = q;
 }
 
--- a new declaration comes on top, above what it shares with others
+-- the annotations and the type that names share, if they are there
+abbrev pub words_of : Nodes → Shared → Option (List Annot × Base)
+words_of N (shares.Words an b) = Some (an, b)
+words_of N (shares.Like i) = option_map (λ d. (d.annots, d.base)) (decl_at N i)
+
+-- what the names after that of this number share
+abbrev pub shared_after : DeclId → Shared → Shared
+shared_after i (shares.Words an b) = shares.Like i
+shared_after i (shares.Like j) = shares.Like j
+
+-- a new declaration with these comes on top, above what the names after it share
+abbrev pub put_with : Nodes → Declarator → Shared → Rest → Stacks → Option (List Annot × Base) →
+    Option Built
+put_with N d s q R None = None
+put_with N d s q R (Some w) =
+    let new : DeclId = record { 0 = length N.decls } in
+    puts (with_decl N (decl_of d w q)) (push_decl new (push_shared (shared_after new s) R))
+
+-- so it is with those that the names share
 abbrev pub put_decl : Nodes → Declarator → Shared → Rest → Stacks → Option Built
-put_decl N d s q R =
-    puts (with_decl N (decl_of d s q)) (push_decl (record { 0 = length N.decls }) (push_shared s R))
+put_decl N d s q R = put_with N d s q R (words_of N s)
 
 -- the declarator on top gets one more part
 abbrev pub with_part : Declarator → ℕ → PartKind → Declarator

@@ -1,10 +1,15 @@
 -- What a step of a builder promises.
-use Rattle.std.specs.Prelude.{◌≡◌, ◌∷◌, [], List, reverse, Option, Some, None, Result, Ok, Err, MatchResult}
-use Rattle.c_syntax.specs.Nodes.{Nodes}
+use Rattle.std.specs.Prelude.{◌≡◌, ◌∷◌, [], List, length, reverse, Option, Some, None, Result, Ok, Err, MatchResult}
+use Rattle.c_syntax.specs.declared.declaration.Decl.{Decl}
+use Rattle.c_syntax.specs.declared.declaration.Rest.{Rest}
+use Rattle.c_syntax.specs.declared.id.DeclId.{DeclId}
+use Rattle.c_syntax.specs.Nodes.{Nodes, decl_at}
+use Rattle.c_parser_tree.specs.declared.piece.Declarator.{Declarator}
 use Rattle.c_parser_tree.specs.declared.builder.Builder.{Builder}
 use Rattle.c_parser_tree.specs.declared.builder.BuildError.{BuildError}
 use Rattle.c_parser_tree.specs.declared.builder.BuildError.TheVariants as errors
-use Rattle.c_parser_tree.specs.Built.{Built}
+use Rattle.c_parser_tree.specs.Built.{Built, decl_of}
+use Rattle.c_parser_tree.specs.Nodes.{with_decl}
 use Rattle.c_parser_tree.specs.Seen.{nodes_seen, stack_seen}
 use Rattle.c_parser_tree.specs.Stacks.{Stacks}
 
@@ -27,3 +32,12 @@ IsTaken r b m = MatchResult r (λ a. m ≡ Some (a, stack_seen b)) (λ e. (e ≡
 abbrev pub IsNewest : {A : Type 0} → Result A BuildError → List A → List A → Type 0
 IsNewest r old new =
     MatchResult r (λ a. reverse old ≡ a ∷ reverse new) (λ e. (e ≡ errors.Unfit) × (reverse old ≡ []))
+
+-- a new declaration is like that of this number, which is there
+abbrev pub IsLike : DeclId → Declarator → Rest → (old new : Builder) → Result DeclId BuildError → Type 0
+IsLike i d q old new (Ok j) =
+    (e : Decl) × (decl_at (nodes_seen old) i ≡ Some e) ×
+    (nodes_seen new ≡ with_decl (nodes_seen old) (decl_of d (e.annots, e.base) q)) ×
+    (stack_seen new ≡ stack_seen old) × (j ≡ record { 0 = length (nodes_seen old).decls })
+IsLike i d q old new (Err errors.Unfit) = decl_at (nodes_seen old) i ≡ None
+IsLike i d q old new (Err errors.Memory) = Unit {0}

@@ -12,6 +12,7 @@ use Rattle.c_syntax.specs.declared.declaration.Value.TheOpen.{Value-F}
 use Rattle.c_syntax.specs.Nodes.{Nodes}
 use Rattle.c_parser_actions.specs.declared.action.Action.{Action}
 use Rattle.c_parser_actions.specs.declared.action.Action.TheVariants as acts
+use Rattle.c_parser_tree.specs.declared.piece.Shared.TheVariants as shares
 use Rattle.c_parser_tree.specs.Built.{Built, taking, puts, put_expr, put_stmt, add_part, declare, with_struct, add_expr, add_decl, add_annot, add_item, add_value, add_entry}
 use Rattle.c_parser_tree.specs.Stacks.{Stacks, push_exprs, push_maybe, push_declarator, push_shared, push_decls, push_annots, push_annot, push_item, push_atom, push_value, push_values, push_entries, push_first, push_tag}
 use Rattle.c_parser_tree.specs.Takes.{expr_in, exprs_in, maybe_in, shared_in, decl_in, decls_in, annots_in, annot_in, item_in, atom_in, value_in, entries_in, stmt_in, first_in, tag_in, two_exprs_in, tested_in}
@@ -85,7 +86,7 @@ made_list a N R = made_annot a N R
 -- a declaration stays when what it shares with others is done with
 unfoldable pub made_decl : Action → Nodes → Stacks → Option Built
 made_decl (acts.Specs b) N R =
-    taking (annots_in R) (λ an R. puts N (push_shared (record { annots = an; base = b }) R))
+    taking (annots_in R) (λ an R. puts N (push_shared (shares.Words an b) R))
 made_decl acts.Declare N R = declare N rests.None R
 made_decl acts.DeclareValue N R = taking (value_in R) (λ v R. declare N (rests.Value v) R)
 made_decl acts.DeclareBody N R = taking (stmt_in R) (λ s R. declare N (rests.Body s) R)

@@ -7,7 +7,7 @@ use Rattle.c_parser_tree.specs.Stacks.{Stacks}
 
 -- the nodes so far
 unfoldable pub nodes_seen : Builder → Nodes
-nodes_seen b = record { decls = b.decls.items; stmts = b.stmts.items; exprs = b.exprs.items; tops = [] }
+nodes_seen b = record { decls = b.decls; stmts = b.stmts.items; exprs = b.exprs.items; tops = [] }
 
 -- the pieces, the newest of each kind first
 abbrev pub pieces_of : Pieces → Stacks

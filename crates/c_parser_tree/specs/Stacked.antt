@@ -1,5 +1,5 @@
 -- The pieces of a source that pieces with numbers stand for.
-use Rattle.std.specs.Prelude.{◌≡◌, ℕ, List, [], ◌∷◌, reverse, Option, Result, Ok, Err}
+use Rattle.std.specs.Prelude.{◌≡◌, ℕ, List, [], ◌∷◌, reverse, Option, Some, Result, Ok, Err}
 use Rattle.c_syntax.specs.declared.id.DeclId.{DeclId}
 use Rattle.c_syntax.specs.declared.id.StmtId.{StmtId}
 use Rattle.c_syntax.specs.declared.id.ExprId.{ExprId}
@@ -19,8 +19,15 @@ use Rattle.c_parser_actions.specs.Pieces.{Piece as Tree, PExpr, PExprs, PMaybe, 
 use Rattle.c_parser_tree.specs.declared.builder.Builder.{Builder}
 use Rattle.c_parser_tree.specs.declared.builder.BuildError.{BuildError}
 use Rattle.c_parser_tree.specs.declared.builder.BuildError.TheVariants as errors
+use Rattle.c_parser_tree.specs.declared.piece.Shared.{Shared}
+use Rattle.c_parser_tree.specs.Built.{words_of}
 use Rattle.c_parser_tree.specs.Seen.{nodes_seen, stack_seen}
 use Rattle.c_parser_tree.specs.Stacks.{Stacks, no_pieces, push_expr, push_exprs, push_maybe, push_declarator, push_shared, push_decl, push_decls, push_annots, push_annot, push_item, push_atom, push_value, push_values, push_entries, push_stmt, push_first, push_tag}
+
+-- what names share stands for these annotations and this type
+abbrev pub StandsShared : Nodes → Shared → Annots → Base → Type 0
+StandsShared N s an b =
+    (w : List Annot × Base) × (words_of N s ≡ Some w) × StandAnnots N w.0 an × (w.1 ≡ b)
 
 -- the pieces stand, in these nodes, for a stack of those of a source; any do for one with a broken piece on
 -- top
@@ -37,9 +44,9 @@ pub data Stacked (N : Nodes) : Stacks → List Tree → Type 0 where
   declr : {S : Stacks} {P : List Tree} (vs : List Part) (n : Option (List ℕ)) (f : ℕ) (ps : Parts)
       → StandParts N (reverse vs) ps → Stacked N S P
       → Stacked N (push_declarator (record { parts = vs; name = n; from = f }) S) (PDeclr ps n f ∷ P)
-  specs : {S : Stacks} {P : List Tree} (vs : List Annot) (b : Base) (an : Annots)
-      → StandAnnots N vs an → Stacked N S P
-      → Stacked N (push_shared (record { annots = vs; base = b }) S) (PSpecs an b ∷ P)
+  specs : {S : Stacks} {P : List Tree} (s : Shared) (b : Base) (an : Annots)
+      → StandsShared N s an b → Stacked N S P
+      → Stacked N (push_shared s S) (PSpecs an b ∷ P)
   decl : {S : Stacks} {P : List Tree} (i : DeclId) (d : Decl) → StandsDecl N i d → Stacked N S P
       → Stacked N (push_decl i S) (PDecl d ∷ P)
   decls : {S : Stacks} {P : List Tree} (is : List DeclId) (ds : Decls) → StandDecls N is ds → Stacked N S P

@@ -1,15 +1,18 @@
 // The nodes so far, and the pieces that wait.
 
 ghost use Rattle.std.specs.Prelude.{◌≡◌, ◌∷◌, ◌++◌, [], length, IfOk, IfErr, OnOk, reverse};
-ghost use Rattle.c_parser_tree.specs.IsMade.{Makes, IsNewest};
+ghost use Rattle.c_parser_tree.specs.IsMade.{Makes, IsLike, IsNewest};
 ghost use Rattle.c_parser_tree.specs.Built.{put_expr, put_stmt, put_decl};
+ghost use Rattle.c_parser_tree.specs.declared.piece.Shared.TheVariants as shares;
 ghost use Rattle.c_parser_tree.specs.Seen.{nodes_seen, stack_seen};
 ghost use Rattle.c_parser_tree.specs.Stacks.{no_pieces};
 ghost use Rattle.c_parser_tree.specs.Nodes.{with_decl, with_stmt, with_expr, no_nodes};
 
 use crate::piece::{Declarator, Pieces, Shared};
-use crate::share::share_base;
-use c_syntax::{Decl, DeclId, Expr, ExprId, ExprKind, Rest, Seq, Stmt, StmtId, StmtKind};
+use c_syntax::{
+    Annot, Base, Decl, DeclId, DeclTable, Expr, ExprId, ExprKind, Rest, Seq, SharedSeq, Stmt,
+    StmtId, StmtKind,
+};
 use std::alloc::{AllocError, Global};
 
 /// Why actions have no tree.
@@ -36,7 +39,7 @@ impl From<AllocError> for BuildError {
 #[derive(Drop)]
 pub struct Builder {
     pub alloc: Global,
-    pub decls: Vec<Decl>,
+    pub decls: DeclTable,
     pub stmts: Vec<Stmt>,
     pub exprs: Vec<Expr>,
     pub pieces: Pieces,
@@ -107,7 +110,7 @@ impl Builder {
     {
         Builder {
             alloc,
-            decls: Vec::new(alloc),
+            decls: DeclTable::new(alloc),
             stmts: Vec::new(alloc),
             exprs: Vec::new(alloc),
             pieces: Pieces::new(alloc),
@@ -148,9 +151,8 @@ impl Builder {
         ensures stack { OnOk result (stack_seen self.new ≡ stack_seen self.old) }
         ensures memory { IfErr result (λ e. e ≡ BuildError.Memory) }
     {
-        let number = next_number(self.decls.len())?;
-        append(&mut self.decls, decl)?;
-        Ok(DeclId(number))
+        let id = self.decls.push(decl)?;
+        Ok(id)
     }
 
     /// Puts a new expression on top.
@@ -169,18 +171,36 @@ impl Builder {
         self.put_stmt_id(id)
     }
 
-    /// Puts back what a declaration's names share, and on top a new declaration that has it too.
-    pub fn put_decl(
+    /// A new declaration, with the annotations and the type of that of this number, which has to be there.
+    fn new_decl_like(
         &mut self,
         declarator: Declarator,
-        shared: Shared,
+        first: DeclId,
+        rest: Rest,
+    ) -> Result<DeclId, BuildError>
+        ensures { IsLike first declarator rest self.old self.new result }
+    {
+        if first.0 as usize >= self.decls.len() {
+            return Err(BuildError::Unfit);
+        }
+        let parts = reversed(declarator.parts);
+        let id = self
+            .decls
+            .push_like(first, declarator.from, parts, declarator.name, rest)?;
+        Ok(id)
+    }
+
+    /// Puts on top a new declaration with these annotations and this type, above what the names after it share with it.
+    fn put_first_decl(
+        &mut self,
+        declarator: Declarator,
+        annots: SharedSeq<Annot>,
+        base: Base,
         rest: Rest,
     ) -> Result<(), BuildError>
-        ensures { Makes result self.old self.new (λ N. put_decl N declarator shared rest) }
+        ensures { Makes result self.old self.new
+            (λ N. put_decl N declarator (shares.Words annots base) rest) }
     {
-        let annots = shared.annots.share()?;
-        let base = share_base(&shared.base)?;
-        self.put_shared(shared)?;
         let id = self.new_decl(Decl {
             from: declarator.from,
             annots,
@@ -189,6 +209,36 @@ impl Builder {
             name: declarator.name,
             rest,
         })?;
+        self.put_shared(Shared::Like(id))?;
         self.put_decl_id(id)
+    }
+
+    /// Puts on top a new declaration with the annotations and the type of that of this number, above what the names after it share.
+    fn put_decl_like(
+        &mut self,
+        declarator: Declarator,
+        first: DeclId,
+        rest: Rest,
+    ) -> Result<(), BuildError>
+        ensures { Makes result self.old self.new (λ N. put_decl N declarator (shares.Like first) rest) }
+    {
+        let id = self.new_decl_like(declarator, first, rest)?;
+        self.put_shared(Shared::Like(first))?;
+        self.put_decl_id(id)
+    }
+
+    /// Puts on top a new declaration, above what the names after it share with it.
+    pub fn put_decl(
+        &mut self,
+        declarator: Declarator,
+        shared: Shared,
+        rest: Rest,
+    ) -> Result<(), BuildError>
+        ensures { Makes result self.old self.new (λ N. put_decl N declarator shared rest) }
+    {
+        match shared {
+            Shared::Words { annots, base } => self.put_first_decl(declarator, annots, base, rest),
+            Shared::Like(first) => self.put_decl_like(declarator, first, rest),
+        }
     }
 }

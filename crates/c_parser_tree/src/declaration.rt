@@ -90,7 +90,7 @@ impl Builder {
         match action {
             Action::Specs(base) => {
                 let annots = SharedSeq::from_vec(self.pop_annots()?.into_vec())?;
-                self.put_shared(Shared { annots, base })
+                self.put_shared(Shared::Words { annots, base })
             }
             Action::Declare => self.declare(Rest::None),
             Action::DeclareValue => {

@@ -8,7 +8,6 @@ mod declaration;
 mod expression;
 mod piece;
 mod puts;
-mod share;
 mod statement;
 mod takes;
 

@@ -21,9 +21,14 @@ pub struct Declarator {
 
 /// What the names of a declaration share.
 #[derive(Drop)]
-pub struct Shared {
-    pub annots: SharedSeq<Annot>,
-    pub base: Base,
+pub enum Shared {
+    /// Annotations and a type, before the first name.
+    Words {
+        annots: SharedSeq<Annot>,
+        base: Base,
+    },
+    /// Those of the first name, whose declaration has this number.
+    Like(DeclId),
 }
 
 /// The name of a struct that is being defined, and the definition's offset.

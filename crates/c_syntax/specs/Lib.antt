@@ -6,3 +6,5 @@ pub mod TypeWords
 pub mod Grammar
 pub mod Sources
 pub mod Depth
+pub mod Alike
+pub mod Entries

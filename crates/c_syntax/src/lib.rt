@@ -1,6 +1,7 @@
 //! The syntax of the C profile: the nodes of a source and the grammar that they are the tree of.
 #![tactic(auto)]
 
+mod decl_table;
 mod declaration;
 mod expression;
 mod id;
@@ -11,6 +12,7 @@ mod specifier;
 mod statement;
 mod tree;
 
+pub use decl_table::DeclTable;
 pub use declaration::{Annot, Atom, Base, Decl, Item, Part, PartKind, Rest, Value};
 pub use expression::{Expr, ExprKind};
 pub use id::{DeclId, ExprId, StmtId};

@@ -1,8 +1,10 @@
 // Trees.
 
-ghost use Rattle.std.specs.Prelude.{◌≡◌, ◌<◌, length, Some, slice_get};
+ghost use Rattle.std.specs.Prelude.{◌≡◌, ◌<◌, length, Some, slice_get, true};
+ghost use Rattle.c_syntax.specs.Alike.{ShareSpecifiers};
 ghost use Rattle.c_syntax.specs.Nodes.{Nodes, decl_at, stmt_at, expr_at};
 
+use crate::decl_table::DeclTable;
 use crate::declaration::Decl;
 use crate::expression::Expr;
 use crate::id::{DeclId, ExprId, StmtId};
@@ -12,7 +14,7 @@ use std::marker::Model;
 /// The nodes of a source, which name each other by number.
 #[derive(Drop)]
 pub struct Tree {
-    decls: Vec<Decl>,
+    decls: DeclTable,
     stmts: Vec<Stmt>,
     exprs: Vec<Expr>,
     tops: Vec<DeclId>,
@@ -26,7 +28,7 @@ impl Model for Tree {
     ghost Value = { Nodes };
 
     ghost view = { λ t. record {
-      decls = t.decls.items;
+      decls = t.decls;
       stmts = t.stmts.items;
       exprs = t.exprs.items;
       tops = t.tops.items;
@@ -37,8 +39,8 @@ impl Model for Tree {
 
 impl Tree {
     /// The tree of these nodes, whose declarations outside any other are `tops`.
-    pub fn new(decls: Vec<Decl>, stmts: Vec<Stmt>, exprs: Vec<Expr>, tops: Vec<DeclId>) -> Tree
-        ensures decls { result.decls ≡ decls.items }
+    pub fn new(decls: DeclTable, stmts: Vec<Stmt>, exprs: Vec<Expr>, tops: Vec<DeclId>) -> Tree
+        ensures decls { result.decls ≡ decls }
         ensures stmts { result.stmts ≡ stmts.items }
         ensures exprs { result.exprs ≡ exprs.items }
         ensures tops { result.tops ≡ tops.items }
@@ -56,7 +58,17 @@ impl Tree {
         requires inside { id.0 < length self.now.decls }
         ensures node { decl_at self.now id ≡ Some result.now }
     {
-        &self.decls[id.0 as usize]
+        self.decls.get(id)
+    }
+
+    /// Whether the declarations of these numbers are known to share their annotations, and the type that stands before their
+    /// declarators. It takes no time to look through these. Names of one declaration are known to.
+    pub fn share_specifiers(&self, a: DeclId, b: DeclId) -> bool
+        requires one { a.0 < length self.now.decls }
+        requires other { b.0 < length self.now.decls }
+        ensures { result ≡ true → ShareSpecifiers self.now.decls a b }
+    {
+        self.decls.share_specifiers(a, b)
     }
 
     /// The statement of this number.

@@ -20,15 +20,16 @@ use Rattle.c_types_program.specs.declared.function.Function.{Function}
 use Rattle.c_types_program.specs.declared.text.TextLiteral.{TextLiteral}
 use Rattle.c_types_program.specs.Declarations.{body_in, function_in, global_in}
 use Rattle.c_types_expressions.specs.Found.{Found}
-use Rattle.c_types_expressions.proofs.Sequences.{gone_on, stopped_in}
+use Rattle.c_types_expressions.proofs.Sequences.{gone_on, passed, stopped_in}
 use Rattle.c_types.specs.declared.declarations.Declarations.{Declarations}
 use Rattle.c_types.specs.declared.error.CheckError.{CheckError}
 use Rattle.c_types.specs.declared.source.TypedSource.{TypedSource}
 use Rattle.c_types.specs.Answers.{IsCheckedSource}
-use Rattle.c_types.specs.States.{DeclaresNothing, Ends, Follows, GoesOn, program_of}
+use Rattle.c_types.specs.Quiet.{large_noted, quiet}
+use Rattle.c_types.specs.States.{Declares, DeclaresNothing, Ends, GoesOn, program_of}
 use Rattle.c_types.specs.Errors.{by_type_error}
 use Rattle.c_types.specs.Pieces.{finished}
-use Rattle.c_types.proofs.Stepping.{error_seen}
+use Rattle.c_types.proofs.Quieting.{quiet_error, quiet_then}
 use Rattle.c_types.proofs.Limited.{large_is_limited}
 
 -- ---- which function is main
@@ -61,62 +62,66 @@ other_item t f name text r n m e w = ap (λ b. b && is_some (option_map (body_in
 pub record RestOfAll (N : Nodes) (old now : Declarations) (is : List DeclId) (ds : Decls) : Type 0 where
   pub rest : Decls
   pub stand : StandDecls N is rest
-  pub go_on : (h : Notes) (p : Program) → Found {B = Program} (notes_of now.env) h (λ x y. y ≡ x) (declarations old.env.env.tags (program_of now) rest) (Ok p) → Found {B = Program} (notes_of old.env) h (λ x y. y ≡ x) (declarations old.env.env.tags (program_of old) ds) (Ok p)
-  pub stop : (h : Notes) (e : TypeError) → Found {B = Program} (notes_of now.env) h (λ x y. y ≡ x) (declarations old.env.env.tags (program_of now) rest) (Err e) → Found {B = Program} (notes_of old.env) h (λ x y. y ≡ x) (declarations old.env.env.tags (program_of old) ds) (Err e)
+  pub go_on : (h : Notes) (r : Result Program TypeError) → Found {B = Program} (large_noted now.env) h (λ x y. y ≡ x) (quiet (declarations old.env.env.tags (program_of now) rest)) r → Found {B = Program} (large_noted old.env) h (λ x y. y ≡ x) (quiet (declarations old.env.env.tags (program_of old) ds)) r
 
 pub all_left : (N : Nodes) (d : Declarations) (is : List DeclId) (ds : Decls) → StandDecls N is ds → RestOfAll N d d is ds
-all_left N d is ds s = record { rest = ds; stand = s; go_on = λ h p q. q; stop = λ h e q. q }
+all_left N d is ds s = record { rest = ds; stand = s; go_on = λ h r q. q }
 
 module _ (N : Nodes) (old now new : Declarations) (i : DeclId) (is : List DeclId) (ds : Decls) (r : RestOfAll N old now (i ∷ is) ds) (tags : now.env.env.tags ≡ old.env.env.tags) where
   abbrev step : Decl → Checked Program
   step d = declaration old.env.env.tags (program_of now) d
 
-  pub one_done : ((d : Decl) → StandsDecl N i d → Follows now new (declaration now.env.env.tags (program_of now) d) (Ok tt)) → RestOfAll N old new is ds
-  one_done p = by r.rest r.stand r.go_on r.stop
+  abbrev left : Program → Decls → Checked Program
+  left p xs = declarations old.env.env.tags p xs
+
+  -- the same of the declarations that are left, by the first of them and the others
+  more : (h : Notes) (x : Decl) (xs : Decls) (w : Result Program TypeError) → Found {B = Program} (large_noted now.env) h (λ y z. z ≡ y) (quiet (step x) >>= (λ q. quiet (left q xs))) w → Found {B = Program} (large_noted now.env) h (λ y z. z ≡ y) (quiet (left (program_of now) (MoreDecls x xs))) w
+  more h x xs w f = passed (large_noted now.env) h (λ y z. z ≡ y) _ _ w (quiet_then (step x) (λ q. left q xs)) f
+
+  pub one_done : ((d : Decl) → StandsDecl N i d → Declares now new (declaration now.env.env.tags (program_of now) d) (Ok tt)) → RestOfAll N old new is ds
+  one_done p = by r.rest r.stand r.go_on
     where
       by : (rest : Decls) → StandDecls N (i ∷ is) rest
-          → ((k : Notes) (q : Program) → Found {B = Program} (notes_of now.env) k (λ x y. y ≡ x) (declarations old.env.env.tags (program_of now) rest) (Ok q) → Found {B = Program} (notes_of old.env) k (λ x y. y ≡ x) (declarations old.env.env.tags (program_of old) ds) (Ok q))
-          → ((k : Notes) (e : TypeError) → Found {B = Program} (notes_of now.env) k (λ x y. y ≡ x) (declarations old.env.env.tags (program_of now) rest) (Err e) → Found {B = Program} (notes_of old.env) k (λ x y. y ≡ x) (declarations old.env.env.tags (program_of old) ds) (Err e))
+          → ((k : Notes) (w : Result Program TypeError) → Found {B = Program} (large_noted now.env) k (λ x y. y ≡ x) (quiet (left (program_of now) rest)) w → Found {B = Program} (large_noted old.env) k (λ x y. y ≡ x) (quiet (left (program_of old) ds)) w)
           → RestOfAll N old new is ds
-      by NoDecls s go stop = absurd cc
-      by (MoreDecls x xs) (j, js, e, s, t) go stop =
+      by NoDecls s go = absurd cc
+      by (MoreDecls x xs) (j, js, e, s, t) go =
           let first : StandsDecl N i x = (let same : j ≡ i = cc in subst (λ z. StandsDecl N z x) same s) in
           let others : StandDecls N is xs = (let same : js ≡ is = cc in subst (λ z. StandDecls N z xs) same t) in
-          let here : Found {B = Unit {0}} (notes_of now.env) (notes_of new.env) (λ q _. program_of new ≡ q) (step x) (Ok tt) =
-          subst (λ g. Found {B = Unit {0}} (notes_of now.env) (notes_of new.env) (λ q _. program_of new ≡ q) (declaration g (program_of now) x) (Ok tt)) tags (p x first).agrees in
+          let here : Found {B = Unit {0}} (large_noted now.env) (large_noted new.env) (λ q _. program_of new ≡ q) (quiet (step x)) (Ok tt) =
+          subst (λ g. Found {B = Unit {0}} (large_noted now.env) (large_noted new.env) (λ q _. program_of new ≡ q) (quiet (declaration g (program_of now) x)) (Ok tt)) tags (p x first).agrees in
           record {
             rest = xs;
             stand = others;
-            go_on = λ k q u. go k q (gone_on (notes_of now.env) (notes_of new.env) k (λ q _. program_of new ≡ q) (λ y z. z ≡ y) (step x) (λ q. declarations old.env.env.tags q xs) tt (Ok q) here (λ z m. subst (λ w. Found (notes_of new.env) k (λ y z. z ≡ y) (declarations old.env.env.tags w xs) (Ok q)) m u));
-            stop = λ k e u. stop k e (gone_on (notes_of now.env) (notes_of new.env) k (λ q _. program_of new ≡ q) (λ y z. z ≡ y) (step x) (λ q. declarations old.env.env.tags q xs) tt (Err e) here (λ z m. subst (λ w. Found (notes_of new.env) k (λ y z. z ≡ y) (declarations old.env.env.tags w xs) (Err e)) m u));
+            go_on = λ k w u. go k w (more k x xs w (gone_on (large_noted now.env) (large_noted new.env) k (λ q _. program_of new ≡ q) (λ y z. z ≡ y) (quiet (step x)) (λ q. quiet (left q xs)) tt w here (λ z m. subst (λ v. Found (large_noted new.env) k (λ y z. z ≡ y) (quiet (left v xs)) w) m u)));
           }
 
-  pub one_stops : (e : TypeError) → ((d : Decl) → StandsDecl N i d → Follows now new (declaration now.env.env.tags (program_of now) d) (Err e)) → Ends old (declarations old.env.env.tags (program_of old) ds) (Err e)
-  one_stops e p = by r.rest r.stand r.stop
+  pub one_stops : (e : TypeError) → ((d : Decl) → StandsDecl N i d → Declares now new (declaration now.env.env.tags (program_of now) d) (Err e)) → Ends old (declarations old.env.env.tags (program_of old) ds) (Err e)
+  one_stops e p = by r.rest r.stand r.go_on
     where
       by : (rest : Decls) → StandDecls N (i ∷ is) rest
-          → ((k : Notes) (e : TypeError) → Found {B = Program} (notes_of now.env) k (λ x y. y ≡ x) (declarations old.env.env.tags (program_of now) rest) (Err e) → Found {B = Program} (notes_of old.env) k (λ x y. y ≡ x) (declarations old.env.env.tags (program_of old) ds) (Err e))
+          → ((k : Notes) (w : Result Program TypeError) → Found {B = Program} (large_noted now.env) k (λ x y. y ≡ x) (quiet (left (program_of now) rest)) w → Found {B = Program} (large_noted old.env) k (λ x y. y ≡ x) (quiet (left (program_of old) ds)) w)
           → Ends old (declarations old.env.env.tags (program_of old) ds) (Err e)
-      by NoDecls s stop = absurd cc
-      by (MoreDecls x xs) (j, js, q, s, t) stop =
+      by NoDecls s go = absurd cc
+      by (MoreDecls x xs) (j, js, q, s, t) go =
           let first : StandsDecl N i x = (let same : j ≡ i = cc in subst (λ z. StandsDecl N z x) same s) in
-          let here : Found {B = Unit {0}} (notes_of now.env) (notes_of new.env) (λ q _. program_of new ≡ q) (step x) (Err e) =
-          subst (λ g. Found {B = Unit {0}} (notes_of now.env) (notes_of new.env) (λ q _. program_of new ≡ q) (declaration g (program_of now) x) (Err e)) tags (p x first).agrees in
-          error_seen {B = Program} {C = Unit {0}} (notes_of old.env) (notes_of new.env) (notes_of old.env) (λ x y. y ≡ x) (λ _ _. Unit {0}) (declarations old.env.env.tags (program_of old) ds) e
-          (stop (notes_of new.env) e (stopped_in {B = Unit {0}} (notes_of now.env) (notes_of new.env) (notes_of new.env) (λ q _. program_of new ≡ q) (λ y z. z ≡ y) (step x) (λ q. declarations old.env.env.tags q xs) e here))
+          let here : Found {B = Unit {0}} (large_noted now.env) (large_noted new.env) (λ q _. program_of new ≡ q) (quiet (step x)) (Err e) =
+          subst (λ g. Found {B = Unit {0}} (large_noted now.env) (large_noted new.env) (λ q _. program_of new ≡ q) (quiet (declaration g (program_of now) x)) (Err e)) tags (p x first).agrees in
+          quiet_error {B = Program} {C = Unit {0}} (large_noted old.env) (large_noted new.env) (notes_of old.env) (notes_of old.env) (λ x y. y ≡ x) (λ _ _. Unit {0}) (declarations old.env.env.tags (program_of old) ds) e
+          (go (large_noted new.env) (Err e) (more (large_noted new.env) x xs (Err e) (stopped_in {B = Unit {0}} (large_noted now.env) (large_noted new.env) (large_noted new.env) (λ q _. program_of new ≡ q) (λ y z. z ≡ y) (quiet (step x)) (λ q. quiet (left q xs)) e here)))
 
 pub none_left : (N : Nodes) (old now : Declarations) (ds : Decls) → GoesOn old now → RestOfAll N old now [] ds → Ends old (declarations old.env.env.tags (program_of old) ds) (Ok now)
 none_left N old now ds g r = record { agrees = by r.rest r.stand r.go_on; kept = g }
   where
-    seen : (c : Checked Program) → Found {B = Program} (notes_of old.env) (notes_of now.env) (λ x y. y ≡ x) c (Ok (program_of now)) → Found {B = Unit {0}} (notes_of old.env) (notes_of now.env) (λ p _. program_of now ≡ p) c (Ok tt)
+    seen : (c : Checked Program) → Found {B = Program} (large_noted old.env) (large_noted now.env) (λ x y. y ≡ x) (quiet c) (Ok (program_of now)) → Found {B = Unit {0}} (large_noted old.env) (large_noted now.env) (λ p _. program_of now ≡ p) (quiet c) (Ok tt)
     seen (Fine x) q = q
     seen (Noted n x) q = q
     seen (Broken from rule) q = absurd q
 
     by : (rest : Decls) → StandDecls N [] rest
-        → ((k : Notes) (q : Program) → Found {B = Program} (notes_of now.env) k (λ x y. y ≡ x) (declarations old.env.env.tags (program_of now) rest) (Ok q) → Found {B = Program} (notes_of old.env) k (λ x y. y ≡ x) (declarations old.env.env.tags (program_of old) ds) (Ok q))
-        → Found {B = Unit {0}} (notes_of old.env) (notes_of now.env) (λ p _. program_of now ≡ p) (declarations old.env.env.tags (program_of old) ds) (Ok tt)
-    by NoDecls s go = seen (declarations old.env.env.tags (program_of old) ds) (go (notes_of now.env) (program_of now) (refl, refl))
+        → ((k : Notes) (w : Result Program TypeError) → Found {B = Program} (large_noted now.env) k (λ x y. y ≡ x) (quiet (declarations old.env.env.tags (program_of now) rest)) w → Found {B = Program} (large_noted old.env) k (λ x y. y ≡ x) (quiet (declarations old.env.env.tags (program_of old) ds)) w)
+        → Found {B = Unit {0}} (large_noted old.env) (large_noted now.env) (λ p _. program_of now ≡ p) (quiet (declarations old.env.env.tags (program_of old) ds)) (Ok tt)
+    by NoDecls s go = seen (declarations old.env.env.tags (program_of old) ds) (go (large_noted now.env) (Ok (program_of now)) (refl, refl))
     by (MoreDecls x xs) (j, js, e, s, t) go = absurd cc
 
 pub ends_failed : (old : Declarations) (c : Checked Program) (r : Result Declarations TypeError) (e : TypeError) → r ≡ Err e → Ends old c (Err e) → Ends old c r
@@ -168,17 +173,17 @@ unfolding whole
 none_shown l p true e = ap (λ x. unless p (first_limit (not x) p)) (sym e)
 none_shown l p false e = refl
 
-noted_on : (old new : Notes) (n : Declarations) (c : Checked Program) → old.large ≡ false → Found {B = Unit {0}} old new (λ p _. program_of n ≡ p) c (Ok tt) → decided (c >>= last) ≡ finished new.large (program_of n)
+noted_on : (k l : Bool) (n : Declarations) (c : Checked Program) → k ≡ false → Found {B = Unit {0}} (record { large = k; unevaluated = [] }) (record { large = l; unevaluated = [] }) (λ p _. program_of n ≡ p) (quiet c) (Ok tt) → decided (c >>= last) ≡ finished l (program_of n)
 unfolding last whole
-noted_on old new n (Fine p) e h = ap (λ q. decided (last q)) (sym h.0) ∙ none_shown new.large (program_of n) (has_main (program_of n).functions) (ap (λ m. m.large) h.1 ∙ e)
-noted_on old new n (Noted m p) e h =
-    let large : m.large ≡ new.large = sym (ap (λ k. k.large) h.1 ∙ either m.large old.large e) in
-    ap (λ q. decided (noting m (last q))) (sym h.0) ∙ shown m new.large (program_of n) (has_main (program_of n).functions) large
+noted_on k l n (Fine p) e h = ap (λ q. decided (last q)) (sym h.0) ∙ none_shown l (program_of n) (has_main (program_of n).functions) (ap (λ (m : Notes). m.large) h.1 ∙ e)
+noted_on k l n (Noted m p) e h =
+    let large : m.large ≡ l = sym (ap (λ (k : Notes). k.large) h.1 ∙ either m.large k e) in
+    ap (λ q. decided (noting m (last q))) (sym h.0) ∙ shown m l (program_of n) (has_main (program_of n).functions) large
   where
     either : (a b : Bool) → b ≡ false → (a || b) ≡ a
     either true b w = refl
     either false b w = w
-noted_on old new n (Broken from rule) e h = absurd h
+noted_on k l n (Broken from rule) e h = absurd h
 
 -- the outcome of a source is that of what it declares in the end
 pub outcome_is : (ds : Decls) (d n : Declarations) (tags : List (List ℕ)) → tags ≡ tags_of ds → DeclaresNothing tags d → Ends d (declarations d.env.env.tags (program_of d) ds) (Ok n) → outcome ds ≡ finished n.env.found_large (program_of n)
@@ -186,7 +191,7 @@ unfolding last
 outcome_is ds d n tags t h e =
     let file : d.env.env.tags ≡ tags_of ds = ap (λ x. x.tags) h.env ∙ t in
     let begun : declarations (tags_of ds) nothing ds ≡ declarations d.env.env.tags (program_of d) ds = ap (λ g. declarations g nothing ds) (sym file) ∙ ap (λ p. declarations d.env.env.tags p ds) (sym (from_nothing tags d h)) in
-    ap (λ c. decided (c >>= last)) begun ∙ noted_on (notes_of d.env) (notes_of n.env) n (declarations d.env.env.tags (program_of d) ds) h.small e.agrees
+    ap (λ c. decided (c >>= last)) begun ∙ noted_on d.env.found_large n.env.found_large n (declarations d.env.env.tags (program_of d) ds) h.small e.agrees
 
 pub outcome_stops : (ds : Decls) (d : Declarations) (tags : List (List ℕ)) (texts : List TextLiteral) (x : TypeError) → tags ≡ tags_of ds → DeclaresNothing tags d → Ends d (declarations d.env.env.tags (program_of d) ds) (Err x) → IsCheckedSource texts (tags_of ds) (outcome ds) (Err (by_type_error x))
 unfolding last

@@ -1,6 +1,10 @@
 mod Grown
 mod Followed
 mod Stepping
+mod Quieting
+mod Wider
+mod Adding
+mod Knowing
 mod Parts
 mod Tagged
 mod Gathered

@@ -1,5 +1,5 @@
 -- Functions and globals, after their annotations and types.
-use Rattle.std.proofs.Common.{◌≡◌, ℕ, List, Option, Some, Result, Ok, Err, refl, sym, ap, ◌∙◌, subst}
+use Rattle.std.proofs.Common.{◌≡◌, ℕ, false, List, Option, Some, Result, Ok, Err, OnOk, refl, sym, ap, ◌∙◌, subst}
 use Rattle.c_syntax.specs.declared.id.DeclId.{DeclId}
 use Rattle.c_syntax.specs.declared.declaration.Base.{Base}
 use Rattle.c_syntax.specs.declared.declaration.Base.TheVariants as bases
@@ -13,7 +13,7 @@ use Rattle.c_types_table.specs.declared.ids.TypeId.{TypeId}
 use Rattle.c_types_table.specs.declared.ty.Ty.{Ty}
 use Rattle.c_types_table.specs.declared.ty.Ty.TheVariants as nodes
 use Rattle.c_types_table.specs.Tables.{made, type_at, types_of}
-use Rattle.c_types_rules.specs.Checked.{Checked, ◌>>=◌}
+use Rattle.c_types_rules.specs.Checked.{Checked, ◌>>=◌, ◌>>◌}
 use Rattle.c_types_rules.specs.Environment.{Environment}
 use Rattle.c_types_rules.specs.Expressions.{annotation_types, declared_name, declared_type}
 use Rattle.c_types_rules.specs.Sources.{Program, at_file, declaration, function_or_global, struct_defined}
@@ -22,13 +22,16 @@ use Rattle.c_types_operators.specs.Answers.{IsNothing}
 use Rattle.c_types_environment.specs.States.{State, notes_of}
 use Rattle.c_types_expressions.specs.Found.{Finds, Found, IsType, Stays}
 use Rattle.c_types_expressions.proofs.Kept.{then_stay}
-use Rattle.c_types_expressions.proofs.Sequences.{stopped_before}
+use Rattle.c_types_expressions.proofs.Sequences.{gone_on, gone_on_after, passed, stopped_before, stopped_in}
 use Rattle.c_types.specs.declared.declarations.Declarations.{Declarations}
-use Rattle.c_types.specs.States.{Follows, IsSound, Steps, program_of}
+use Rattle.c_types.specs.Known.{ReadsAnnots}
+use Rattle.c_types.specs.Quiet.{large_noted, quiet}
+use Rattle.c_types.specs.States.{Declares, Follows, GoesOn, IsSound, program_of}
 use Rattle.c_types.specs.Pieces.{function_of, global_of, named, typed}
 use Rattle.c_types.proofs.Followed.{at_file_is, going_on, program_on, small_before, sound_on}
 use Rattle.c_types.proofs.Parts.{node_is}
-use Rattle.c_types.proofs.Stepping.{goes_to, stopped, then_steps, then_steps_after, then_stops}
+use Rattle.c_types.proofs.Quieting.{declares, quiet_after, quiet_found, quiet_then}
+use Rattle.c_types.proofs.Stepping.{goes_through, goes_to}
 
 -- the program that is declared is there
 abbrev pub IsProgramOf : Declarations → Program → Unit {0} → Type 0
@@ -47,38 +50,54 @@ module _ (N : Nodes) (i : DeclId) (e : DeclNode) (there : decl_at N i ≡ Some e
   abbrev file : Environment
   file = at_file tags (program_of d)
 
-  annotations_here : (s : State) (r : Result (Unit {0}) TypeError) → ((xs : Annots) → StandAnnots N e.annots xs → Finds d.env s IsNothing (annotation_types xs d.env.env) r) → (from : ℕ) (an : Annots) (b : Base) (ps : Parts) (n : Option (List ℕ)) (q : Rest) → StandsDecl N i (Declare from an b ps n q) → Found (notes_of d.env) (notes_of s) IsNothing (annotation_types an file) r
+  annotations_here : (s : State) (r : Result (Unit {0}) TypeError) → ReadsAnnots N i d.env s r → (from : ℕ) (an : Annots) (b : Base) (ps : Parts) (n : Option (List ℕ)) (q : Rest) → StandsDecl N i (Declare from an b ps n q) → Found (large_noted d.env) (large_noted s) IsNothing (quiet (annotation_types an file)) r
   annotations_here s r p from an b ps n q z =
-      subst (λ v. Found (notes_of d.env) (notes_of s) IsNothing (annotation_types an v) r) (sym (at_file_is d h)) (p an (node_is N i e from an b ps n q z there).annots)
+      subst (λ v. Found (large_noted d.env) (large_noted s) IsNothing (quiet (annotation_types an v)) r) (sym (at_file_is d h)) (p e an there (node_is N i e from an b ps n q z there).annots)
 
-  pub annotations_stop : (s : State) (x : TypeError) → ((xs : Annots) → StandAnnots N e.annots xs → Finds d.env s IsNothing (annotation_types xs d.env.env) (Err x)) → (y : Decl) → StandsDecl N i y → Follows d (going_on d s) (named tags (program_of d) y) (Err x)
+  pub annotations_stop : (s : State) (x : TypeError) → ReadsAnnots N i d.env s (Err x) → (y : Decl) → StandsDecl N i y → Declares d (going_on d s) (named tags (program_of d) y) (Err x)
   annotations_stop s x p (Declare from an b ps n q) z =
-      stopped d (going_on d s) (IsProgramOf (going_on d s)) _ x
-      (stopped_before (notes_of d.env) (notes_of s) (notes_of s) IsNothing (IsProgramOf (going_on d s)) (annotation_types an file) (by_type tags (program_of d) (Declare from an b ps n q)) x (annotations_here s (Err x) p from an b ps n q z))
+      let rest : Checked Program = by_type tags (program_of d) (Declare from an b ps n q) in
+      record {
+        agrees = passed (large_noted d.env) (large_noted s) (IsProgramOf (going_on d s)) _ _ (Err x) (quiet_after (annotation_types an file) rest)
+            (stopped_before (large_noted d.env) (large_noted s) (large_noted s) IsNothing (IsProgramOf (going_on d s)) (quiet (annotation_types an file)) (quiet rest) x (annotations_here s (Err x) p from an b ps n q z));
+        kept = tt;
+      }
 
-  module _ (s : State) (p : (xs : Annots) → StandAnnots N e.annots xs → Finds d.env s IsNothing (annotation_types xs d.env.env) (Ok tt)) (k : Stays d.env s) where
+  module _ (s : State) (p : ReadsAnnots N i d.env s (Ok tt)) (k : Stays d.env s) where
     sound_one : (from : ℕ) (an : Annots) (b : Base) (ps : Parts) (n : Option (List ℕ)) (q : Rest) → StandsDecl N i (Declare from an b ps n q) → IsSound (going_on d s)
-    sound_one from an b ps n q z = sound_on d s k h (small_before (notes_of d.env) (notes_of s) IsNothing (annotation_types an file) tt (annotations_here s (Ok tt) p from an b ps n q z))
-
-    one_step : (from : ℕ) (an : Annots) (b : Base) (ps : Parts) (n : Option (List ℕ)) (q : Rest) → StandsDecl N i (Declare from an b ps n q) → Steps d (going_on d s) IsNothing (annotation_types an file) (Ok tt)
-    one_step from an b ps n q z = record { agrees = annotations_here s (Ok tt) p from an b ps n q z; kept = goes_to d s k (sound_one from an b ps n q z) }
+    sound_one from an b ps n q z = sound_on d s k h (small_before (large_noted d.env) (large_noted s) IsNothing (quiet (annotation_types an file)) tt (annotations_here s (Ok tt) p from an b ps n q z))
 
     type_here : (u : State) (r : Result TypeId TypeError) → ((y : Decl) → StandsDecl N i y → Finds s u (IsType u.table) (declared_type y s.env) r) → (y : Decl) → StandsDecl N i y → Found (notes_of s) (notes_of u) (IsType u.table) (declared_type y file) r
     type_here u r t y z = subst (λ v. Found (notes_of s) (notes_of u) (IsType u.table) (declared_type y v) r) (k.env ∙ sym (at_file_is d h)) (t y z)
 
-    pub type_stops : (u : State) (x : TypeError) → ((y : Decl) → StandsDecl N i y → Finds s u (IsType u.table) (declared_type y s.env) (Err x)) → (y : Decl) → StandsDecl N i y → Follows d (going_on d u) (named tags (program_of d) y) (Err x)
+    -- after the annotations
+    followed : (new : Declarations) (r : Result (Unit {0}) TypeError) (from : ℕ) (an : Annots) (b : Base) (ps : Parts) (n : Option (List ℕ)) (q : Rest) → StandsDecl N i (Declare from an b ps n q)
+        → Found {B = Unit {0}} (large_noted s) (large_noted new.env) (IsProgramOf new) (quiet (declared_type (Declare from an b ps n q) file) >>= (λ c. quiet (function_or_global tags (program_of d) from (declared_name n) c ps q))) r
+        → Found {B = Unit {0}} (large_noted d.env) (large_noted new.env) (IsProgramOf new) (quiet (named tags (program_of d) (Declare from an b ps n q))) r
+    followed new r from an b ps n q z f =
+        let rest : Checked Program = by_type tags (program_of d) (Declare from an b ps n q) in
+        passed (large_noted d.env) (large_noted new.env) (IsProgramOf new) _ _ r (quiet_after (annotation_types an file) rest)
+        (gone_on_after (large_noted d.env) (large_noted s) (large_noted new.env) IsNothing (IsProgramOf new) (quiet (annotation_types an file)) (quiet rest) tt r (annotations_here s (Ok tt) p from an b ps n q z)
+        (passed (large_noted s) (large_noted new.env) (IsProgramOf new) _ _ r (quiet_then (declared_type (Declare from an b ps n q) file) (λ c. function_or_global tags (program_of d) from (declared_name n) c ps q)) f))
+
+    pub type_stops : (u : State) (x : TypeError) → ((y : Decl) → StandsDecl N i y → Finds s u (IsType u.table) (declared_type y s.env) (Err x)) → (y : Decl) → StandsDecl N i y → Declares d (going_on d u) (named tags (program_of d) y) (Err x)
     type_stops u x t (Declare from an b ps n q) z =
-        then_steps_after d (going_on d s) (going_on d u) IsNothing (IsProgramOf (going_on d u)) (annotation_types an file) (by_type tags (program_of d) (Declare from an b ps n q)) tt (Err x)
-        (one_step from an b ps n q z)
-        (then_stops (going_on d s) (going_on d u) (going_on d u) (IsType u.table) (IsProgramOf (going_on d u)) (declared_type (Declare from an b ps n q) file) (λ c. function_or_global tags (program_of d) from (declared_name n) c ps q) x
-        (type_here u (Err x) t (Declare from an b ps n q) z))
+        let y : Decl = Declare from an b ps n q in
+        record {
+          agrees = followed (going_on d u) (Err x) from an b ps n q z
+              (stopped_in (large_noted s) (large_noted u) (large_noted u) (IsType u.table) (IsProgramOf (going_on d u)) (quiet (declared_type y file)) (λ c. quiet (function_or_global tags (program_of d) from (declared_name n) c ps q)) x
+              (quiet_found (notes_of s) (notes_of u) (IsType u.table) (declared_type y file) (Err x) (type_here u (Err x) t y z)));
+          kept = tt;
+        }
 
     module _ (u : State) (ty : TypeId) (t : (y : Decl) → StandsDecl N i y → Finds s u (IsType u.table) (declared_type y s.env) (Ok ty)) (l : Stays s u) where
-      pub sound_two : (y : Decl) → StandsDecl N i y → IsSound (going_on d u)
-      sound_two (Declare from an b ps n q) z =
-          sound_on (going_on d s) u l (sound_one from an b ps n q z) (small_before (notes_of s) (notes_of u) (IsType u.table) (declared_type (Declare from an b ps n q) file) ty (type_here u (Ok ty) t (Declare from an b ps n q) z))
+      pub small_type : (y : Decl) → StandsDecl N i y → u.found_large ≡ false → s.found_large ≡ false
+      small_type y z = small_before (notes_of s) (notes_of u) (IsType u.table) (declared_type y file) ty (type_here u (Ok ty) t y z)
 
-      pub type_goes_on : (new : Declarations) (r : Result (Unit {0}) TypeError) → ((y : Decl) → StandsDecl N i y → Follows (going_on d u) new (typed u.env.tags (program_of (going_on d u)) (type_at u.table.types ty) y) r) → (y : Decl) → StandsDecl N i y → Follows d new (named tags (program_of d) y) r
+      pub sound_two : (y : Decl) → StandsDecl N i y → IsSound (going_on d u)
+      sound_two (Declare from an b ps n q) z = sound_on (going_on d s) u l (sound_one from an b ps n q z) (small_type (Declare from an b ps n q) z)
+
+      pub type_goes_on : (new : Declarations) (r : Result (Unit {0}) TypeError) → ((y : Decl) → StandsDecl N i y → Follows (going_on d u) new (typed u.env.tags (program_of (going_on d u)) (type_at u.table.types ty) y) r) → (y : Decl) → StandsDecl N i y → Declares d new (named tags (program_of d) y) r
       type_goes_on new r f (Declare from an b ps n q) z =
           let y : Decl = Declare from an b ps n q in
           let both : Stays d.env u = then_stay _ _ _ k l in
@@ -87,11 +106,17 @@ module _ (N : Nodes) (i : DeclId) (e : DeclNode) (there : decl_at N i ≡ Some e
           let last : Follows (going_on d u) new (function_or_global tags (program_of d) from (declared_name n) (type_at u.table.types ty) ps q) r =
           subst (λ v. Follows (going_on d u) new (function_or_global v (program_of d) from (declared_name n) (type_at u.table.types ty) ps q) r) (ap (λ v. v.tags) both.env)
           (subst (λ v. Follows (going_on d u) new (function_or_global u.env.tags v from (declared_name n) (type_at u.table.types ty) ps q) r) same (f y z)) in
-          then_steps_after d (going_on d s) new IsNothing (IsProgramOf new) (annotation_types an file) (by_type tags (program_of d) y) tt r
-          (one_step from an b ps n q z)
-          (then_steps (going_on d s) (going_on d u) new (IsType u.table) (IsProgramOf new) (declared_type y file) (λ c. function_or_global tags (program_of d) from (declared_name n) c ps q) ty r
-          (record { agrees = type_here u (Ok ty) t y z; kept = goes_to (going_on d s) u l sound })
-          (λ c w. subst (λ v. Follows (going_on d u) new (function_or_global tags (program_of d) from (declared_name n) v ps q) r) w.is last))
+          record {
+            agrees = followed new r from an b ps n q z
+                (gone_on (large_noted s) (large_noted u) (large_noted new.env) (IsType u.table) (IsProgramOf new) (quiet (declared_type y file)) (λ c. quiet (function_or_global tags (program_of d) from (declared_name n) c ps q)) ty r
+                (quiet_found (notes_of s) (notes_of u) (IsType u.table) (declared_type y file) (Ok ty) (type_here u (Ok ty) t y z))
+                (λ c w. subst (λ v. Found {B = Unit {0}} (large_noted u) (large_noted new.env) (IsProgramOf new) (quiet (function_or_global tags (program_of d) from (declared_name n) v ps q)) r) w.is (declares (going_on d u) new _ r last).agrees));
+            kept = goes r last.kept (goes_to d u both sound);
+          }
+        where
+          goes : (r : Result (Unit {0}) TypeError) → OnOk r (GoesOn (going_on d u) new) → GoesOn d (going_on d u) → OnOk r (GoesOn d new)
+          goes (Ok x) v w = goes_through d (going_on d u) new w v
+          goes (Err x) v w = tt
 
 -- ---- by its type
 

@@ -36,6 +36,10 @@ inside N i (Declare from an b ps n r) (e, at, f, a, p, q, m, s) = slice_get_with
 pub decl_inside : (N : Nodes) (i : DeclId) → IsDecl N i → i.0 < length N.decls
 decl_inside N i (d, s, f) = inside N i d s
 
+-- the node of a declaration
+pub node_of : (N : Nodes) (i : DeclId) → IsDecl N i → (e : DeclNode) × (decl_at N i ≡ Some e)
+node_of N i (Declare from an b ps n r, (e, at, f, a, p, q, m, s), f') = (e, at)
+
 -- ---- parts whose numbers fit
 
 pub annots_of : (N : Nodes) (i : DeclId) (e : DeclNode) → IsDecl N i → decl_at N i ≡ Some e → AreAnnots N e.annots

@@ -1,5 +1,7 @@
 pub mod Errors
 pub mod Sources
+pub mod Quiet
+pub mod Known
 pub mod States
 pub mod Members
 pub mod Pieces

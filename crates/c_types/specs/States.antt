@@ -13,6 +13,7 @@ use Rattle.c_types_operators.specs.declared.error.TypeError.{TypeError}
 use Rattle.c_types_program.specs.Declarations.{IsFunction, IsGlobal, function_in, global_in}
 use Rattle.c_types_expressions.specs.Found.{Finds, Found}
 use Rattle.c_types.specs.declared.declarations.Declarations.{Declarations}
+use Rattle.c_types.specs.Quiet.{large_noted, quiet}
 use Rattle.c_types.specs.Sources.{IsSmall}
 
 -- the program that is declared
@@ -66,8 +67,16 @@ Follows old new c r = Steps old new (λ p _. program_of new ≡ p) c r
 abbrev pub IsFunctionPlace : (new : Declarations) → ℕ × Program → ℕ → Type 0
 IsFunctionPlace new a place = (program_of new ≡ a.1) × (place ≡ a.0 - first_source_function)
 
+-- the program that the rules find is declared, where nothing is told of what stands unevaluated outside
+-- bodies and values
+pub record Declares (old new : Declarations) (c : Checked Program)
+    (r : Result (Unit {0}) TypeError) : Type 0 where
+  pub agrees : Found {B = Unit {0}} (large_noted old.env) (large_noted new.env) (λ p _.
+      program_of new ≡ p) (quiet c) r
+  pub kept : OnOk r (GoesOn old new)
+
 -- the program that the rules find is declared in the end, or the rule that is broken is named
 abbrev pub Ends : (old : Declarations) → Checked Program → Result Declarations TypeError → Type 0
-Ends old c (Ok new) = Steps {B = Unit {0}} old new (λ p _. program_of new ≡ p) c (Ok tt)
+Ends old c (Ok new) = Declares old new c (Ok tt)
 Ends old c (Err e) = Found {A = Program} {B = Unit {0}} (notes_of old.env) (notes_of old.env) (λ _ _.
     Unit {0}) c (Err e)

@@ -10,13 +10,14 @@ ghost use Rattle.c_types_rules.specs.Sources.{member_of as member_by_rules, memb
 ghost use Rattle.c_types_nodes.specs.Tables.{Table};
 ghost use Rattle.c_types_operators.specs.Answers.{Agrees};
 ghost use Rattle.c_types_expressions.specs.Found.{Finds, Stays};
+ghost use Rattle.c_types_expressions.specs.Specified.{IsSpecified};
 ghost use Rattle.c_types_expressions.specs.Walks.{AreDecls, IsDecl};
 ghost use Rattle.c_types.specs.Members.{AreBelow, members_in};
 ghost use Rattle.c_types.specs.Pieces.{named_member};
 
 use c_syntax::{Decl, DeclId, Tree};
 use c_types_environment::{Environment, is_reserved};
-use c_types_expressions::declared_type;
+use c_types_expressions::{Specified, declared_type_after};
 use c_types_operators::TypeError;
 use c_types_structs::Members;
 use c_types_table::TypeId;
@@ -56,18 +57,21 @@ fn add_member(
     tree: &Tree,
     members: &mut Members,
     id: DeclId,
+    known: &mut Option<Specified>,
 ) -> Result<(), TypeError>
     requires id { IsDecl tree.now id }
+    requires known { IsSpecified env.old tree.now known.old }
     requires below { AreBelow env.old.table members.old }
     ensures agrees { (d : syntax.Decl) → StandsDecl tree.now id d →
         Finds env.old env.new (λ m _. members_in env.new.table members.new ≡
         members_in env.old.table members.old ++
         m ∷ []) (member_by_rules env.old.env (members_in env.old.table members.old) d) result }
     ensures below { OnOk result (AreBelow env.new.table members.new) }
+    ensures known { OnOk result (IsSpecified env.new tree.now known.new) }
     ensures kept { Stays env.old env.new }
 {
     let decl = tree.decl(id);
-    let ty = declared_type(env, tree, id)?;
+    let ty = declared_type_after(env, tree, id, known)?;
     env.complete(decl.from, ty)?;
     add(members, decl.from, name_of(decl), ty)
 }
@@ -87,8 +91,9 @@ pub(crate) fn members_of(
     ensures kept { Stays env.old env.new }
 {
     let mut members = Members::new(env.alloc());
+    let mut known = None;
     for id in ids {
-        add_member(env, tree, &mut members, *id)?;
+        add_member(env, tree, &mut members, *id, &mut known)?;
     }
     Ok(members)
 }

@@ -69,8 +69,9 @@ fn all_declared(declared: Declarations, tree: &Tree) -> Result<Declarations, Typ
         Ends declared (declarations_by_rules declared.env.env.tags (program_of declared) ds) result }
 {
     let mut declared = declared;
+    let mut known = None;
     for id in tree.top() {
-        declared.declaration(tree, *id)?;
+        declared.declaration(tree, *id, &mut known)?;
     }
     Ok(declared)
 }

@@ -16,5 +16,6 @@ pub mod ParameterLists
 pub mod ArgumentLists
 pub mod AnnotationSteps
 pub mod PartSteps
+pub mod Specifying
 pub mod CallSteps
 pub mod ParameterSteps

@@ -9,6 +9,7 @@ ghost use Rattle.c_types_table.specs.Tables.{IsBelow, type_at};
 ghost use Rattle.c_types_rules.specs.Expressions.{declared_name};
 ghost use Rattle.c_types_rules.specs.Statements.{first_value as first_value_by_rules, local as local_by_rules, locals_of as locals_by_rules};
 ghost use Rattle.c_types_expressions.specs.Found.{Finds, IsType, Stays, StaysAround};
+ghost use Rattle.c_types_expressions.specs.Specified.{IsSpecified};
 ghost use Rattle.c_types_expressions.specs.Walks.{AreDecls, IsDecl, IsExpr};
 ghost use Rattle.c_types_statements.specs.Pieces.{local_scope, local_type as local_type_by_rules};
 ghost use Rattle.c_types_statements.specs.Typed.{AddsDeclared, IsLocal, StatementsStand, declared_in, listed};
@@ -20,20 +21,27 @@ use crate::values::converted;
 use c_lexer::Text;
 use c_syntax::{DeclId, ExprId, Rest, Tree, Value};
 use c_types_environment::{Environment, Meaning};
-use c_types_expressions::declared_type;
+use c_types_expressions::{Specified, declared_type_after};
 use c_types_operators::TypeError;
 use c_types_program::Statement;
 use c_types_table::TypeId;
 use std::alloc::AllocError;
 
 // The type of a local, which is that of a complete object (C11 6.7, 7).
-fn local_type(env: &mut Environment, tree: &Tree, id: DeclId) -> Result<TypeId, TypeError>
-    requires { IsDecl tree.now id }
+fn local_type(
+    env: &mut Environment,
+    tree: &Tree,
+    id: DeclId,
+    known: &mut Option<Specified>,
+) -> Result<TypeId, TypeError>
+    requires id { IsDecl tree.now id }
+    requires known { IsSpecified env.old tree.now known.old }
     ensures agrees { (d : Decl) → StandsDecl tree.now id d →
         Finds env.old env.new (IsType env.new.table) (local_type_by_rules env.old.env d) result }
+    ensures known { OnOk result (IsSpecified env.new tree.now known.new) }
     ensures kept { Stays env.old env.new }
 {
-    let ty = declared_type(env, tree, id)?;
+    let ty = declared_type_after(env, tree, id, known)?;
     env.complete(tree.decl(id).from, ty)?;
     Ok(ty)
 }
@@ -132,17 +140,20 @@ fn local(
     locals: &mut Vec<TypeId>,
     tree: &Tree,
     id: DeclId,
+    known: &mut Option<Specified>,
 ) -> Result<Option<Statement>, TypeError>
     requires id { IsDecl tree.now id }
+    requires known { IsSpecified env.old tree.now known.old }
     requires locals { All (IsBelow (length env.old.table.types)) locals.old.items }
     ensures agrees { (d : Decl) → StandsDecl tree.now id d →
         Finds env.old env.new (IsLocal env.new locals.new.items)
         (local_by_rules d (declared_in env.old locals.old.items)) result }
+    ensures known { OnOk result (IsSpecified env.new tree.now known.new) }
     ensures kept { StaysAround env.old env.new }
     ensures locals { All (IsBelow (length env.new.table.types)) locals.new.items }
 {
     let decl = tree.decl(id);
-    let ty = local_type(env, tree, id)?;
+    let ty = local_type(env, tree, id, known)?;
     let place = declare(env, decl.from, &decl.name, locals.len(), ty)?;
     let first = first_value(env, tree, decl.from, place, ty, &decl.rest)?;
     append(locals, ty)?;
@@ -178,8 +189,9 @@ pub fn declare_locals(
     ensures kept { StaysAround env.old env.new }
     ensures locals { All (IsBelow (length env.new.table.types)) locals.new.items }
 {
+    let mut known = None;
     for id in ids {
-        let first = local(env, locals, tree, *id)?;
+        let first = local(env, locals, tree, *id, &mut known)?;
         push(statements, first)?;
     }
     Ok(())

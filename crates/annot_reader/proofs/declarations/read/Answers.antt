@@ -1,4 +1,4 @@
-use Rattle.std.proofs.Common.{Ok, Err, ap, ◌∙◌, subst, arith}
+use Rattle.std.proofs.Common.{Ok, Err, sym, ap, ◌∙◌, subst, arith}
 use Rattle.c_scopes.specs.Scopes.{innermost}
 use Rattle.c_syntax.specs.declared.id.DeclId.{DeclId}
 use Rattle.c_syntax.specs.Stands.{StandsDecl}
@@ -9,6 +9,7 @@ use Rattle.annot_reader_words.specs.Answers.{Tells}
 use Rattle.annot_reader_words.proofs.Composing.{raised, same_tells}
 use Rattle.annot_reader_words.proofs.Folding.{at_end, at_first, broken_next, fold, past_next}
 use Rattle.annot_reader_words.proofs.Lists.{decls_in, decls_stand}
+use Rattle.annot_reader_functions.specs.Known.{AreKnown}
 use Rattle.annot_reader_functions.proofs.Saying.{stays_here, stays_through}
 use Rattle.annot_reader.specs.Reading.{AreRead, IsReading, noted_step, nothing_read}
 use Rattle.annot_reader.proofs.Headed.{headings_stay, numbers_stay}
@@ -27,7 +28,8 @@ loop-id-init c = (
       let cut = c.args.source.now.cut.now in
       let step = noted_step (declared_by c.args.env.now).env p in
       let js = IsReading cut in
-      (nothing_read, c.new-reading.ensures cut, at_first (StandsDecl N) step js js c.args.ids.now (decls_in ds) nothing_read (decls_stand N c.args.ids.now ds h)),
+      (nothing_read, c.new-reading.ensures.read cut, at_first (StandsDecl N) step js js c.args.ids.now (decls_in ds) nothing_read (decls_stand N c.args.ids.now ds h)),
+  subst (AreKnown c.args.source.now.tree.now c.args.source.now.cut.now) (sym c.new-reading.ensures.known) tt,
 )
 
 pub note-requires-clause-id : goal.note-requires-clause-id
@@ -35,6 +37,9 @@ note-requires-clause-id c = decl_at c.args.source.now.tree.now c.args.ids.now c.
 
 pub note-requires-clause-numbers : goal.note-requires-clause-numbers
 note-requires-clause-numbers c = numbers_stay _ _ c.loop-id.invariant.0 c.args.source.now.functions.now c.requires.numbers
+
+pub note-requires-clause-known : goal.note-requires-clause-known
+note-requires-clause-known c = c.loop-id.invariant.2
 
 pub loop-id-preserved : goal.loop-id-preserved
 loop-id-preserved c = (
@@ -52,6 +57,7 @@ loop-id-preserved c = (
       past_next (StandsDecl N) step is js c.args.ids.now c.loop-id.id-index none i.0 (fold step (decls_in ds) nothing_read) tt (omega arith) i.2
       (λ x t. subst (λ (e : Environment). Tells is (noted_step e p x i.0) (Ok tt)) stays.env
       (c.in_ok-note.ensures.agrees x p i.0 t (headings_stay before now stays c.args.source.now.functions.now p.functions c.requires.numbers k) (ap (λ (e : Environment). innermost e.scopes) stays.env ∙ n) i.1)),
+  c.in_ok-note.ensures.known,
 )
 
 pub returns-in_err-note-clause-agrees : goal.returns-in_err-note-clause-agrees

@@ -6,6 +6,7 @@ use Rattle.c_types_rules.specs.Sources.{Program}
 use Rattle.annot_reader_rules.specs.Notes.{Annotated}
 use Rattle.annot_reader_words.proofs.Folding.{Decides, fold}
 use Rattle.annot_reader_words.proofs.Lists.{decls_in}
+use Rattle.annot_reader_functions.specs.Known.{AreKnown}
 use Rattle.annot_reader_functions.specs.Rules.{Stays}
 use Rattle.annot_reader.specs.Headings.{AreHeadings}
 use Rattle.annot_reader.specs.Reading.{AreRead, IsReading, noted_step, nothing_read}
@@ -18,4 +19,5 @@ invariant-loop-id l =
     let before = declared_by l.fn.env in
     Stays before (declared_by l.env) ×
     ((ds : Decls) (p : Program) → StandDecls l.source.tree.now l.ids ds → AreHeadings before l.source.functions.now p.functions → innermost before.env.scopes ≡ p.names →
-    (a : Annotated) × AreRead l.source.cut.now a l.reading × Decides (StandsDecl l.source.tree.now) (noted_step before.env p) (IsReading l.source.cut.now) (drop l.id-index l.ids) a (fold (noted_step before.env p) (decls_in ds) nothing_read))
+    (a : Annotated) × AreRead l.source.cut.now a l.reading × Decides (StandsDecl l.source.tree.now) (noted_step before.env p) (IsReading l.source.cut.now) (drop l.id-index l.ids) a (fold (noted_step before.env p) (decls_in ds) nothing_read)) ×
+    AreKnown l.source.tree.now l.source.cut.now l.reading.known

@@ -17,7 +17,7 @@ pub returns-in_err-complete-clause-agrees : goal.returns-in_err-complete-clause-
 returns-in_err-complete-clause-agrees c =
     let q = err_from_is_err_and c.from_residual-in_err-complete.result c.from_residual-in_err-complete.ensures.1 in
     let a = c.args.env.now in
-    let b = c.declared_type.new.env in
+    let b = c.declared_type_after.new.env in
     let ms = c.args.members.now in
     let is = MemberIs (members_in a.table ms) (members_in b.table ms) in
     λ y z. found_failed (notes_of a) (notes_of b) is _ c.from_residual-in_err-complete.result c.in_err-complete.field-0.0 (q.1 ∙ ap Err q.2)
@@ -26,7 +26,7 @@ returns-in_err-complete-clause-agrees c =
 pub returns-clause-agrees : goal.returns-clause-agrees
 returns-clause-agrees c =
     let a = c.args.env.now in
-    let b = c.declared_type.new.env in
+    let b = c.declared_type_after.new.env in
     let e = c.decl-decl.result.now in
     let ms = c.args.members.now in
     let now = members_in b.table c.add.new.members in

@@ -46,6 +46,7 @@ loop-id-preserved c =
     record {
       kept = then_stay _ _ _ c.loop-id.invariant.kept c.in_ok-add_member.ensures.kept;
       below = c.in_ok-add_member.ensures.below;
+      known = c.in_ok-add_member.ensures.known;
       rest = λ ds s.
           let left = subst (λ v. RestOfMembers N a.env (notes_of a) (notes_of now) v ds before) (ids_left ids k (record { 0 = 0 }) c.loop-id-test.true) (c.loop-id.invariant.rest ds s) in
           subst (λ n. RestOfMembers N a.env (notes_of a) (notes_of new) (drop n ids) ds after) (sym (add-one k))

@@ -11,6 +11,7 @@ use Rattle.c_types.proofs.whole.all_declared.Goals as goal
 pub loop-id-init : goal.loop-id-init
 loop-id-init c = record {
   goes = stands_still c.args.declared c.requires.sound;
+  known = tt;
   rest = λ ds h. all_left c.args.tree.now c.args.declared c.top-id-items.result.now ds (subst (λ v. StandDecls c.args.tree.now v ds) (sym c.top-id-items.ensures.tops) h);
 }
 
@@ -29,7 +30,7 @@ returns-in_err-declaration c =
     λ ds h.
     let left = subst (λ v. RestOfAll N d now v ds) (ids_left ids k (record { 0 = 0 }) c.loop-id-test.true) (c.loop-id.invariant.rest ds h) in
     ends_failed d _ c.from_residual.result x (q.1 ∙ ap Err q.2)
-    (one_stops N d now c.declaration.new.self (get_or ids k (record { 0 = 0 })) (drop (suc k) ids) ds left c.loop-id.invariant.goes.tags x c.in_err-declaration.ensures)
+    (one_stops N d now c.declaration.new.self (get_or ids k (record { 0 = 0 })) (drop (suc k) ids) ds left c.loop-id.invariant.goes.tags x c.in_err-declaration.ensures.agrees)
 
 pub loop-id-preserved : goal.loop-id-preserved
 loop-id-preserved c =
@@ -41,11 +42,12 @@ loop-id-preserved c =
     let new = c.declaration.new.self in
     let there = one_of_all N ids k (record { 0 = 0 }) (subst (AreDecls N) (sym c.top-id-items.ensures.tops) c.requires.source) c.loop-id-test.true in
     record {
-      goes = goes_through d now new c.loop-id.invariant.goes (c.in_ok-declaration.ensures there.0 there.1).kept;
+      goes = goes_through d now new c.loop-id.invariant.goes (c.in_ok-declaration.ensures.agrees there.0 there.1).kept;
+      known = c.in_ok-declaration.ensures.known;
       rest = λ ds h.
           let left = subst (λ v. RestOfAll N d now v ds) (ids_left ids k (record { 0 = 0 }) c.loop-id-test.true) (c.loop-id.invariant.rest ds h) in
           subst (λ n. RestOfAll N d new (drop n ids) ds) (sym (add-one k))
-          (one_done N d now new (get_or ids k (record { 0 = 0 })) (drop (suc k) ids) ds left c.loop-id.invariant.goes.tags c.in_ok-declaration.ensures);
+          (one_done N d now new (get_or ids k (record { 0 = 0 })) (drop (suc k) ids) ds left c.loop-id.invariant.goes.tags c.in_ok-declaration.ensures.agrees);
     }
 
 pub returns : goal.returns

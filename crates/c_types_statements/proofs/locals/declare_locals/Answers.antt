@@ -12,11 +12,12 @@ pub loop-id-init : goal.loop-id-init
 loop-id-init c = record {
   kept = stay_around _ _ (stay c.args.env.now);
   below = c.requires.locals;
+  known = tt;
   read = λ ds h. no_local_read c.args.tree.now c.args.ids.now ds c.args.env.now c.args.statements.now.items c.args.locals.now.items h;
 }
 
 pub local-requires : goal.local-requires
-local-requires c = record { id = decl_among c.args.tree.now c.args.ids.now c.loop-id.id-index (record { 0 = 0 }) (omega arith) c.requires.ids; locals = c.loop-id.invariant.below }
+local-requires c = record { id = decl_among c.args.tree.now c.args.ids.now c.loop-id.id-index (record { 0 = 0 }) (omega arith) c.requires.ids; known = c.loop-id.invariant.known; locals = c.loop-id.invariant.below }
 
 pub loop-id-preserved : goal.loop-id-preserved
 loop-id-preserved c =
@@ -24,6 +25,7 @@ loop-id-preserved c =
     record {
       kept = then_stay_around _ _ _ c.loop-id.invariant.kept c.in_ok-first.ensures.kept;
       below = c.in_ok-first.ensures.locals;
+      known = c.in_ok-first.ensures.known;
       read = λ ds h. local_read c.args.tree.now c.args.ids.now ds c.args.env.now c.args.statements.now.items d c.loop-id.id-index c.loop-id.env c.loop-id.locals.items c.loop-id.statements.items (c.loop-id.invariant.read ds h) (record { 0 = 0 })
           c.local.new.env c.local.new.locals.items c.in_ok-first.first c.push.new.statements.items (omega arith) c.in_ok-first.ensures.kept.numbers c.in_ok-first.ensures.agrees c.in_ok-push.ensures;
     }

@@ -4,6 +4,7 @@ use Rattle.std.specs.List.{All}
 use Rattle.c_types_table.specs.Tables.{IsBelow, type_at}
 use Rattle.c_types_rules.specs.Statements.{local}
 use Rattle.c_types_expressions.specs.Found.{Finds}
+use Rattle.c_types_expressions.proofs.Specifying.{specified_on}
 use Rattle.c_types_expressions.proofs.Kept.{stay_around, then_kept, then_stay_around, type_inside}
 use Rattle.c_types_expressions.proofs.Wholes.{failed, type_found}
 use Rattle.c_types_statements.specs.Pieces.{local_scope}
@@ -115,3 +116,8 @@ pub returns-in_err-append-clause-locals : goal.returns-in_err-append-clause-loca
 returns-in_err-append-clause-locals c =
     let later = then_kept _ _ _ c.in_ok-place.ensures.kept.numbers c.in_ok-first.ensures.kept.numbers in
     subst (All (IsBelow (length c.first_value.new.env.table.types))) (sym c.in_err-append.ensures.err) (below_kept _ _ _ (then_kept _ _ _ c.in_ok-ty.ensures.kept.numbers later) c.requires.locals)
+
+pub returns-clause-known : goal.returns-clause-known
+returns-clause-known c =
+    let later = then_kept _ _ _ c.in_ok-place.ensures.kept.numbers c.in_ok-first.ensures.kept.numbers in
+    specified_on c.local_type.new.env c.first_value.new.env c.args.tree.now c.local_type.new.known later (ap (λ e. e.tags) c.in_ok-first.ensures.kept.env ∙ c.in_ok-place.ensures.kept.tags) c.in_ok-ty.ensures.known

@@ -3,8 +3,8 @@ use Rattle.annot_reader.specs.Reading.{AreMutexes}
 use Rattle.annot_reader.proofs.Noting.{global_tells, mutex_after}
 use Rattle.annot_reader.proofs.reading.Reading.global.Goals as goal
 
-pub returns : goal.returns
-returns c = λ d cut a h r.
+pub returns-clause-agrees : goal.returns-clause-agrees
+returns-clause-agrees c = λ d cut a h r.
     global_tells cut _ d a c.in_ok-guard.guard (c.in_ok-guard.ensures d h)
     (λ m k. record {
       functions = r.functions;
