@@ -90,23 +90,30 @@ fn first_byte(alloc: Global, memory: &mut Spaces, kind: Kind) -> anyhow::Result<
     Ok(addr)
 }
 
-/// What so many accesses of a kind make over the memory of a run.
-pub fn over_spaces(alloc: Global, kind: Kind, rounds: u64) -> anyhow::Result<u64> {
-    let mut memory = fresh_memory(alloc)?;
-    let base = first_byte(alloc, &mut memory, kind)?;
+// What so many accesses of a kind make over this memory.
+fn over(alloc: Global, memory: &mut Spaces, kind: Kind, rounds: u64) -> anyhow::Result<u64>
+    requires { length memory.old.held.depths ≡ THREADS }
+{
+    let base = first_byte(alloc, memory, kind)?;
     let width = kind.width();
     let pattern = Pattern { width, rounds };
     match kind {
-        Kind::Constants => Ok(spaces::loads(&memory, kind.side(), CONSTANTS.addr, pattern)?),
-        Kind::Ranges => Ok(spaces::ranges(alloc, &mut memory, kind.side(), base, rounds)?),
+        Kind::Constants => Ok(spaces::loads(memory, kind.side(), CONSTANTS.addr, pattern)?),
+        Kind::Ranges => Ok(spaces::ranges(alloc, memory, kind.side(), base, rounds)?),
         Kind::Words
         | Kind::Ints
         | Kind::Shorts
         | Kind::Bytes
         | Kind::Below
         | Kind::Beside
-        | Kind::Handed => Ok(spaces::turns(&mut memory, kind.side(), base, pattern)?),
+        | Kind::Handed => Ok(spaces::turns(memory, kind.side(), base, pattern)?),
     }
+}
+
+/// What so many accesses of a kind make over the memory of a run.
+pub fn over_spaces(alloc: Global, kind: Kind, rounds: u64) -> anyhow::Result<u64> {
+    let mut memory = fresh_memory(alloc)?;
+    over(alloc, &mut memory, kind, rounds)
 }
 
 /// The same over plain bytes.

@@ -5,6 +5,7 @@ mod access;
 mod holder;
 mod refusal;
 mod regions;
+mod span;
 
 pub use access::{Access, check_access, is_open};
 pub use holder::{Holder, OpenCall, Region};

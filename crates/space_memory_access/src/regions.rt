@@ -1,10 +1,12 @@
 // The regions, in the order in which they were held.
-ghost use Rattle.std.specs.Prelude.{◌≡◌, ℕ, ◌+◌, ◌-◌, ◌^◌, ◌<◌, ◌≤◌, ◌↔◌, [], ◌∷◌, ◌++◌, length, map, replicate, IsTrue, IfOk, IfSome, IfNone, OnOk, OnErr, slice_index, slice_set, option_map};
+ghost use Rattle.std.specs.Prelude.{◌≡◌, ℕ, List, ◌+◌, ◌-◌, ◌^◌, ◌<◌, ◌≤◌, ◌↔◌, [], ◌∷◌, ◌++◌, length, map, replicate, IsTrue, IfOk, IfSome, IfNone, OnOk, OnErr, slice_index, slice_set, option_map};
 ghost use Rattle.marks.specs.Ranges.{IsFirstIn, NoneIn};
 ghost use Rattle.memory_map.specs.declared.areas.TheConstants.{THREADS};
 ghost use Rattle.space_memory_access.specs.declared.holder.Region.{Region};
+ghost use Rattle.space_memory_access.specs.Spans.{HoldsPending};
 ghost use Rattle.space_memory_access.specs.Held.{innermost, IsPending, IsServed, IsServedWhole, is_part, prepared_region, without_call, without_closed, disown, earlier};
 
+use crate::span::Span;
 use crate::{OpenCall, Region};
 use memory_map::{Range, THREADS};
 use std::alloc::{AllocError, Global};
@@ -15,18 +17,19 @@ use std::marker::Model;
 pub struct Regions {
     regions: Vec<Region>,
     depths: Vec<u64>,
+    // all bytes that replay code may not touch lie in it, so that most accesses need not look at the regions
+    pending: Span,
 }
 
 impl Model for Regions {
-    ghost use Rattle.std.specs.Prelude.{◌≡◌, length};
-    ghost use Rattle.memory_map.specs.declared.areas.TheConstants.{THREADS};
     ghost use Rattle.space_memory_access.specs.Held.{HeldState};
+    ghost use Rattle.space_memory_access.specs.Spans.{AreKept};
 
     ghost Value = { HeldState };
 
     ghost view = { λ h. record { regions = h.regions.items; depths = h.depths.items } };
 
-    ghost invariant = { λ h. length h.depths.items ≡ THREADS };
+    ghost invariant = { λ h. AreKept h.regions.items h.depths.items h.pending };
 }
 
 impl Regions {
@@ -39,6 +42,7 @@ impl Regions {
         Ok(Regions {
             regions: Vec::new(alloc),
             depths,
+            pending: Span::empty(),
         })
     }
 
@@ -79,7 +83,9 @@ impl Regions {
         ensures ok { OnOk result (self.new ≡ record self.old { regions = self.old.regions ++ region ∷ [] }) }
         ensures err { OnErr result (self.new ≡ self.old) }
     {
+        let pending = with_region(self.pending, &region);
         self.regions.push(region)?;
+        self.pending = pending;
         Ok(())
     }
 
@@ -101,7 +107,7 @@ impl Regions {
     pub fn is_free(&self, range: Range) -> bool
         ensures { IsTrue result ↔ NoneIn range (IsPending self.now.regions) }
     {
-        self.regions.is_empty() || self.first_pending(range).is_none()
+        !self.pending.meets(range) || self.first_pending(range).is_none()
     }
 
     /// Whether one region lets system code of the thread read the whole range, or write it, while its bytes live.
@@ -171,6 +177,7 @@ impl Regions {
     {
         let call = self.innermost(thread);
         self.regions.retain(|region| !region.holder.is_of(call));
+        self.pending = span_of(&self.regions);
         self.depths[thread as usize] -= 1;
     }
 
@@ -188,8 +195,32 @@ impl Regions {
         self.regions
             .retain(|region| region.holder.outlives(call, commit));
         disown_all(&mut self.regions, call);
+        self.pending = span_of(&self.regions);
         self.depths[thread as usize] -= 1;
     }
+}
+
+// The span with the bytes of a region, if they are pending.
+fn with_region(span: Span, region: &Region) -> Span
+    ensures { (rest : List Region) → HoldsPending span rest →
+        HoldsPending result (rest ++ region.now ∷ []) }
+{
+    if region.holder.is_pending() {
+        span.with(region.range)
+    } else {
+        span
+    }
+}
+
+// A span that has all pending bytes.
+fn span_of(regions: &[Region]) -> Span
+    ensures { HoldsPending result regions.now }
+{
+    let mut span = Span::empty();
+    for region in regions {
+        span = with_region(span, region);
+    }
+    span
 }
 
 // Makes the regions that the call has prepared nobody's.

@@ -2,6 +2,7 @@ mod Cells
 mod Lookup
 mod Changes
 mod Marks
+mod Words
 mod Nexts
 mod Deads
 mod Tools

@@ -224,9 +224,43 @@ fn number_at(bytes: &[u8], at: usize, n: usize) -> u64
     ensures fits { result < 256 ^ n }
     ensures digits { (i : ℕ) → i < n → digit result i ≡ slice_index bytes.now (at + i) }
 {
+    if n == 8 {
+        word_at(bytes, at)
+    } else {
+        digits_at(bytes, at, n)
+    }
+}
+
+// The number of eight bytes, which are read at once.
+#[inline(always)]
+fn word_at(bytes: &[u8], at: usize) -> u64
+    requires { at + 8 ≤ length bytes.now }
+    ensures fits { result < 256 ^ 8 }
+    ensures digits { (i : ℕ) → i < 8 → digit result i ≡ slice_index bytes.now (at + i) }
+{
+    u64::from_le_bytes([
+        bytes[at],
+        bytes[at + 1],
+        bytes[at + 2],
+        bytes[at + 3],
+        bytes[at + 4],
+        bytes[at + 5],
+        bytes[at + 6],
+        bytes[at + 7],
+    ])
+}
+
+// The number of n bytes, one after another. The loop goes down from n, so that it is unrolled where n is known.
+#[inline(always)]
+fn digits_at(bytes: &[u8], at: usize, n: usize) -> u64
+    requires in_bytes { at + n ≤ length bytes.now }
+    requires at_most_8 { n ≤ 8 }
+    ensures fits { result < 256 ^ n }
+    ensures digits { (i : ℕ) → i < n → digit result i ≡ slice_index bytes.now (at + i) }
+{
     let mut value = 0;
-    for place in (at..at + n).rev() {
-        value = value * 256 + u64::from(bytes[place]);
+    for place in (0..n).rev() {
+        value = value * 256 + u64::from(bytes[at + place]);
     }
     value
 }
