@@ -39,7 +39,7 @@ module _ (R : Relation) (all : FollowsAll R) where
   abbrev pub BodiesCut : Bounds → Bodies → Bodies → Type 0
   BodiesCut k b c = (j : Bounds) → Less j k → BodiesAt j b c
 
-  fewer_bodies : (j k : Bounds) (b c : Bodies) → AtMost j k → BodiesCut k b c → BodiesCut j b c
+  pub fewer_bodies : (j k : Bounds) (b c : Bodies) → AtMost j k → BodiesCut k b c → BodiesCut j b c
   fewer_bodies j k b c le d i lt = d i (let x = lt.0 in let y = le.0 in omega arith, let x = lt.1 in let y = le.1 in omega arith)
 
   entering_cut : (k : Bounds) (s : Source) (b c : Bodies) (ms side : Side) (i : Bool) (f : ℕ) (args : List ℕ) (go on : ℕ → Marks) → BodiesCut k b c → Cuts R k go on → R.rel k (entering s b ms side i f args go) (entering s c ms side i f args on)
@@ -126,7 +126,7 @@ module _ (R : Relation) (all : FollowsAll R) where
   to_callee_cut r k s b c side (Some f) args go on d e = call_cut r k s b c side true f args go on d e
   to_callee_cut r k s b c side None args go on d e = cut_fails R k side BadCall (λ want plain. all side want)
 
-  calls_cut : (r : Reading) (k : Bounds) (s : Source) (b c : Bodies) (side : Side) (f base : ℕ) → BodiesCut k b c → CallsCut R k (here r s b side f base) (calls_of r s c side)
+  pub calls_cut : (r : Reading) (k : Bounds) (s : Source) (b c : Bodies) (side : Side) (f base : ℕ) → BodiesCut k b c → CallsCut R k (here r s b side f base) (calls_of r s c side)
   calls_cut r k s b c side f base d = record {
     plain = λ want ok. all side want;
     named = λ j le g args go on e.
@@ -145,7 +145,7 @@ module _ (R : Relation) (all : FollowsAll R) where
       let fewer : j.right < m = let x = lt.1 in omega arith in
       bodies_cut n m j r s less fewer)) e
 
-  all_bodies : (n m : ℕ) (k : Bounds) (r : Reading) (s : Source) → k.left < n → k.right < m → BodiesCut k (bodies n r s) (bodies m r s)
+  pub all_bodies : (n m : ℕ) (k : Bounds) (r : Reading) (s : Source) → k.left < n → k.right < m → BodiesCut k (bodies n r s) (bodies m r s)
   all_bodies n m k r s fl fr j lt =
       let less : j.left < n = let x = lt.0 in omega arith in
       let fewer : j.right < m = let x = lt.1 in omega arith in
@@ -161,7 +161,7 @@ module _ (R : Relation) (all : FollowsAll R) where
     begun_cut k s b c true f args d = entering_below_cut k s b c true f args ended ended d (λ v. ends k v)
     begun_cut k s b c false f args d = stepping_cut k s System true f args ended ended (λ v. ends k v)
 
-    started_cut : (k : Bounds) (s : Source) (b c : Bodies) (o : Option ℕ) (args : List ℕ) → BodiesCut k b c → R.rel k (started s b o args) (started s c o args)
+    pub started_cut : (k : Bounds) (s : Source) (b c : Bodies) (o : Option ℕ) (args : List ℕ) → BodiesCut k b c → R.rel k (started s b o args) (started s c o args)
     started_cut k s b c None args d = cut_fails R k System BadCall (λ want plain. all System want)
     started_cut k s b c (Some f) args d = begun_cut k s b c (is_some (body_of s f)) f args d
 

@@ -1,7 +1,7 @@
-mod Relations
-mod ValuePrefixes
-mod StatementPrefixes
-mod CallPrefixes
+pub mod Relations
+pub mod ValuePrefixes
+pub mod StatementPrefixes
+pub mod CallPrefixes
 mod Prefixes
 mod Nexts
 mod Overs

@@ -29,7 +29,7 @@ fewer_exits R j k x y le c = record {
 abbrev pub RoundCut : (R : Relation) → Bounds → (Marks → Marks) → (Marks → Marks) → Type 0
 RoundCut R k p q = (j : Bounds) → AtMost j k → (again on : Marks) → R.rel j again on → R.rel j (p again) (q on)
 
-rounds_cut : (R : Relation) → (n m : ℕ) (k : Bounds) (side : Side) (p q : Marks → Marks) → FollowsPlain R side → k.left < n → k.right < m → RoundCut R k p q → R.rel k (rounds n side p) (rounds m side q)
+pub rounds_cut : (R : Relation) → (n m : ℕ) (k : Bounds) (side : Side) (p q : Marks → Marks) → FollowsPlain R side → k.left < n → k.right < m → RoundCut R k p q → R.rel k (rounds n side p) (rounds m side q)
 rounds_cut R zero m k side p q ok fl fr c = absurd (omega arith)
 rounds_cut R (suc n) zero k side p q ok fl fr c = absurd (omega arith)
 rounds_cut R (suc n) (suc m) k side p q ok fl fr c =

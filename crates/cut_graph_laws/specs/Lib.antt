@@ -1,0 +1,3 @@
+pub mod Granted
+pub mod SoundCut
+pub mod Answering

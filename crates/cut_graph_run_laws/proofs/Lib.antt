@@ -1,0 +1,4 @@
+mod Threads
+mod Sides
+mod Above
+mod Replays
