@@ -12,7 +12,8 @@ use Rattle.isolation_check_rules.specs.declared.area.Area.{Area}
 use Rattle.isolation_check_rules.specs.declared.area.Area.TheVariants as areas
 use Rattle.isolation_check_rules.specs.declared.area.Ends.{Ends}
 use Rattle.isolation_check_rules.specs.Addresses.{addresses_from, end_in, first_ends, string_addresses, string_extent, strings_end, with_end}
-use Rattle.isolation_check_laws.specs.Fits.{AreBetween, AreStrings, Divides, first_in, last_in, spelled}
+use Rattle.c_lexer_laws.specs.Strings.{spelled}
+use Rattle.isolation_check_laws.specs.Fits.{AreBetween, AreStrings, Divides, first_in, last_in}
 
 with_end_cases : (e : Ends) (a : Area) (n : ℕ) (b : Area) → ((end_in (with_end e a n) b ≡ n) × (a ≡ b)) ⊎ (end_in (with_end e a n) b ≡ end_in e b)
 with_end_cases e areas.Constants n areas.Constants = inl (refl, refl)

@@ -1,16 +1,16 @@
 -- That strings and globals lie in their areas.
 use Rattle.std.specs.Prelude.{◌≡◌, ℕ, ◌+◌, ◌*◌, ◌≤◌, ◌<◌, List, [], ◌∷◌, length}
+use Rattle.std.specs.List.{All}
+use Rattle.c_lexer_laws.specs.Strings.{spelled}
 use Rattle.marks.specs.Places.{alignment, constants, replay_globals, system_globals}
 use Rattle.c_types_model.specs.Limits.{greatest_object}
 use Rattle.c_types_model.specs.declared.extent.Extent.{Extent}
+use Rattle.c_types_rules.specs.Limits.{globals_end}
+use Rattle.c_types_rules.specs.Sources.{Program}
 use Rattle.isolation_check_rules.specs.declared.area.Area.{Area}
 use Rattle.isolation_check_rules.specs.declared.area.Area.TheVariants as areas
 use Rattle.isolation_check_rules.specs.Addresses.{strings_end}
-
--- how many bytes of a source strings take: each has two quotes, and at least a byte for each of its own
-abbrev pub spelled : List (List ℕ) → ℕ
-spelled [] = 0
-spelled (bytes ∷ rest) = length bytes + 2 + spelled rest
+use Rattle.isolation_check_rules.specs.Places.{global_extents}
 
 -- blocks can begin at its multiples
 pub record Divides (x : Extent) : Type 0 where
@@ -43,3 +43,9 @@ abbrev pub AreStrings : (last : ℕ) → List (List ℕ) → (addresses : List �
 AreStrings last [] ats = Unit {0}
 AreStrings last (bytes ∷ rest) [] = Unit {0}
 AreStrings last (bytes ∷ rest) (at ∷ ats) = (constants ≤ at) × (at + (length bytes + 1) ≤ last) × AreStrings last rest ats
+
+-- strings that stand in a source of 1 MiB at most, and globals that would all fit in one area
+pub record FitsAreas (p : Program) (strings : List (List ℕ)) : Type 0 where
+  pub short : spelled strings ≤ greatest_object
+  pub small : globals_end p ≤ greatest_object
+  pub aligned : All Divides (global_extents p)

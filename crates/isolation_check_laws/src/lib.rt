@@ -3,4 +3,4 @@
 
 mod laws;
 
-pub use laws::{globals_lie_in_their_areas, strings_lie_among_constants};
+pub use laws::{globals_lie_in_their_areas, strings_lie_among_constants, typed_globals_fit};

@@ -1,0 +1,5 @@
+pub mod Areas
+pub mod Rows
+pub mod Literals
+pub mod Objects
+pub mod Flags

@@ -1,0 +1,4 @@
+pub mod Bytes
+pub mod Weights
+pub mod Structs
+pub mod Steps
