@@ -1,13 +1,12 @@
 -- What an accepted source has, as its code counts it.
-use Rattle.std.proofs.Common.{◌≡◌, ◌≤◌, ◌<◌, ℕ, ◌+◌, ◌^◌, List, length, map, sym, ap, ◌∙◌, subst, arith}
+use Rattle.std.proofs.Common.{◌≡◌, ◌≤◌, ◌<◌, ℕ, List, length, sym, ap, ◌∙◌, arith}
 use Rattle.std.specs.List.{position_or_len}
 use Rattle.std.proofs.lemmas.List.{length-map}
-use Rattle.c_types_rules.specs.Sources.{Program}
 use Rattle.cut_graph_rules.specs.Sources.{Mentioned, mentions_of}
 use Rattle.front_end.specs.declared.source.CheckedSource.{CheckedSource}
-use Rattle.front_end.specs.Answers.{IsAccepted}
 use Rattle.cut_check.specs.Sources.{is_named_main}
 use Rattle.cut_check.proofs.Accepted.{Known, few_nodes}
+use Rattle.cut_check.proofs.GuardFlags.{global_count}
 use Rattle.cut_check.proofs.MainPlace.{function_count, main_place_is}
 use Rattle.cut_check.proofs.Limits.{few_functions, few_globals, main_there}
 
@@ -36,6 +35,13 @@ module _ (bytes cut : List ℕ) (c : CheckedSource) (k : Known bytes cut c) wher
   pub globals_mentioned : (n : Mentioned) → n ≡ mentions_of k.program → length n.globals ≤ 131072
   globals_mentioned n e =
       let same : length n.globals ≡ length k.program.globals = ap (λ (m : Mentioned). length m.globals) e ∙ globals_here in
+      let declared = few_globals k.says.right.ds k.program k.says.declares in
+      let nodes = few_nodes bytes cut k.program k.annotated k.says in
+      omega (arith, same, declared, nodes)
+
+  pub globals_declared : length c.program.globals ≤ 131072
+  globals_declared =
+      let same : length c.program.globals ≡ length k.program.globals = global_count c.program k.program k.is.program in
       let declared = few_globals k.says.right.ds k.program k.says.declares in
       let nodes = few_nodes bytes cut k.program k.annotated k.says in
       omega (arith, same, declared, nodes)

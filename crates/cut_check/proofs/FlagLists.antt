@@ -1,5 +1,5 @@
 -- Flags of functions are those of a cut.
-use Rattle.std.proofs.Common.{◌≡◌, ◌≤◌, ◌<◌, ℕ, ◌+◌, ◌-◌, Bool, true, false, cond, List, [], ◌∷◌, ◌++◌, length, map, get_or, Option, Some, None, refl, sym, ap, ◌∙◌, subst, arith}
+use Rattle.std.proofs.Common.{◌≡◌, ◌≤◌, ◌<◌, ℕ, ◌+◌, ◌-◌, Bool, true, false, cond, List, [], ◌∷◌, ◌++◌, length, map, Option, None, refl, sym, ap, ◌∙◌, subst, arith}
 use Rattle.std.specs.Prelude.{◌↔◌, nat_lt, slice_get}
 use Rattle.std.specs.List.{position_or_len, range_with_len}
 use Rattle.std.specs.Option.{option_map_or}
@@ -130,7 +130,7 @@ flags_here c n r cut p a fs count main s is mentioned faces same begin counted n
     let begins_at : main ≡ first_source_function + position_or_len is_named_main d.functions = begin ∙ ap (λ (gs : List Function). first_source_function + position_or_len is_named_main gs) same in
     let many : length fs ≡ length d.functions = ap length same in
     let declared = function_count d p is.program in
-    flags_are d n c.interface r cut p a count main s is.program mentioned faces (begins_at ∙ main_is d p is.program) is.said (omega (arith, named, declared))
+    flags_are d n c.interface r cut p a count main s is.program mentioned faces (begins_at ∙ main_is d p is.program) is.said.functions (omega (arith, named, declared))
     (omega (arith, begins_at, named, inside)) (omega (arith, counted, many, named)) tells above below_flags face_flags
 
 -- flags that are lent

@@ -1,8 +1,7 @@
 -- The interface that was read is that of the annotations.
-use Rattle.std.proofs.Common.{◌≡◌, ℕ, ℤ, pos, List, [], ◌∷◌, map, Option, refl, sym, ap, ◌∙◌}
+use Rattle.std.proofs.Common.{◌≡◌, ℕ, ℤ, pos, List, [], ◌∷◌, map, Option, refl, ap, ◌∙◌}
 use Rattle.std.specs.Option.{option_map}
 use Rattle.annot_reader_rules.specs.Notes.{Annotated, Notes, Parameter}
-use Rattle.annot_reader_words.specs.declared.notes.Annots.{Annots}
 use Rattle.annot_reader_words.specs.declared.notes.Param.{Param}
 use Rattle.annot_reader_words.specs.Readings.{parameters_in}
 use Rattle.annot_reader_functions.specs.declared.notes.FunctionNotes.{FunctionNotes}

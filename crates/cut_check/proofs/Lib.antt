@@ -5,6 +5,8 @@ mod Accepted
 mod MainPlace
 mod Facts
 mod FlagLists
+mod GuardFlags
+mod GuardTexts
 mod Interfaces
 mod Limits
 mod Names

@@ -1,5 +1,5 @@
 -- What a typed source has: few functions, a function `main`, and no more globals than nodes.
-use Rattle.std.proofs.Common.{◌≡◌, ℕ, suc, ◌+◌, ◌-◌, ◌≤◌, ◌<◌, Bool, true, false, ◌&&◌, ◌||◌, cond, List, [], ◌∷◌, ◌++◌, length, Option, Some, None, refl, sym, ap, ◌∙◌, subst, arith}
+use Rattle.std.proofs.Common.{◌≡◌, ℕ, ◌+◌, ◌-◌, ◌≤◌, ◌<◌, Bool, true, false, ◌&&◌, ◌||◌, cond, List, [], ◌∷◌, ◌++◌, length, Option, Some, None, refl, ap, ◌∙◌, subst, arith}
 use Rattle.std.specs.Prelude.{if◌then◌else◌, is_some, nat_le, not}
 use Rattle.std.specs.List.{position_or_len}
 use Rattle.std.proofs.lemmas.Bool.{leb-true}
@@ -8,7 +8,7 @@ use Rattle.c_syntax.specs.declared.declaration.Base.{Base}
 use Rattle.c_syntax.specs.declared.declaration.Base.TheVariants as bases
 use Rattle.c_syntax.specs.Syntax.{Annots, Decl, Decls, Parts, Rest, Stmt, Declare, NoDecls, MoreDecls, NoParts, Pointer, Array, Params, NoRest, Initial, Body, Members}
 use Rattle.c_builtins.specs.Table.{first_source_function}
-use Rattle.c_parser_nodes.specs.Counts.{list_offset_of, parts_nodes, rest_nodes, source_nodes, top_nodes, tops_nodes}
+use Rattle.c_parser_nodes.specs.Counts.{list_offset_of, parts_nodes, source_nodes, top_nodes, tops_nodes}
 use Rattle.c_scopes.specs.Scopes.{meaning_in, same_name}
 use Rattle.c_types_model.specs.Layouts.{struct_of}
 use Rattle.c_types_model.specs.Limits.{greatest_object}
@@ -18,9 +18,8 @@ use Rattle.c_types_rules.specs.Checked.{Checked, Fine, Noted, Broken, heard, kee
 use Rattle.c_types_rules.specs.TypeTests.{same_type}
 use Rattle.c_types_rules.specs.Environment.{Meaning, FunctionNamed, GlobalNamed, LocalNamed, declarable, extents, is_reserved, place_in}
 use Rattle.c_types_rules.specs.Expressions.{annotation_types, complete, declared_name, declared_type}
-use Rattle.c_types_rules.specs.Limits.{Which, Functions, Typed, decided, first_limit, most_functions, outcome, unless}
+use Rattle.c_types_rules.specs.Limits.{Which, Functions, Typed, decided, first_limit, outcome, unless}
 use Rattle.c_types_rules.specs.Sources.{Function, Program, at_file, body_at, body_of, declaration, declarations, declared_again, extents_of, function, function_declared, function_defined, function_or_global, function_rest, global, global_value, has_main, is_main as is_typed_main, is_next, main, members_from, nothing, program, struct_defined, tags_of, with_body}
-use Rattle.c_types_rules.specs.TypedTree as typed
 use Rattle.c_lower_laws.proofs.Held.{Holds, holds_then, holds_on, holds_after, holds_kept}
 use Rattle.cut_check.specs.Sources.{is_main}
 

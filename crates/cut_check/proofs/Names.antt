@@ -1,11 +1,10 @@
 -- Code has the names that the source declares.
-use Rattle.std.proofs.Common.{◌≡◌, ℕ, zero, suc, ◌+◌, ◌-◌, Bool, true, false, cond, List, [], ◌∷◌, length, map, Option, Some, None, refl, sym, ap, ◌∙◌}
+use Rattle.std.proofs.Common.{◌≡◌, ℕ, zero, suc, ◌+◌, ◌-◌, Bool, true, false, cond, List, [], ◌∷◌, length, map, Option, refl, ap, ◌∙◌}
 use Rattle.std.specs.Prelude.{slice_get, nat_lt}
 use Rattle.c_builtins.specs.declared.builtin.Builtin.{Builtin}
 use Rattle.c_builtins.specs.declared.lookup.TheConstants.{BUILTINS}
 use Rattle.c_builtins.specs.Table.{first_source_function}
 use Rattle.c_code.specs.declared.code.FuncInfo.{FuncInfo}
-use Rattle.c_code.specs.Machine.{func_of}
 use Rattle.c_lower.specs.Lowered.{builtin_info, code_of, infos_from, lowered}
 use Rattle.c_types_nodes.specs.Tables.{Table}
 use Rattle.c_types_program.specs.declared.function.Function.{Function}

@@ -1,16 +1,22 @@
 -- The bytes of a source and the name of a cut decide what is found, and the text of the stubs.
-use Rattle.std.proofs.Common.{◌≡◌, ℕ, List, map, Some, ◌++◌, refl, sym, ap, ◌∙◌, subst}
+use Rattle.std.proofs.Common.{◌≡◌, ℕ, Bool, true, false, List, [], ◌∷◌, map, ◌++◌, refl, sym, ap, ◌∙◌, subst, arith}
 use Rattle.std.proofs.lemmas.Option.{same_Some}
 use Rattle.c_syntax.specs.Syntax.{Decls}
-use Rattle.c_types_rules.specs.Limits.{Outcome, Typed, outcome}
+use Rattle.c_types_rules.specs.Limits.{Typed, outcome}
 use Rattle.c_types_rules.specs.Sources.{Program}
 use Rattle.annot_reader_rules.specs.Cuts.{annotations}
 use Rattle.annot_reader_rules.specs.Notes.{Annotated}
-use Rattle.cut_graph_rules.specs.Findings.{AreFindings, Cut, Finding, line_of}
+use Rattle.cut_graph_rules.specs.Findings.{AreFindings, Cut, Finding, IsAccepted, line_of}
+use Rattle.lockset_check_rules.specs.declared.finding.LockFinding.{LockFinding}
+use Rattle.lockset_check_rules.specs.Annotations.{guarded}
+use Rattle.lockset_check_rules.specs.Lines as locks
+use Rattle.lockset_check_rules.specs.Order.{AreSorted}
+use Rattle.lockset_check_rules.specs.Sources.{source_found}
+use Rattle.lockset_check_lines.proofs.OneOrder as guards
 use Rattle.stub_operations.specs.declared.purpose.Purpose.TheVariants.{Record, Replay}
 use Rattle.front_end.proofs.OneAnswer.{one_source}
 use Rattle.cut_check.specs.Sources.{Says, cut_of, found}
-use Rattle.cut_check.specs.Lines.{FindingsOf, LinesOf, of_cut}
+use Rattle.cut_check.specs.Lines.{AreRunning, FindingsOf, LinesOf, LockFindingsOf, of_cut, of_guards}
 use Rattle.cut_check.specs.Stubs.{StubsText, of_source, stubs_text}
 use Rattle.cut_check.proofs.OneOrder.{one_order}
 
@@ -40,9 +46,42 @@ same_findings : {bytes cut : List ℕ} {xs ys : List Finding} → FindingsOf byt
 same_findings {cut = cut} {xs = xs} {ys = ys} f g =
     same_lines (cut_of cut f.program f.annotated) xs ys f.are (subst (λ (c : Cut). AreFindings c ys) (sym (one_cut f.says g.says)) g.are)
 
+-- nothing is found in an accepted cut
+none_found : (c : Cut) (xs : List Finding) → AreFindings c xs → IsAccepted c → xs ≡ []
+none_found c [] are accepted = refl
+none_found c (x ∷ xs) are accepted = absurd (accepted x ((are.exact x).0 (0, omega arith, refl)))
+
+either_found : {bytes cut : List ℕ} {xs : List Finding} {ys : List LockFinding} → FindingsOf bytes cut xs → LockFindingsOf bytes cut ys → xs ≡ []
+either_found {cut = cut} {xs = xs} f g =
+    none_found (cut_of cut f.program f.annotated) xs f.are (subst IsAccepted (one_cut g.says f.says) g.accepted)
+
+-- ---- lines of guards
+
+same_flag : (x y : Bool) → (x ≡ true → y ≡ true) → (y ≡ true → x ≡ true) → x ≡ y
+same_flag true true to back = refl
+same_flag true false to back = sym (to refl)
+same_flag false true to back = back refl
+same_flag false false to back = refl
+
+same_runs : (c : Cut) (f g : ℕ → Bool) → AreRunning c f → AreRunning c g → f ≡ g
+same_runs c f g a b = λ j number. same_flag (f number) (g number) (λ h. (b number).1 ((a number).0 h)) (λ h. (a number).1 ((b number).0 h)) j
+
+same_guards : {bytes cut : List ℕ} {xs ys : List LockFinding} → LockFindingsOf bytes cut xs → LockFindingsOf bytes cut ys → xs ≡ ys
+same_guards {cut = cut} {xs = xs} {ys = ys} f g =
+    let running : AreRunning (cut_of cut f.program f.annotated) g.runs = subst (λ (c : Cut). AreRunning c g.runs) (sym (one_cut f.says g.says)) g.running in
+    let runs : f.runs ≡ g.runs = same_runs (cut_of cut f.program f.annotated) f.runs g.runs f.running running in
+    let found : source_found (guarded f.program f.annotated) f.runs ≡ source_found (guarded g.program g.annotated) g.runs =
+    ap (λ (p : Program). source_found (guarded p f.annotated) f.runs) (one_program f.says g.says) ∙
+    (ap (λ (a : Annotated). source_found (guarded g.program a) f.runs) (one_annotated f.says g.says) ∙
+    ap (λ (r : ℕ → Bool). source_found (guarded g.program g.annotated) r) runs) in
+    guards.one_order (source_found (guarded g.program g.annotated) g.runs) xs ys (subst (λ (fs : List LockFinding). AreSorted fs xs) found f.are) g.are
+
 -- they decide the lines of what is found
 pub one_lines : {bytes cut : List ℕ} {xs ys : List (List ℕ)} → LinesOf bytes cut xs → LinesOf bytes cut ys → xs ≡ ys
-one_lines (of_cut f) (of_cut g) = same_findings f g
+one_lines (of_cut f some) (of_cut g more) = same_findings f g
+one_lines (of_cut f some) (of_guards g) = absurd (some (either_found f g))
+one_lines (of_guards f) (of_cut g more) = absurd (more (either_found g f))
+one_lines (of_guards f) (of_guards g) = ap (λ (xs : List LockFinding). map locks.line_of xs) (same_guards f g)
 
 -- ---- stubs
 

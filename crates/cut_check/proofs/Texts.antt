@@ -1,5 +1,5 @@
 -- The texts of the code are those of the source.
-use Rattle.std.proofs.Common.{◌≡◌, ◌<◌, ℕ, zero, suc, ◌+◌, List, [], ◌∷◌, ◌++◌, length, map, codes, refl, sym, ap, ◌∙◌, subst, arith}
+use Rattle.std.proofs.Common.{◌≡◌, ◌≢◌, ℕ, zero, suc, ◌+◌, List, [], ◌∷◌, ◌++◌, length, map, codes, refl, sym, ap, ◌∙◌, subst, arith}
 use Rattle.std.specs.List.{All, flat_map, range_with_len}
 use Rattle.annot_reader_rules.specs.Notes.{Annotated}
 use Rattle.annot_reader.specs.Interface.{Interface}
@@ -17,7 +17,6 @@ use Rattle.stub_texts.specs.Texts as texts
 use Rattle.stub_texts.specs.Texts.{names_in, texts_from}
 use Rattle.cut_check.specs.Flags.{ended_line}
 use Rattle.cut_check.specs.Lines.{FoundText, of_cut, of_lines, text_of}
-use Rattle.cut_check.specs.Interfaces.{interface_of}
 use Rattle.cut_check.specs.Sources.{IsOf, cut_of}
 use Rattle.cut_check.specs.Stubs.{names_of, stubs_text}
 use Rattle.cut_check.proofs.Accepted.{Known}
@@ -47,7 +46,13 @@ lines_are (x ∷ xs) h =
     ap (λ t. (t ++ codes "\n") ++ flat_map ended_line xs) first ∙
     ap (λ t. (line_of (finding_of x) ++ codes "\n") ++ t) (lines_are xs (λ k d l. h (suc k) d (omega (arith, l))))
 
-pub found_text_is : (bytes cut : List ℕ) (c : CheckedSource) (k : Known bytes cut c) (xs : List Finding) (text : List ℕ) → AreFindings (cut_of cut k.program k.annotated) (map finding_of xs) → All HasLine xs
-    → text ≡ flat_map ended_line xs → FoundText bytes cut text
-found_text_is bytes cut c k xs text are lines e =
-    subst (λ t. FoundText bytes cut t) (sym (e ∙ lines_are xs lines)) (of_lines (of_cut (record { program = k.program; annotated = k.annotated; says = k.says; are = are })))
+some_found : (xs : List Finding) → xs ≢ [] → map finding_of xs ≢ []
+some_found [] some e = some refl
+some_found (x ∷ xs) some e = cc
+
+-- what is found in the cut
+pub cut_text_is : (bytes cut : List ℕ) (c : CheckedSource) (k : Known bytes cut c) (xs : List Finding) (text : List ℕ) → AreFindings (cut_of cut k.program k.annotated) (map finding_of xs) → All HasLine xs
+    → xs ≢ [] → text ≡ flat_map ended_line xs → FoundText bytes cut text
+cut_text_is bytes cut c k xs text are lines some e =
+    subst (λ t. FoundText bytes cut t) (sym (e ∙ lines_are xs lines))
+    (of_lines (of_cut (record { program = k.program; annotated = k.annotated; says = k.says; are = are }) (some_found xs some)))

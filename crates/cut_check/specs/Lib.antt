@@ -3,3 +3,4 @@ pub mod Lines
 pub mod Interfaces
 pub mod Stubs
 pub mod Flags
+pub mod Guards

@@ -1,5 +1,5 @@
 -- What a right source says, and the cut of it that is looked at.
-use Rattle.std.specs.Prelude.{◌≡◌, ◌+◌, ℕ, Bool, List, length, Option, Some, None}
+use Rattle.std.specs.Prelude.{◌≡◌, ◌+◌, ℕ, Bool, List, Option, Some, None}
 use Rattle.std.specs.List.{position_or_len}
 use Rattle.c_scopes.specs.Scopes.{same_name}
 use Rattle.c_builtins.specs.Table.{first_source_function}
@@ -15,6 +15,7 @@ use Rattle.c_types_program.specs.Programs.{IsProgram}
 use Rattle.cut_graph_rules.specs.Findings.{Cut}
 use Rattle.front_end.specs.declared.source.CheckedSource.{CheckedSource}
 use Rattle.front_end.specs.Sources.{IsRight}
+use Rattle.front_end_laws.specs.Annotations.{SayOfAll}
 
 -- what is found, where no rule is broken
 abbrev pub found : {A : Type 0} → Checked A → Option A
@@ -46,9 +47,9 @@ abbrev pub is_named_main : code.Function → Bool
 is_named_main f = same_name f.name main
 
 -- the program, the interface of the cut and the flat code are those of this source, of each of whose functions
--- something is said
+-- and globals something is said
 pub record IsOf (cut : List ℕ) (p : Program) (a : Annotated) (c : CheckedSource) : Type 0 where
   pub program : IsProgram c.program p
   pub interface : IsRead cut a c.interface
-  pub said : length a.functions ≡ length p.functions
+  pub said : SayOfAll p a
   pub code : c.code ≡ lowered c.program

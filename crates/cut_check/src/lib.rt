@@ -1,9 +1,10 @@
-//! What is found in the cut of an accepted source, and its stubs, as text.
+//! What is found in an accepted source, and its stubs, as text.
 #![tactic(auto)]
 
 mod begin;
 mod flags;
 mod found;
+mod guards;
 mod stubs;
 
 pub use found::found_text;

@@ -1,22 +1,22 @@
 -- What the declarations of a typed source do to its names and to the types of its functions.
-use Rattle.std.proofs.Common.{◌≡◌, ◌≤◌, ◌<◌, ℕ, zero, suc, ◌+◌, ◌-◌, Bool, true, false, cond, not, List, [], ◌∷◌, ◌++◌, length, map, Option, Some, None, refl, sym, ap, ◌∙◌, subst, arith}
-use Rattle.std.specs.Prelude.{is_some, slice_get, nat_le}
+use Rattle.std.proofs.Common.{◌≡◌, ℕ, zero, suc, ◌+◌, ◌-◌, Bool, true, false, cond, not, List, [], ◌∷◌, ◌++◌, length, length-append, map, Option, Some, None, refl, sym, ap, ◌∙◌}
+use Rattle.std.specs.Prelude.{is_some, slice_get}
 use Rattle.std.proofs.lemmas.Slice.Eq.{bytes_eq-Decides}
 use Rattle.c_syntax.specs.declared.declaration.Base.{Base}
 use Rattle.c_syntax.specs.declared.declaration.Base.TheVariants as bases
-use Rattle.c_syntax.specs.Syntax.{Decl, Decls, Annots, Parts, Rest, Stmt, Declare, NoDecls, MoreDecls, NoParts, Pointer, Array, Params, NoRest, Initial, Body, Members}
+use Rattle.c_syntax.specs.Syntax.{Decl, Decls, Annots, Parts, Rest, Declare, NoDecls, MoreDecls, NoParts, Pointer, Array, Params, NoRest, Initial, Body, Members}
 use Rattle.c_builtins.specs.Table.{first_source_function}
 use Rattle.c_scopes.specs.Scopes.{meaning_in, same_name}
-use Rattle.c_types_model.specs.Types.{CType, CTypes, Void, Integer, PointerTo, ArrayOf, StructOf, UndefinedStruct, FunctionOf, NoTypes, MoreTypes}
+use Rattle.c_types_model.specs.Types.{CType, CTypes, Void, Integer, PointerTo, ArrayOf, StructOf, UndefinedStruct, FunctionOf}
 use Rattle.c_types_rules.specs.Checked.{Checked, Fine, Noted, Broken, heard, keep, small, unevaluated, ◌>>=◌, ◌>>◌}
 use Rattle.c_types_rules.specs.Constants.{integer_constant}
 use Rattle.c_types_rules.specs.TypedTree as typed
 use Rattle.c_types_rules.specs.TypeTests.{is_function, is_result, same_type}
-use Rattle.c_types_rules.specs.Environment.{Environment, Meaning, FunctionNamed, GlobalNamed, LocalNamed, base_type, declarable, extents, inner, is_reserved, place_in, struct_type}
+use Rattle.c_types_rules.specs.Environment.{Environment, Meaning, FunctionNamed, GlobalNamed, LocalNamed, base_type, extents, inner, is_reserved, place_in, struct_type}
 use Rattle.c_types_rules.specs.Expressions.{annotation_types, complete, declarator_type, declared_name, declared_type, expression, is_small, length_of, parameter_scope, parameter_type, parameter_types}
-use Rattle.c_types_rules.specs.Sources.{Function, Program, at_file, body_at, body_of, declaration, declarations, declared_again, function, function_declared, function_defined, function_or_global, function_rest, global, global_value, is_main, struct_defined, with_body}
+use Rattle.c_types_rules.specs.Sources.{Function, Program, at_file, body_at, body_of, declaration, declarations, declared_again, function, function_declared, function_or_global, function_rest, global, global_value, is_main, struct_defined, with_body}
 use Rattle.annot_reader_rules.specs.Functions.{own_parameters}
-use Rattle.c_lower_laws.proofs.Held.{Holds, holds_then, holds_on, holds_after, holds_kept}
+use Rattle.c_lower_laws.proofs.Held.{Holds, holds_then, holds_on, holds_after}
 use Rattle.front_end_laws.proofs.Rules.{Enough}
 
 -- ---- declared parameters and types
@@ -103,19 +103,20 @@ declared_enough env from an b ps n r =
 abbrev pub types : Program → List CType
 types p = map (λ f. f.type) p.functions
 
--- the names and the types of functions are the same
+-- the names and the types of functions are the same, and there are as many globals
 pub record Same (p q : Program) : Type 0 where
   pub names : q.names ≡ p.names
   pub types : types q ≡ types p
+  pub globals : length q.globals ≡ length p.globals
 
 -- a function that was declared before; a new one, with a declaration for each parameter; or a global
 pub data DidName (p : Program) (name : List ℕ) (ds : Decls) (q : Program) : Type 0 where
   again : (number : ℕ) (u : CType) → meaning_in name p.names ≡ Some (FunctionNamed number u) → Same p q → DidName p name ds q
   first : (u : CType) (ts : CTypes) → Enough ds ts → meaning_in name p.names ≡ None →
       q.names ≡ (name, FunctionNamed (length p.functions + first_source_function) (FunctionOf u ts)) ∷ p.names →
-      types q ≡ types p ++ FunctionOf u ts ∷ [] → DidName p name ds q
+      types q ≡ types p ++ FunctionOf u ts ∷ [] → length q.globals ≡ length p.globals → DidName p name ds q
   object : (place : ℕ) (t : CType) → meaning_in name p.names ≡ None → q.names ≡ (name, GlobalNamed place t) ∷ p.names →
-      types q ≡ types p → DidName p name ds q
+      types q ≡ types p → length q.globals ≡ length p.globals + 1 → DidName p name ds q
 
 abbrev pub NoMembers : Rest → Type 0
 NoMembers NoRest = Unit {0}
@@ -141,13 +142,13 @@ one_more_type [] g = refl
 one_more_type (f ∷ fs) g = ap (λ ts. f.type ∷ ts) (one_more_type fs g)
 
 rest_did : (tags : List (List ℕ)) (p : Program) (from place : ℕ) (name : List ℕ) (t : CType) (ps : Parts) (r : Rest) → Holds (Same p) (function_rest tags p from place name t ps r)
-rest_did tags p from place name t ps NoRest = record { names = refl; types = refl }
+rest_did tags p from place name t ps NoRest = record { names = refl; types = refl; globals = refl }
 rest_did tags p from place name t ps (Initial v) = tt
 rest_did tags p from place name t ps (Body s) =
     let given : Checked Program = body_of (at_file tags p) t ps s >>= (λ b. Fine (record p { functions = with_body p.functions place b })) in
     holds_after (Same p) (keep from 21 (not (is_some (body_at p.functions place)))) (keep from 18 (is_main name t) >> given)
     (holds_after (Same p) (keep from 18 (is_main name t)) given
-    (holds_on (Same p) (body_of (at_file tags p) t ps s) _ (λ b. record { names = refl; types = with_body_types p.functions place b })))
+    (holds_on (Same p) (body_of (at_file tags p) t ps s) _ (λ b. record { names = refl; types = with_body_types p.functions place b; globals = refl })))
 rest_did tags p from place name t ps (Members ds) = tt
 
 -- what the number and the program are where a function is declared
@@ -157,17 +158,17 @@ DidFunction p name ds a = DidName p name ds a.1
 again_did : (p : Program) (from : ℕ) (u : CType) (ts : CTypes) (o : Option Meaning) (name : List ℕ) (ds : Decls) → Enough ds ts →
     meaning_in name p.names ≡ o → Holds (DidFunction p name ds) (declared_again p from (FunctionOf u ts) o name)
 again_did p from u ts (Some (FunctionNamed number w)) name ds h e =
-    holds_after (DidFunction p name ds) (keep from 1 (same_type (FunctionOf u ts) w)) (Fine (number, p)) (again number w e (record { names = refl; types = refl }))
+    holds_after (DidFunction p name ds) (keep from 1 (same_type (FunctionOf u ts) w)) (Fine (number, p)) (again number w e (record { names = refl; types = refl; globals = refl }))
 again_did p from u ts (Some (GlobalNamed place w)) name ds h e = tt
 again_did p from u ts (Some (LocalNamed place w)) name ds h e = tt
 again_did p from u ts None name ds h e =
-    first u ts h e refl (one_more_type p.functions (record { name = name; type = FunctionOf u ts; body = None }))
+    first u ts h e refl (one_more_type p.functions (record { name = name; type = FunctionOf u ts; body = None })) refl
 
 -- the same, whatever its body
 then_same : (p q z : Program) (name : List ℕ) (ds : Decls) → DidName p name ds q → Same q z → DidName p name ds z
-then_same p q z name ds (again number u e s) k = again number u e (record { names = k.names ∙ s.names; types = k.types ∙ s.types })
-then_same p q z name ds (first u ts h e f g) k = first u ts h e (k.names ∙ f) (k.types ∙ g)
-then_same p q z name ds (object place t e f g) k = object place t e (k.names ∙ f) (k.types ∙ g)
+then_same p q z name ds (again number u e s) k = again number u e (record { names = k.names ∙ s.names; types = k.types ∙ s.types; globals = k.globals ∙ s.globals })
+then_same p q z name ds (first u ts h e f g c) k = first u ts h e (k.names ∙ f) (k.types ∙ g) (k.globals ∙ c)
+then_same p q z name ds (object place t e f g c) k = object place t e (k.names ∙ f) (k.types ∙ g) (k.globals ∙ c)
 
 function_did : (tags : List (List ℕ)) (p : Program) (from : ℕ) (name : List ℕ) (u : CType) (ts : CTypes) (ps : Parts) (r : Rest) →
     Enough (own_parameters ps) ts → Holds (DidName p name (own_parameters ps)) (function tags p from name (FunctionOf u ts) ps r)
@@ -198,7 +199,7 @@ global_did tags p from name t ds r =
     let named : Program = record p { names = (name, GlobalNamed (length p.globals) t) ∷ p.names } in
     holds_after (DidName p name ds) (complete (extents (at_file tags p)) from t) _
     (declared_free (DidName p name ds) from (not (is_reserved name)) (meaning_in name p.names) _
-    (λ e. holds_on (DidName p name ds) (heard (global_value tags named from t r)) _ (λ x. object (length p.globals) t e refl refl)))
+    (λ e. holds_on (DidName p name ds) (heard (global_value tags named from t r)) _ (λ x. object (length p.globals) t e refl refl (length-append p.globals (record { name = name; type = t; value = x.0; unevaluated = x.1 } ∷ [])))))
 
 either_did : (tags : List (List ℕ)) (p : Program) (from : ℕ) (name : List ℕ) (t : CType) (ps : Parts) (r : Rest) → EnoughFor (own_parameters ps) t →
     Holds (DidName p name (own_parameters ps)) (function_or_global tags p from name t ps r)
@@ -259,7 +260,7 @@ struct_did : (tags : List (List ℕ)) (p : Program) (from : ℕ) (an : Annots) (
 struct_did tags p from an tag ps n ds = search (holds_after, holds_on, named)
   where
     named : (ss : _) → Did p (Declare from an (bases.Struct tag) ps n (Members ds)) (record p { structs = ss })
-    named ss = struct from an (bases.Struct tag) ps n ds (record p { structs = ss }) (record { names = refl; types = refl })
+    named ss = struct from an (bases.Struct tag) ps n ds (record p { structs = ss }) (record { names = refl; types = refl; globals = refl })
 
 pub declaration_did : (tags : List (List ℕ)) (p : Program) (d : Decl) → Holds (Did p d) (declaration tags p d)
 declaration_did tags p (Declare from an (bases.Struct tag) ps n (Members ds)) = struct_did tags p from an tag ps n ds
@@ -300,11 +301,11 @@ same_grows p q s = record {
 
 did_name_grows : (p : Program) (name : List ℕ) (ds : Decls) (q : Program) → DidName p name ds q → Grows p q
 did_name_grows p name ds q (again number u e s) = same_grows p q s
-did_name_grows p name ds q (first u ts h none f g) = record {
+did_name_grows p name ds q (first u ts h none f g c) = record {
   names = λ other w e. ap (meaning_in other) f ∙ new_name p name (FunctionNamed (length p.functions + first_source_function) (FunctionOf u ts)) none other w e;
   types = λ k t e. ap (λ us. slice_get us k) g ∙ has_more (types p) (FunctionOf u ts) t k e;
 }
-did_name_grows p name ds q (object place t none f g) = record {
+did_name_grows p name ds q (object place t none f g c) = record {
   names = λ other w e. ap (meaning_in other) f ∙ new_name p name (GlobalNamed place t) none other w e;
   types = λ k u e. ap (λ us. slice_get us k) g ∙ e;
 }

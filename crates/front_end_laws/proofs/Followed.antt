@@ -1,14 +1,14 @@
 -- The annotations of a typed source, function by function: each function has its own, which keep the rules for its type.
 use Rattle.std.proofs.Common.{◌≡◌, ◌≤◌, ◌<◌, ◌⊎◌, inl, inr, ℕ, zero, suc, ◌+◌, ◌-◌, Bool, true, false, cond, List, [], ◌∷◌, ◌++◌, length, length-append, map, Option, Some, None, refl, sym, ap, ◌∙◌, subst, arith, ⊎_elim}
 use Rattle.std.specs.Prelude.{slice_get, nat_lt}
-use Rattle.std.proofs.lemmas.Option.{same_Some, slice_get_within}
+use Rattle.std.proofs.lemmas.Option.{same_Some}
 use Rattle.std.proofs.lemmas.Slice.Eq.{bytes_eq-Decides}
 use Rattle.c_syntax.specs.declared.declaration.Base.{Base}
 use Rattle.c_syntax.specs.Syntax.{Decl, Decls, Annots, Parts, Rest, Declare, NoDecls, MoreDecls, NoRest, Initial, Body, Members}
 use Rattle.c_builtins.specs.Table.{first_source_function}
 use Rattle.c_scopes.specs.Scopes.{meaning_in, same_name}
 use Rattle.c_types_model.specs.Types.{CType, CTypes, FunctionOf}
-use Rattle.c_types_rules.specs.Checked.{Checked, Fine, Noted, Broken, ◌>>=◌, ◌>>◌}
+use Rattle.c_types_rules.specs.Checked.{Fine, ◌>>◌}
 use Rattle.c_types_rules.specs.Environment.{Environment, Meaning, FunctionNamed, GlobalNamed}
 use Rattle.c_types_rules.specs.Expressions.{declared_name}
 use Rattle.c_types_rules.specs.Sources.{Function, Program, declaration, declarations}
@@ -20,7 +20,7 @@ use Rattle.stub_meaning.specs.Rules.{KeepsRules}
 use Rattle.c_lower_laws.proofs.Held.{Holds, holds_then, holds_on, holds_after}
 use Rattle.front_end_laws.proofs.Found.{holds_at, value, value_then}
 use Rattle.front_end_laws.proofs.Rules.{Enough, function_keeps, notes_say, prototype_of}
-use Rattle.front_end_laws.proofs.Declared.{Did, DidName, Grows, NoMembers, Same, again, first, object, struct, named_one, declaration_did, declarations_grow, did_grows, types}
+use Rattle.front_end_laws.proofs.Declared.{Did, DidName, Grows, NoMembers, Same, again, first, object, struct, named_one, declaration_did, declarations_grow, types}
 
 -- ---- what holds on the way
 
@@ -34,9 +34,10 @@ pub record Keeps (F : Program) (k : ℕ) (n : Notes) : Type 0 where
 abbrev pub Kept : Program → List Notes → Type 0
 Kept F ns = (k : ℕ) (n : Notes) → slice_get ns k ≡ Some n → Keeps F k n
 
--- so many functions are declared, and of each something is said
+-- so many functions and globals are declared, and of each something is said
 pub record Follows (F p : Program) (a : Annotated) : Type 0 where
   pub count : length a.functions ≡ length p.functions
+  pub guards : length a.guards ≡ length p.globals
   pub kept : Kept F a.functions
 
 -- names of functions stand for functions that are declared
@@ -110,11 +111,11 @@ same_numbers p q ns s other number u h =
 
 name_numbers : (p q : Program) (fresh : List ℕ) (ds : Decls) → Numbers p → DidName p fresh ds q → Numbers q
 name_numbers p q fresh ds ns (again number u e s) = same_numbers p q ns s
-name_numbers p q fresh ds ns (first u ts h none f g) =
+name_numbers p q fresh ds ns (first u ts h none f g c) =
     let more = more_count p q (FunctionOf u ts) g in
     numbers_by p q fresh (FunctionNamed (length p.functions + first_source_function) (FunctionOf u ts)) ns f (omega (arith, more))
     (λ number w e. let is = function_meaning (length p.functions + first_source_function) (FunctionOf u ts) number w e in (omega (arith, is), omega (arith, is, more)))
-name_numbers p q fresh ds ns (object place t none f g) =
+name_numbers p q fresh ds ns (object place t none f g c) =
     let same = same_count p q g in
     numbers_by p q fresh (GlobalNamed place t) ns f (omega (arith, same)) (λ number w e. absurd (no_global place t number w e))
 
@@ -133,29 +134,30 @@ noted_is env F from an b ps n (Body s) a h = refl
 noted_is env F from an b ps n (Members ds) a h = absurd h
 
 module _ (env : Environment) (F : Program) where
-  same_follows : (p q : Program) (a : Annotated) → types q ≡ types p → Follows F p a → Follows F q a
-  same_follows p q a e f = record { count = f.count ∙ sym (same_count p q e); kept = f.kept }
+  same_follows : (p q : Program) (a : Annotated) → types q ≡ types p → length q.globals ≡ length p.globals → Follows F p a → Follows F q a
+  same_follows p q a e c f = record { count = f.count ∙ sym (same_count p q e); guards = f.guards ∙ sym c; kept = f.kept }
 
   -- a function that was declared before
-  later : (p q : Program) (d : Decl) (number : ℕ) (a : Annotated) → Follows F p a → types q ≡ types p →
+  later : (p q : Program) (d : Decl) (number : ℕ) (a : Annotated) → Follows F p a → types q ≡ types p → length q.globals ≡ length p.globals →
       first_source_function ≤ number → number < first_source_function + length p.functions → (o : Option Function) →
       Holds (Follows F q) (noted_function env d (number - first_source_function) o a)
-  later p q d number a f e low high None = same_follows p q a e f
-  later p q d number a f e low high (Some g) =
-      let before : number - first_source_function < length a.functions = let c = f.count in omega (arith, low, high, c) in
+  later p q d number a f e c low high None = same_follows p q a e c f
+  later p q d number a f e c low high (Some g) =
+      let before : number - first_source_function < length a.functions = let said = f.count in omega (arith, low, high, said) in
       subst (λ b. Holds (Follows F q) (Rattle.std.specs.Prelude.if◌then◌else◌ b (declared_later d >> Fine a) (noted_as env d g g.type a)))
       (sym (less (number - first_source_function) (length a.functions) before))
-      (holds_after (Follows F q) (declared_later d) (Fine a) (same_follows p q a e f))
+      (holds_after (Follows F q) (declared_later d) (Fine a) (same_follows p q a e c f))
 
   -- a new one
   with_notes : (p q : Program) (from : ℕ) (an : Annots) (b : Base) (ps : Parts) (n : Option (List ℕ)) (r : Rest) (u : CType) (ts : CTypes) (a : Annotated) (g : Function) →
       Follows F p a → Enough (own_parameters ps) ts → slice_get (types F) (length p.functions) ≡ Some (FunctionOf u ts) → length q.functions ≡ length p.functions + 1 →
-      Holds (Follows F q) (noted_as env (Declare from an b ps n r) g (FunctionOf u ts) a)
-  with_notes p q from an b ps n r u ts a g f enough at more =
+      length q.globals ≡ length p.globals → Holds (Follows F q) (noted_as env (Declare from an b ps n r) g (FunctionOf u ts) a)
+  with_notes p q from an b ps n r u ts a g f enough at more same =
       holds_then (λ m. KeepsRules (prototype_of u ts) (notes_say m)) (Follows F q) (function_notes env (kind_of g) (Declare from an b ps n r) u ts) _
       (function_keeps env (kind_of g) from an b ps n r u ts enough)
       (λ m h. record {
         count = (let longer = length-append a.functions (m ∷ []) in let c = f.count in omega (arith, longer, c, more));
+        guards = f.guards ∙ sym same;
         kept = λ k x e. ⊎_elim
             (λ old. f.kept k x old)
             (λ new. subst (Keeps F k) new.1 (record { result = u; params = ts; type = ap (slice_get (types F)) (new.0 ∙ f.count) ∙ at; rules = h }))
@@ -164,19 +166,19 @@ module _ (env : Environment) (F : Program) where
 
   fresh : (p q : Program) (from : ℕ) (an : Annots) (b : Base) (ps : Parts) (n : Option (List ℕ)) (r : Rest) (u : CType) (ts : CTypes) (a : Annotated) →
       Follows F p a → Enough (own_parameters ps) ts → slice_get (types F) (length p.functions) ≡ Some (FunctionOf u ts) → length q.functions ≡ length p.functions + 1 →
-      (o : Option Function) → function_at F.functions (length p.functions) ≡ o → (k : ℕ) → k ≡ length p.functions →
+      length q.globals ≡ length p.globals → (o : Option Function) → function_at F.functions (length p.functions) ≡ o → (k : ℕ) → k ≡ length p.functions →
       Holds (Follows F q) (noted_function env (Declare from an b ps n r) k o a)
-  fresh p q from an b ps n r u ts a f enough at more None e k is =
+  fresh p q from an b ps n r u ts a f enough at more same None e k is =
       let found = of_type F.functions (length p.functions) (FunctionOf u ts) at in
       let bad : None ≡ Some found.0 = sym e ∙ found.1 in absurd cc
-  fresh p q from an b ps n r u ts a f enough at more (Some g) e k is =
+  fresh p q from an b ps n r u ts a f enough at more same (Some g) e k is =
       let found = of_type F.functions (length p.functions) (FunctionOf u ts) at in
       let one : g ≡ found.0 = same_Some g found.0 (sym e ∙ found.1) in
       let type : g.type ≡ FunctionOf u ts = ap (λ (x : Function). x.type) one ∙ found.2 in
       let after : length a.functions ≤ k = let c = f.count in omega (arith, c, is) in
       let d : Decl = Declare from an b ps n r in
       subst (λ c. Holds (Follows F q) (Rattle.std.specs.Prelude.if◌then◌else◌ c (declared_later d >> Fine a) (noted_as env d g g.type a))) (sym (no_less k (length a.functions) after))
-      (subst (λ t. Holds (Follows F q) (noted_as env d g t a)) (sym type) (with_notes p q from an b ps n r u ts a g f enough at more))
+      (subst (λ t. Holds (Follows F q) (noted_as env d g t a)) (sym type) (with_notes p q from an b ps n r u ts a g f enough at more same))
 
   one_name : (p q : Program) (from : ℕ) (an : Annots) (b : Base) (ps : Parts) (n : Option (List ℕ)) (r : Rest) (a : Annotated) →
       Numbers p → Follows F p a → Grows q F → Grows p F → DidName p (declared_name n) (own_parameters ps) q →
@@ -185,8 +187,8 @@ module _ (env : Environment) (F : Program) where
       let means : Some (FunctionNamed number u) ≡ m = sym (g.names (declared_name n) (FunctionNamed number u) e) ∙ is in
       let inside = ns (declared_name n) number u e in
       subst (λ o. Holds (Follows F q) (noted_name env F (Declare from an b ps n r) o a)) means
-      (later p q (Declare from an b ps n r) number a f s.types inside.0 inside.1 (function_at F.functions (number - first_source_function)))
-  one_name p q from an b ps n r a ns f g0 g (first u ts enough none names ty) m is =
+      (later p q (Declare from an b ps n r) number a f s.types s.globals inside.0 inside.1 (function_at F.functions (number - first_source_function)))
+  one_name p q from an b ps n r a ns f g0 g (first u ts enough none names ty same) m is =
       let number : ℕ = length p.functions + first_source_function in
       let here : meaning_in (declared_name n) q.names ≡ Some (FunctionNamed number (FunctionOf u ts)) = found_first q p (declared_name n) (FunctionNamed number (FunctionOf u ts)) names in
       let means : Some (FunctionNamed number (FunctionOf u ts)) ≡ m = sym (g0.names (declared_name n) (FunctionNamed number (FunctionOf u ts)) here) ∙ is in
@@ -195,16 +197,20 @@ module _ (env : Environment) (F : Program) where
       let at : slice_get (types F) (length p.functions) ≡ Some (FunctionOf u ts) = g0.types (length p.functions) (FunctionOf u ts) last in
       let place : number - first_source_function ≡ length p.functions = omega arith in
       subst (λ o. Holds (Follows F q) (noted_name env F (Declare from an b ps n r) o a)) means
-      (fresh p q from an b ps n r u ts a f enough at (more_count p q (FunctionOf u ts) ty) (function_at F.functions (number - first_source_function))
+      (fresh p q from an b ps n r u ts a f enough at (more_count p q (FunctionOf u ts) ty) same (function_at F.functions (number - first_source_function))
       (ap (function_at F.functions) (sym place)) (number - first_source_function) place)
-  one_name p q from an b ps n r a ns f g0 g (object place t none names ty) m is =
+  one_name p q from an b ps n r a ns f g0 g (object place t none names ty more) m is =
       let here : meaning_in (declared_name n) q.names ≡ Some (GlobalNamed place t) = found_first q p (declared_name n) (GlobalNamed place t) names in
       let means : Some (GlobalNamed place t) ≡ m = sym (g0.names (declared_name n) (GlobalNamed place t) here) ∙ is in
       subst (λ o. Holds (Follows F q) (noted_name env F (Declare from an b ps n r) o a)) means
-      (holds_on (Follows F q) (global_notes (Declare from an b ps n r)) _ (λ guard. record { count = f.count ∙ sym (same_count p q ty); kept = f.kept }))
+      (holds_on (Follows F q) (global_notes (Declare from an b ps n r)) _ (λ guard. record {
+        count = f.count ∙ sym (same_count p q ty);
+        guards = (let longer = length-append a.guards (guard ∷ []) in let c = f.guards in omega (arith, longer, c, more));
+        kept = f.kept;
+      }))
 
   one_more : (p q : Program) (d : Decl) (a : Annotated) → Numbers p → Follows F p a → Grows q F → Grows p F → Did p d q → Holds (Follows F q) (noted env F d a)
-  one_more p q d a ns f g0 g (struct from an b ps n ds z s) = holds_after (Follows F z) (bare_decls ds) (Fine a) (same_follows p z a s.types f)
+  one_more p q d a ns f g0 g (struct from an b ps n ds z s) = holds_after (Follows F z) (bare_decls ds) (Fine a) (same_follows p z a s.types s.globals f)
   one_more p q d a ns f g0 g (named_one from an b ps n r z nm h) =
       subst (Holds (Follows F z)) (sym (noted_is env F from an b ps n r a nm)) (one_name p z from an b ps n r a ns f g0 g h (meaning_in (declared_name n) F.names) refl)
 

@@ -1,19 +1,16 @@
 -- What code knows of the functions of a typed source.
-use Rattle.std.proofs.Common.{◌≡◌, ◌≤◌, ◌<◌, ℕ, zero, suc, ◌+◌, ◌-◌, Bool, true, false, ◌&&◌, cond, List, [], ◌∷◌, length, map, take, Option, Some, None, refl, sym, ap, ◌∙◌, subst, arith}
-use Rattle.std.specs.Prelude.{slice_get, is_none, ltb, leb}
+use Rattle.std.proofs.Common.{◌≡◌, ◌≤◌, ℕ, ◌+◌, ◌-◌, true, cond, Option, Some, None, refl, sym, ap, ◌∙◌, arith}
+use Rattle.std.specs.Prelude.{slice_get, is_none}
 use Rattle.std.proofs.lemmas.Bool.{le-ltb, and_parts, leb-true}
-use Rattle.std.proofs.lemmas.List.{take_all}
 use Rattle.marks.specs.Places.{builtin_count}
-use Rattle.c_builtins.specs.declared.lookup.TheConstants.{BUILTINS}
 use Rattle.c_code.specs.declared.code.FuncInfo.{FuncInfo}
-use Rattle.c_code.specs.Machine.{Flat, func_of}
-use Rattle.c_code.specs.Builtins.{Prototype, prototype}
+use Rattle.c_code.specs.Machine.{func_of}
 use Rattle.c_types_program.specs.declared.function.Body.{Body}
 use Rattle.c_types_program.specs.declared.function.Function.{Function}
 use Rattle.c_types_program.specs.Declarations.{Declared}
-use Rattle.call_operations.specs.Sets.{has_no_body, is_external}
+use Rattle.call_operations.specs.Sets.{has_no_body}
 use Rattle.call_operations_laws.specs.Codes.{HasFunctions}
-use Rattle.c_lower.specs.Lowered.{code_of, entry_at, info_of, infos_from, lowered}
+use Rattle.c_lower.specs.Lowered.{entry_at, info_of, infos_from, lowered}
 use Rattle.c_lower.proofs.Laid.{info_at, known_at, start}
 
 module _ (p : Declared) where

@@ -1,28 +1,26 @@
 -- What annotations say that keep their rules: sizes and keys of the right types, regions of pointers alone.
 use Rattle.std.proofs.Common.{◌≡◌, ℕ, zero, suc, ◌+◌, Bool, true, false, not, ◌&&◌, ◌||◌, List, [], ◌∷◌, ◌++◌, map, Option, Some, None, refl, sym, ap, ◌∙◌, subst, arith}
-use Rattle.std.specs.Prelude.{IfSome, if◌then◌else◌, is_some, is_none, nat_lt, slice_get, codes}
+use Rattle.std.specs.Prelude.{IfSome, if◌then◌else◌, is_some, is_none, slice_get, codes}
 use Rattle.std.specs.List.{All}
 use Rattle.std.proofs.lemmas.Option.{same_Some}
-use Rattle.c_syntax.specs.Syntax.{Decl, Decls, Annots, Annot, Items, Item, Atom, Parts, Rest, Declare, NoDecls, MoreDecls, NoAnnots, MoreAnnots, Annotate, OneFactor, TwoFactors, NameAtom, NumberAtom, ReturnAtom, SizeofAtom}
+use Rattle.c_syntax.specs.Syntax.{Decl, Decls, Annots, Annot, Item, Atom, Parts, Rest, Declare, NoDecls, MoreDecls, NoAnnots, MoreAnnots, Annotate, OneFactor, TwoFactors, NameAtom, NumberAtom, ReturnAtom, SizeofAtom}
 use Rattle.c_types_model.specs.Types.{CType, CTypes, Void, Integer, PointerTo, ArrayOf, StructOf, UndefinedStruct, FunctionOf, NoTypes, MoreTypes}
 use Rattle.c_scopes.specs.Scopes.{same_name}
-use Rattle.c_types_rules.specs.Checked.{Checked, Fine, keep, need, ◌>>=◌, ◌>>◌}
-use Rattle.c_types_rules.specs.TypeTests.{is_function, is_integer, is_scalar}
+use Rattle.c_types_rules.specs.Checked.{Checked, Fine, keep, need, ◌>>=◌}
+use Rattle.c_types_rules.specs.TypeTests.{is_integer, is_scalar}
 use Rattle.c_types_rules.specs.Operators.{size_in}
 use Rattle.c_types_rules.specs.TypeTests.{is_complete}
 use Rattle.c_types_rules.specs.Environment.{Environment, extents, inner}
 use Rattle.c_types_rules.specs.Expressions.{declared_type, parameter_scope}
-use Rattle.c_code.specs.declared.shape.Shape.{Shape}
 use Rattle.c_code.specs.declared.shape.Shape.TheVariants as shapes
 use Rattle.c_code.specs.Builtins.{Prototype, prototype}
 use Rattle.c_semantics.specs.Context.{shape_of, shapes_of}
-use Rattle.stub_core.specs.declared.terms.Term.{Term}
 use Rattle.stub_core.specs.declared.terms.Term.TheVariants.{Const, Param, Return}
 use Rattle.stub_core.specs.declared.terms.Size.{Size}
 use Rattle.annot_reader_rules.specs.Misplaced.{bare_annots, bare_parts, bare_rest}
 use Rattle.annot_reader_rules.specs.Notes.{Notes, Parameter}
-use Rattle.annot_reader_rules.specs.Regions.{Marked, Signature, all_marked, alone, first_of, go_together, has_region, is_called, is_function_pointer, is_object_pointer, key_parameter, of_marked, one_item, own_size, parameter_named, parameter_notes, place_from, prepares_of, reads_of, size, size_or_own, target, term, unmarked, writes_of}
-use Rattle.annot_reader_rules.specs.Functions.{FunctionKind, all_noted, all_parameters, among, bare_within, cut_word, commit_word, function_notes, holds_word, is_empty, is_filled, mutex, named_parameters, names_in, no_holds, noted, nothing, own_parameters, result_parts, sync_word, two_items, within}
+use Rattle.annot_reader_rules.specs.Regions.{Marked, Signature, all_marked, alone, first_of, go_together, has_region, is_called, is_function_pointer, is_object_pointer, key_parameter, of_marked, one_item, parameter_named, parameter_notes, place_from, prepares_of, reads_of, size, size_or_own, target, term, unmarked, writes_of}
+use Rattle.annot_reader_rules.specs.Functions.{FunctionKind, all_noted, all_parameters, among, bare_within, function_notes, is_empty, is_filled, mutex, named_parameters, names_in, no_holds, noted, nothing, own_parameters, result_parts, two_items}
 use Rattle.stub_operations.specs.Operations.{CallSays, ParameterSays}
 use Rattle.stub_meaning.specs.Rules.{IsCommitted, IsInteger, IsKey, IsPrepared, IsScalar, IsSize, IsTerm, IsWritten, KeepParameters, KeepsParameter, KeepsRules}
 use Rattle.std.proofs.lemmas.List.Elements.{All-append}

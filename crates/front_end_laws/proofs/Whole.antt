@@ -11,34 +11,33 @@ use Rattle.c_syntax.specs.Syntax.{Decls}
 use Rattle.c_types_model.specs.Types.{CType, CTypes, FunctionOf, NoTypes, MoreTypes}
 use Rattle.c_types_table.specs.Tables.{type_at}
 use Rattle.c_types_nodes.specs.Tables.{Table}
-use Rattle.c_types_rules.specs.Checked.{Checked, Fine, Noted, Broken, keep, ◌>>=◌, ◌>>◌}
+use Rattle.c_types_rules.specs.Checked.{Checked, Fine, Noted, Broken, keep, ◌>>◌}
 use Rattle.c_types_rules.specs.Environment.{FunctionNamed}
-use Rattle.c_types_rules.specs.Limits.{Outcome, Which, Functions, Params, Typed, Rule, Limit, all_keep, count, decided, few_params, first_limit, outcome, unless}
+use Rattle.c_types_rules.specs.Limits.{Which, Functions, Params, Typed, all_keep, count, decided, few_params, first_limit, outcome, unless}
 use Rattle.c_types_rules.specs.Sources.{Function as Known, Program, at_file, declarations, has_main, nothing, params_of, program, result_of, tags_of}
 use Rattle.c_code.specs.declared.shape.Shape.{Shape}
 use Rattle.c_code.specs.declared.code.FuncInfo.{FuncInfo}
 use Rattle.c_code.specs.Builtins.{Prototype, prototype}
-use Rattle.c_code.specs.Machine.{Flat, func_of}
 use Rattle.c_semantics.specs.Context.{shape_of, shapes_of}
 use Rattle.c_types_program.specs.declared.function.Function.{Function}
 use Rattle.c_types_program.specs.Declarations.{Declared, function_in}
 use Rattle.c_types_program.specs.Programs.{IsProgram}
-use Rattle.c_lower.specs.Lowered.{info_of, lowered}
-use Rattle.c_lower.proofs.Laid.{start}
+use Rattle.c_lower.specs.Lowered.{lowered}
 use Rattle.annot_reader_rules.specs.Cuts.{annotations}
 use Rattle.annot_reader_rules.specs.Notes.{Annotated, Notes, Parameter}
 use Rattle.annot_reader_words.specs.declared.notes.Annots.{Annots}
 use Rattle.annot_reader_words.specs.declared.notes.Param.{Param}
-use Rattle.annot_reader_words.specs.Readings.{parameter_in, parameters_in}
+use Rattle.annot_reader_words.specs.Readings.{parameters_in}
 use Rattle.annot_reader.specs.Interface.{Interface}
 use Rattle.annot_reader.specs.Interfaces.{IsInterface, IsRead, SaysOf, declared_at}
 use Rattle.annot_reader.specs.Reading.{nothing_read}
-use Rattle.stub_operations.specs.Operations.{CallSays, ParameterSays}
+use Rattle.stub_operations.specs.Operations.{ParameterSays}
 use Rattle.stub_meaning.specs.Meaning.{type_of}
 use Rattle.stub_meaning.specs.Rules.{KeepParameters, KeepsRules}
 use Rattle.call_operations.specs.Said.{call_says, parameter_says}
 use Rattle.call_operations_laws.specs.Codes.{KeepRules}
 use Rattle.c_lower_laws.proofs.Held.{Holds}
+use Rattle.front_end_laws.specs.Annotations.{ReadOfAll, SayOfAll}
 use Rattle.front_end_laws.proofs.Found.{holds_at, value, value_after, value_then}
 use Rattle.front_end_laws.proofs.Rules.{notes_say, prototype_of, says_of}
 use Rattle.front_end_laws.proofs.Declared.{types}
@@ -80,7 +79,7 @@ few_decided p (Broken from rule) e = absurd cc
 -- what was read of them says something of each function
 follow : (ds : Decls) (p : Program) → outcome ds ≡ Typed p → Holds (Follows p p) (annotations ds p)
 follow ds p e = all_follow (at_file (tags_of ds) p) p (tags_of ds) ds nothing nothing_read (declared ds p e)
-    (λ other number u h. absurd (none other number u h)) (record { count = refl; kept = λ k n h. absurd (nowhere k n h) })
+    (λ other number u h. absurd (none other number u h)) (record { count = refl; guards = refl; kept = λ k n h. absurd (nowhere k n h) })
   where
     none : (other : List ℕ) (number : ℕ) (u : CType) → meaning_in other nothing.names ≡ Some (FunctionNamed number u) → ⊥
     none other number u h = cc
@@ -88,9 +87,19 @@ follow ds p e = all_follow (at_file (tags_of ds) p) p (tags_of ds) ds nothing no
     nowhere : (k : ℕ) (n : Notes) → slice_get nothing_read.functions k ≡ Some n → ⊥
     nowhere k n h = cc
 
--- something is said of each function
-pub all_said : (ds : Decls) (p : Program) (a : Annotated) → outcome ds ≡ Typed p → value (annotations ds p) ≡ Some a → length a.functions ≡ length p.functions
-all_said ds p a e here = let follows : Follows p p a = holds_at (Follows p p) (annotations ds p) a (follow ds p e) here in follows.count
+-- something is said of each function and of each global
+pub all_said : (ds : Decls) (p : Program) (a : Annotated) → outcome ds ≡ Typed p → value (annotations ds p) ≡ Some a → SayOfAll p a
+all_said ds p a e here =
+    let follows : Follows p p a = holds_at (Follows p p) (annotations ds p) a (follow ds p e) here in
+    record { functions = follows.count; globals = follows.guards }
+
+pub read_of_all : (ds : Decls) (p : Program) → outcome ds ≡ Typed p → ReadOfAll p (annotations ds p)
+read_of_all ds p e = by (annotations ds p) (follow ds p e)
+  where
+    by : (c : Checked Annotated) → Holds (Follows p p) c → ReadOfAll p c
+    by (Fine a) h = record { functions = h.count; globals = h.guards }
+    by (Noted n a) h = record { functions = h.count; globals = h.guards }
+    by (Broken from rule) h = tt
 
 read : (cut : List ℕ) (c : Checked Annotated) (i : Interface) → IsInterface cut c (Ok i) → (a : Annotated) × (value c ≡ Some a) × IsRead cut a i
 read cut (Fine a) i h = (a, refl, h.0)

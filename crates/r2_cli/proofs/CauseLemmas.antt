@@ -1,29 +1,28 @@
 -- Each outcome has a status with a cause.
-use Rattle.std.proofs.Common.{◌≡◌, ◌≤◌, ◌<◌, ◌∷◌, [], ◌⊎◌, inl, inr, ℕ, List, Bool, true, false, Option, Some, None, length, codes, sym, ◌∙◌, ap, refl, subst}
+use Rattle.std.proofs.Common.{◌≡◌, ◌≤◌, [], inl, ℕ, List, Bool, true, false, Some, length, codes, sym, refl, subst}
 use Rattle.cut_check.specs.Lines.{LinesOf}
 use Rattle.front_end.specs.Sources.{IsWrong}
 use Rattle.front_end.specs.declared.error.SourceError.{SourceError}
 use Rattle.front_end.specs.declared.error.SourceError.TheVariants as errors
 use Rattle.log_closure.specs.Events.{Part, In}
-use Rattle.r2_base.specs.Causes.{Rose}
 use Rattle.r2_base.specs.Seen.{Contents}
 use Rattle.r2_cli_outcome.specs.declared.status.Status.{Status}
-use Rattle.r2_cli_outcome.specs.declared.status.Status.TheVariants.{Done, Usage, Short, ReadFault, WriteFault, NoMemory}
+use Rattle.r2_cli_outcome.specs.declared.status.Status.TheVariants.{Done}
 use Rattle.r2_cli_outcome.specs.World.{World}
-use Rattle.r2_cli_outcome.specs.Outcome.{Target, Outcome, printed, refusal}
-use Rattle.r2_cli_outcome.specs.Reading.{Of, AreOf}
-use Rattle.r2_cli_outcome.specs.Stages.{Answer, Then, Only, Comes, passed, ended, on, stop, done, refused}
+use Rattle.r2_cli_outcome.specs.Outcome.{Outcome, printed}
+use Rattle.r2_cli_outcome.specs.Reading.{Of}
+use Rattle.r2_cli_outcome.specs.Stages.{Then, Only, Comes, passed, on, stop, done, refused}
 use Rattle.r2_cli_outcome.specs.Input as input
 use Rattle.r2_cli_outcome.specs.Input.{Input}
 use Rattle.r2_cli_outcome.specs.Log as log_stage
 use Rattle.r2_cli_outcome.specs.Log.{LogOf, IsLogPart, log}
-use Rattle.r2_cli_outcome.specs.Left.{Leaves, faults_at}
+use Rattle.r2_cli_outcome.specs.Left.{Leaves}
 use Rattle.r2_cli_outcome.proofs.Decided.{EndsIn, ends_then, ends_only}
 use Rattle.r2_cli_outcome.proofs.Consequences.{leaves_cause}
 use Rattle.r2_cli.specs.declared.help.TheConstants.{HELP, VERSION}
 use Rattle.r2_cli.specs.Source as source_stage
 use Rattle.r2_cli.specs.Source.{SourceOf, refused_for, source}
-use Rattle.r2_cli.specs.Words.{Form, help, version, order, check, stubs, gen, IsForm, IsUsage, source_of, log_of, inputs_of}
+use Rattle.r2_cli.specs.Words.{Form, help, version, order, check, stubs, gen, IsForm, source_of, log_of, inputs_of}
 use Rattle.r2_cli.specs.Commands.{command, generated, order_outcome, IsOutcome, OutcomeOf, StubsOf, no_form, formed}
 use Rattle.r2_cli.specs.Causes as cause
 use Rattle.r2_cli.proofs.CommandLemmas.{stubs_end}

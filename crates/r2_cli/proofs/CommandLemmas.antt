@@ -1,14 +1,13 @@
 -- Each command decides one outcome, reads its inputs alone, and writes its outputs alone.
-use Rattle.std.proofs.Common.{◌≡◌, inl, inr, ◌∷◌, [], ◌++◌, ℕ, List, Bool, true, false, Option, codes, sym, ◌∙◌, refl, subst}
+use Rattle.std.proofs.Common.{◌≡◌, inl, inr, ◌∷◌, [], ℕ, List, Bool, true, false, Option, codes, sym, ◌∙◌, refl, subst}
 use Rattle.front_end.specs.declared.error.SourceError.{SourceError}
 use Rattle.front_end.specs.declared.error.SourceError.TheVariants as errors
 use Rattle.log_closure.specs.Events.{Part, In}
-use Rattle.r2_base.specs.Seen.{Contents, Store, OnlyReads}
-use Rattle.r2_cli_outcome.specs.declared.plan.Plan.{Plan}
-use Rattle.r2_cli_outcome.specs.declared.status.Status.TheVariants.{Done, Usage, Short}
-use Rattle.r2_cli_outcome.specs.Outcome.{Outcome, Target, Write, out, file, printed, refusal}
+use Rattle.r2_base.specs.Seen.{Contents, Store}
+use Rattle.r2_cli_outcome.specs.declared.status.Status.TheVariants.{Done}
+use Rattle.r2_cli_outcome.specs.Outcome.{Outcome, out, file, printed}
 use Rattle.r2_cli_outcome.specs.Reading.{Reading, Of, Sees}
-use Rattle.r2_cli_outcome.specs.Stages.{Answer, Then, Only, Comes, passed, ended, on, stop, done, refused}
+use Rattle.r2_cli_outcome.specs.Stages.{Answer, Then, Only, Comes, passed, ended, on, done, refused}
 use Rattle.r2_cli_outcome.specs.Input as input
 use Rattle.r2_cli_outcome.specs.Input.{Input}
 use Rattle.r2_cli_outcome.specs.Log as log_stage
@@ -22,10 +21,10 @@ use Rattle.generated_files.specs.declared.texts.TheConstants.{SYSTEM}
 use Rattle.r2_cli.specs.declared.help.TheConstants.{HELP, VERSION}
 use Rattle.r2_cli.specs.Source as source_stage
 use Rattle.r2_cli.specs.Source.{SourceOf, refused_for, source}
-use Rattle.r2_cli.specs.Words.{Form, help, version, order, check, stubs, gen, IsForm, IsUsage, inputs_of, outputs_of}
+use Rattle.r2_cli.specs.Words.{Form, help, version, order, check, stubs, gen, IsForm, inputs_of, outputs_of}
 use Rattle.r2_cli.specs.Commands as outcomes
 use Rattle.r2_cli.specs.Commands.{command, generated, order_outcome, IsOutcome, OutcomeOf, SameOutcome, StubsOf, no_form, formed}
-use Rattle.r2_cli.proofs.FormLemmas.{one_form, in_has, has_in}
+use Rattle.r2_cli.proofs.FormLemmas.{one_form, has_in}
 use Rattle.r2_cli.proofs.SourceLemmas.{self, one_source, one_stubs_of}
 
 -- what follows an accepted source

@@ -1,9 +1,9 @@
 -- Words have one form at most, and the names that a form reads.
 use Rattle.std.proofs.lemmas.Fmt.{decimal_is_IsNumeral}
 use Rattle.std.specs.Str.Parse.{digits_value}
-use Rattle.std.proofs.Common.{arith, ◌≡◌, ◌∷◌, [], ◌⊎◌, ◌||◌, inl, inr, ℕ, List, Option, Some, None, codes, sym, ◌∙◌, ap, refl, subst, cond, bytes_eq, IfNone, true, false, Bool}
+use Rattle.std.proofs.Common.{arith, ◌≡◌, ◌∷◌, [], ◌||◌, inl, inr, ℕ, List, Option, Some, None, codes, sym, ◌∙◌, ap, refl, subst, cond, bytes_eq, IfNone, true, false, Bool}
 use Rattle.log_closure.specs.Events.{In}
-use Rattle.r2_cli_outcome.proofs.Named.{has, has_first, has_more, its_name, same_name}
+use Rattle.r2_cli_outcome.proofs.Named.{has, has_first, has_more, same_name}
 use Rattle.r2_cli.specs.declared.forms.Command.{Command}
 use Rattle.r2_cli.specs.Forms.{form_of}
 use Rattle.r2_cli.specs.Words.{Form, help, version, order, check, stubs, gen, words_of, HasNames, IsForm, IsUsage}

@@ -2,14 +2,14 @@
 use Rattle.std.proofs.lemmas.Int.{to_z-of_z}
 use Rattle.std.proofs.lemmas.Bool.Decides.{nat_tests}
 use Rattle.std.specs.Int.Signed.{lt_z}
-use Rattle.std.proofs.Common.{◌≡◌, ◌≤◌, ◌<◌, true, ltb, ◌^◌, to_z, of_z, ◌∷◌, [], ℕ, ℤ, pos, negsuc, suc, List, Option, Some, None, IfSome, IfNone, codes, get_or, sym, ◌∙◌, ap, subst, arith}
+use Rattle.std.proofs.Common.{◌≡◌, ◌≤◌, ◌<◌, true, ltb, to_z, of_z, ◌∷◌, [], ℕ, ℤ, pos, negsuc, suc, List, Option, Some, None, IfSome, IfNone, codes, get_or, sym, ◌∙◌, ap, subst, arith}
 use Rattle.std.specs.Prelude.{FitsSigned}
 use Rattle.std.specs.Int.{w128}
 use Rattle.std.specs.Fmt.{decimal, signed_decimal}
 use Rattle.r2_base.proofs.Decimals.{same_number, no_minus}
 use Rattle.r2_cli.specs.declared.forms.Command.{Command}
 use Rattle.r2_cli.specs.Forms.{form_of}
-use Rattle.r2_cli.specs.Words.{Form, CanGenerate, gen, IsForm}
+use Rattle.r2_cli.specs.Words.{CanGenerate, gen, IsForm}
 
 -- a text that is read as a number and spells a small one
 pub same_rounds : (word : List ℕ) (v : ℤ) (n : ℕ) → word ≡ signed_decimal v → FitsSigned w128 v → n ≤ 40000 → word ≡ decimal n → v ≡ pos n

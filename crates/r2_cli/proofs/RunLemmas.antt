@@ -1,20 +1,17 @@
 -- What the call leaves.
-use Rattle.std.proofs.Common.{◌≡◌, ◌≤◌, ◌⊎◌, ◌∷◌, [], inl, inr, ℕ, List, IsTrue, Result}
+use Rattle.std.proofs.Common.{◌≡◌, ℕ, List, IsTrue, Result}
 use Rattle.log_closure.specs.Events.{In}
 use Rattle.r2_base.specs.Seen.{Store, Stream, OnlyReads}
 use Rattle.r2_cli_outcome.specs.declared.plan.Plan.{Plan}
 use Rattle.r2_cli_outcome.specs.declared.plan.End.{End}
 use Rattle.r2_cli_outcome.specs.declared.status.Status.{Status}
-use Rattle.r2_cli_outcome.specs.declared.status.Status.TheVariants as status
 use Rattle.r2_cli_outcome.specs.World.{World, Later, world}
-use Rattle.r2_cli_outcome.specs.Outcome.{Outcome}
 use Rattle.r2_cli_outcome.specs.Reading.{Sees}
 use Rattle.r2_cli_outcome.specs.Plans.{IsPlanned}
 use Rattle.r2_cli_outcome.specs.Left.{Leaves}
 use Rattle.r2_cli_outcome.specs.Finishing.{Finishes}
-use Rattle.r2_cli_outcome.specs.Complete.{IsQuiet, LeavesAll}
 use Rattle.r2_cli_outcome.proofs.LeavesLemmas.{leaves_by, leaves_more}
-use Rattle.r2_cli_outcome.proofs.Consequences.{complete, other_names_stay}
+use Rattle.r2_cli_outcome.proofs.Consequences.{other_names_stay}
 use Rattle.r2_cli.specs.Commands.{IsOutcome, OutcomeOf}
 use Rattle.r2_cli.specs.Words.{Form, IsForm, outputs_of}
 use Rattle.r2_cli.proofs.CommandLemmas.{of_contents, outcome_avoids}

@@ -1,11 +1,9 @@
 -- What reading a source comes to, and that its bytes and the name of the cut decide it.
-use Rattle.std.proofs.Common.{◌≡◌, ℕ, List, [], refl, sym, ap, ◌∙◌, subst, codes}
-use Rattle.cut_check.specs.Lines.{FoundText, LinesOf, of_cut, of_lines, text_of}
-use Rattle.cut_check.specs.Stubs.{StubsText}
+use Rattle.std.proofs.Common.{◌≡◌, ℕ, List, [], refl, sym, ap, subst, codes}
+use Rattle.cut_check.specs.Lines.{FoundText, LinesOf, of_lines, text_of}
 use Rattle.cut_check.proofs.Lines.{no_lines, is_right}
 use Rattle.cut_check.proofs.OneText.{one_lines, one_stubs}
 use Rattle.front_end.specs.Answers.{IsSourceError}
-use Rattle.front_end.specs.Sources.{IsWrong}
 use Rattle.front_end.specs.Same as alike
 use Rattle.front_end.specs.Same.{SameError}
 use Rattle.front_end.specs.declared.error.SourceError.{SourceError}

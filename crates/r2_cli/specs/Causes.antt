@@ -1,8 +1,7 @@
 -- When each status comes.
-use Rattle.std.specs.Prelude.{◌≡◌, ◌≢◌, ◌≤◌, ◌<◌, ℕ, List, [], Bool, true, false, Option, Some, None, length}
+use Rattle.std.specs.Prelude.{◌≡◌, ◌≢◌, ◌≤◌, ◌<◌, ℕ, List, [], true, false, Some, None, length}
 use Rattle.cut_check.specs.Lines.{LinesOf}
 use Rattle.front_end.specs.Sources.{IsWrong}
-use Rattle.front_end.specs.declared.error.SourceError.{SourceError}
 use Rattle.front_end.specs.declared.error.SourceError.TheVariants as errors
 use Rattle.front_end.specs.declared.error.SourceFault.{SourceFault}
 use Rattle.front_end.specs.declared.error.SourceLimit.{SourceLimit}
@@ -33,7 +32,7 @@ pub record ReadsSource (contents : Contents) (form : Form) (bytes cut : List ℕ
   pub short : length bytes ≤ 1048576
 
 -- the command's job is complete: of a log that it reads, the whole is there; a source that it reads is
--- right, and nothing is found in its cut
+-- right, and nothing is found in it
 abbrev pub IsComplete : Contents → Form → Type 0
 IsComplete contents help = Unit {0}
 IsComplete contents version = Unit {0}

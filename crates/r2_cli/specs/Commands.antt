@@ -1,7 +1,7 @@
 -- The commands: each is its stages, one after the other, and what it then leaves. The order of the stages
 -- is that of refusals.
 use Rattle.std.specs.Prelude.{List, [], ◌∷◌, ℕ, codes, Bool, true, false, Option}
-use Rattle.log_closure.specs.Events.{LogEvent, Part}
+use Rattle.log_closure.specs.Events.{LogEvent}
 use Rattle.event_texts.specs.EventTexts.{order_text}
 use Rattle.cut_check.specs.Stubs.{StubsText}
 use Rattle.generated_files.specs.Source.{source_text}

@@ -1,4 +1,4 @@
--- The stage that reads a source: its cut is accepted, or what is wrong with it is named.
+-- The stage that reads a source: nothing is found in it, or what is wrong with it is named.
 use Rattle.std.specs.Prelude.{◌≢◌, ℕ, List, [], ◌++◌, codes, decimal}
 use Rattle.c_types.specs.declared.error.Which.TheVariants as numbers
 use Rattle.cut_check.specs.Lines.{LinesOf, text_of}
@@ -61,8 +61,8 @@ refused_for cut errors.NoSuchCut = refusal Source (no_cut_words cut)
 refused_for cut (errors.Limit limit) = refusal Limit (limit_words (limit_word limit) (limit_number limit))
 refused_for cut errors.Memory = refusal NoMemory (codes "no memory")
 
--- what the bytes of a source come to: what is wrong with it; the lines of what is found in its cut; or the
--- bytes, where nothing is found
+-- what the bytes of a source come to: what is wrong with it; the lines of what is found in its cut, or else of
+-- its guards; or the bytes, where nothing is found
 pub data SourceOf (cut bytes : List ℕ) : Answer (List ℕ) → Type 0 where
   wrong : {error : SourceError} → IsWrong bytes cut error →
       SourceOf cut bytes (ended (refused_for cut error))
@@ -71,6 +71,6 @@ pub data SourceOf (cut bytes : List ℕ) : Answer (List ℕ) → Type 0 where
   accepted : LinesOf bytes cut [] → SourceOf cut bytes (passed bytes)
 
 -- the reading of a source, its size, its tokens, its grammar, its types with their limits, its annotations
--- with the cut, the limits of flat code, and what is found in the cut
+-- with the cut, the limits of flat code, and what is found in the cut or of guards
 abbrev pub source : Reading → (src cut : List ℕ) → Stage (List ℕ)
 source reading src cut = Input reading src (codes "source") 1048576 >>= SourceOf cut

@@ -1,6 +1,8 @@
 //! The commands, stage by stage. Nothing is written here.
 
-ghost use Rattle.std.specs.Prelude.{◌≡◌, [], ◌∷◌, map, IfOk};
+ghost use Rattle.std.specs.Prelude.{◌≡◌, [], ◌∷◌, List, ℕ, map, IfOk};
+ghost use Rattle.cut_check.specs.Stubs.{StubsText};
+ghost use Rattle.front_end.specs.Answers.{IsAccepted};
 ghost use Rattle.r2_base.specs.Seen.{OnlyReads};
 ghost use Rattle.r2_cli_outcome.specs.declared.status.Status.TheVariants.{Done};
 ghost use Rattle.r2_cli_outcome.specs.Outcome.{file, printed};
@@ -15,6 +17,7 @@ use crate::forms::{Command, command_of};
 use crate::help::{HELP, VERSION};
 use crate::source::source;
 use cut_check::stubs_text;
+use front_end::CheckedSource;
 use generated_files::SYSTEM;
 use log_closure::Closed;
 use r2_base::Files;
@@ -66,8 +69,19 @@ fn check<F: Files>(alloc: Global, files: &mut F, src: &str, cut: &str) -> Result
     ensures answers { Answers outcome_of (command (Sees (F.seen files.old)) (check src.now cut.now))
         (F.seen files.old).read_faults (F.seen files.new).read_faults result }
 {
-    let _accepted = source(alloc, files, src, cut)?;
+    let checked = source(alloc, files, src, cut)?;
+    drop(checked);
     Ok(printed(alloc, "accepted\n")?)
+}
+
+/// The plan that prints the stubs of an accepted source.
+fn stubs_of(alloc: Global, source: &CheckedSource) -> Result<Plan, AllocError>
+    requires { (bytes : List ℕ) × (cut : List ℕ) × IsAccepted bytes cut source.now }
+    ensures { (bytes cut : List ℕ) → IsAccepted bytes cut source.now → IfOk result (λ plan.
+        (text : List ℕ) × StubsText bytes cut text × (outcome_of plan ≡ printed Done text [])) }
+{
+    let text = stubs_text(alloc, source)?;
+    print(alloc, Status::Done, Text::Bytes(text), Vec::new(alloc))
 }
 
 fn stubs<F: Files>(alloc: Global, files: &mut F, src: &str, cut: &str) -> Result<Plan, End>
@@ -76,8 +90,9 @@ fn stubs<F: Files>(alloc: Global, files: &mut F, src: &str, cut: &str) -> Result
         (F.seen files.old).read_faults (F.seen files.new).read_faults result }
 {
     let accepted = source(alloc, files, src, cut)?;
-    let text = stubs_text(alloc, &accepted.source)?;
-    Ok(print(alloc, Status::Done, Text::Bytes(text), Vec::new(alloc))?)
+    let plan = stubs_of(alloc, &accepted.source);
+    drop(accepted);
+    Ok(plan?)
 }
 
 /// The two files of a generated program.

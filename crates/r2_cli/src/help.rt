@@ -11,9 +11,9 @@ r2 records, replays and reads the runs of programs that are cut at an interface.
   r2 --help          print this text
   r2 --version       print the version
 
-Exit status: 0 done, 1 the cut is wrong, 2 usage, 3 the source is wrong, 8 the
-log is cut short, 9 the log is wrong, 11 a read failed, 12 a write failed, 13 a
-limit is passed, 14 no memory.
+Exit status: 0 done, 1 the cut or a guard is wrong, 2 usage, 3 the source is
+wrong, 8 the log is cut short, 9 the log is wrong, 11 a read failed, 12 a write
+failed, 13 a limit is passed, 14 no memory.
 ";
 
 /// The text of `r2 --version`.

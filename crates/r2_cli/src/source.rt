@@ -1,4 +1,4 @@
-//! The stage that reads a source, and looks at its cut.
+//! The stage that reads a source, and looks at its cut and its guards.
 
 ghost use Rattle.std.specs.Prelude.{◌≡◌, ◌≤◌, List, ℕ, IfErr, IfOk, length};
 ghost use Rattle.cut_check.specs.Lines.{FoundText};
@@ -54,7 +54,7 @@ fn wrong(alloc: Global, cut: &str, error: SourceError) -> End
     }
 }
 
-/// A source whose cut is accepted: its bytes, and what it is by them.
+/// A source in which nothing is found: its bytes, and what it is by them.
 #[derive(Drop)]
 pub struct AcceptedSource {
     pub bytes: Vec<u8>,
@@ -73,7 +73,7 @@ fn checked(alloc: Global, bytes: &[u8], cut: &str) -> Result<CheckedSource, End>
     }
 }
 
-/// The end of a command in whose cut this was found, if anything was.
+/// The end of a command in whose source this was found, if anything was.
 fn unless_found(alloc: Global, found: Vec<u8>) -> Result<(), End>
     ensures { (bytes cut : List ℕ) → FoundText bytes cut found.items →
         Answers (λ _. bytes) (SourceOf cut bytes) 0 0 result }
@@ -84,7 +84,7 @@ fn unless_found(alloc: Global, found: Vec<u8>) -> Result<(), End>
     Err(print_and_end(alloc, Status::Findings, found))
 }
 
-/// The source that the bytes are, where its cut is accepted.
+/// The source that the bytes are, where nothing is found in it.
 fn source_of(alloc: Global, bytes: Vec<u8>, cut: &str) -> Result<AcceptedSource, End>
     requires { length bytes.items ≤ 1048576 }
     ensures accepted { IfOk result (λ s. IsAccepted s.bytes.items cut.now s.source) }
@@ -96,7 +96,7 @@ fn source_of(alloc: Global, bytes: Vec<u8>, cut: &str) -> Result<AcceptedSource,
     Ok(AcceptedSource { bytes, source })
 }
 
-/// The source that the file holds: its reading, its size, all its rules and limits, in their order, and then its cut.
+/// The source that the file holds: its reading, its size, all its rules and limits, in their order, and then its cut and its guards.
 pub fn source<F: Files>(
     alloc: Global,
     files: &mut F,

@@ -2,7 +2,6 @@ use Rattle.std.proofs.Common.{◌≡◌, ℕ, List, refl, sym, subst}
 use Rattle.c_lexer.specs.declared.token.Token.{Token}
 use Rattle.c_syntax.specs.Syntax.{Decls}
 use Rattle.c_types_rules.specs.Limits.{Outcome, Typed, Rule, Limit, outcome}
-use Rattle.c_code.specs.Machine.{Flat}
 use Rattle.stub_operations.specs.declared.purpose.Purpose.{Purpose}
 use Rattle.stub_operations.specs.Stubs.{Stubs}
 use Rattle.stub_meaning.specs.Fits.{IsFit}

@@ -1,7 +1,7 @@
 use Rattle.std.proofs.Common.{refl}
 use Rattle.r2_cli_outcome.proofs.StageLemmas.{plans, plans_refusal, read_nothing}
 use Rattle.r2_cli.specs.Words.{help, version, order, check, stubs, gen}
-use Rattle.r2_cli.specs.Commands.{command, no_form, formed}
+use Rattle.r2_cli.specs.Commands.{no_form, formed}
 use Rattle.r2_cli.proofs.FormLemmas.{is_form_of}
 use Rattle.r2_cli.proofs.commands.planned.Goals as goal
 

@@ -1,4 +1,4 @@
-use Rattle.std.proofs.Common.{◌≡◌, ℕ, List, sym, subst}
+use Rattle.std.proofs.Common.{ℕ, List, subst}
 use Rattle.front_end.specs.Answers.{IsAccepted}
 use Rattle.r2_cli_outcome.specs.Plans.{EndsAs, gives}
 use Rattle.r2_cli_outcome.proofs.StageLemmas.{end_of, ends_with, out_of_memory, value_of}

@@ -1,0 +1,4 @@
+pub mod Wants
+pub mod Typed
+pub mod Laws
+pub mod Examples
