@@ -25,7 +25,7 @@ use Rattle.whole_runs.specs.Sides.{seen}
 use Rattle.whole_runs.specs.Picks.{can_step}
 use Rattle.whole_runs.specs.Below.{Given, ByPool, Says, NoMore, given}
 use Rattle.whole_runs.specs.Tests.{comes_up, give_checks, checks_above, tests}
-use Rattle.whole_runs.specs.Steps.{Picked, EventAgrees, Agrees, IsMade}
+use Rattle.whole_runs.specs.Steps.{Picked, EventAgrees, Agrees, IsMade, IsFault}
 use Rattle.whole_runs.specs.Ends.{Follows}
 use Rattle.whole_runs.specs.Fits.{IsFitItem, IsFitFile}
 use Rattle.whole_runs_laws.specs.Exists.{HasFault, FaultsAboveCanBeMet, FaultsCanBeMetWhereTheyEnd}
@@ -120,7 +120,7 @@ commit_none changed piece (Some r) used kind (inl h) = no_breach h.2
 commit_none changed piece (Some r) used kind (inr h) = h.1
 
 -- a Ret is tested for breaches alone
-return_none : (i : Interface) (s : Start) (past : List Mark) (below : Answered) (f : ℕ) (args : List ℕ) (v : ℕ) (kind : FaultKind) → Finds (return_checks i s past below f args v) (FaultFound kind) → ⊥
+pub return_none : (i : Interface) (s : Start) (past : List Mark) (below : Answered) (f : ℕ) (args : List ℕ) (v : ℕ) (kind : FaultKind) → Finds (return_checks i s past below f args v) (FaultFound kind) → ⊥
 return_none i s past below f args v kind = of (i.commits f args v)
   where
     of : (o : Option Committing) → Finds (return_checks (record i { commits = λ f args v. o }) s past below f args v) (FaultFound kind) → ⊥
@@ -135,7 +135,7 @@ return_none i s past below f args v kind = of (i.commits f args v)
 module _ (w : World) where
   -- ---- what follows has neither faults nor Stops, and its events stand above the cut
 
-  no_end : (past : List Mark) (s : Picked w past) (m : Mark) → IsMade w past s m → (is_stop m.act ≡ false) × ((f : Option FaultKind) → act_fault m.act f ≡ f)
+  pub no_end : (past : List Mark) (s : Picked w past) (m : Mark) → IsMade w past s m → (is_stop m.act ≡ false) × ((f : Option FaultKind) → act_fault m.act f ≡ f)
   no_end past s m h = go m.act h.agrees
     where
       kind_no_end : (k : EventKind) → EventAgrees w past s.thread s.want k → is_stop_event k ≡ false
@@ -157,10 +157,10 @@ module _ (w : World) where
       go (Fault k c ins outs at) a = absurd a
       go (Made e) a = (kind_no_end e.kind a, λ f. refl)
 
-  abbrev Runs : List Mark → Type 0
+  abbrev pub Runs : List Mark → Type 0
   Runs mine = (is_stopped mine ≡ false) × (fault_of mine ≡ None)
 
-  running : (past : List Mark) → Follows w past → (t : ℕ) → Runs (marks_of (begin w) t (seen past))
+  pub running : (past : List Mark) → Follows w past → (t : ℕ) → Runs (marks_of (begin w) t (seen past))
   running [] f t = (refl, refl)
   running (m ∷ past) f t = go (running past f.1 t) (same_side m.side Replay)
     where
@@ -206,7 +206,7 @@ module _ (w : World) where
           let at : same_side Replay m.side ≡ true = ap (λ d. same_side d m.side) (sym (event_side s.side m.act z)) ∙ side_is s.side s.want m h.replies in
           absurd (true≢false (sym (ap (λ d. same_side d Replay) (sym (same_side_true Replay m.side at))) ∙ e))
 
-  events_seen : (past : List Mark) → Follows w past → (l : Link) → events_with (begin w) l past ≡ events_with (begin w) l (seen past)
+  pub events_seen : (past : List Mark) → Follows w past → (l : Link) → events_with (begin w) l past ≡ events_with (begin w) l (seen past)
   events_seen [] f l = refl
   events_seen (m ∷ past) f l = go (events_seen past f.1 l) (same_side m.side Replay) refl
     where
@@ -216,14 +216,14 @@ module _ (w : World) where
 
   -- ---- the fault
 
-  few_threads : IsFitFile w → (past : List Mark) (s : Picked w past) → s.thread < 32
+  pub few_threads : IsFitFile w → (past : List Mark) (s : Picked w past) → s.thread < 32
   few_threads fit past s =
       let wish : ℕ = wish_at w.file.schedule (length past) in
       found_below 32 (can_step w past) (order_of wish) s.thread (order_below wish (entry_below w.file.schedule (length past % round w.file.schedule) fit.items)) s.picked
 
   module _ (past : List Mark) (f : Follows w past) (s : Picked w past) (on : s.side ≡ Replay) where
     -- what the thread wants, whatever it made
-    abbrev this : Program
+    abbrev pub this : Program
     this = record { interface = interface w; want = λ t mine. s.want }
 
     answered : (m : Mark) (kind : FaultKind) → m.side ≡ Replay → act_fault m.act None ≡ Some kind → is_reply s.want m.act ≡ true → reply s.side s.want m ≡ Some Stopped
@@ -233,43 +233,43 @@ module _ (w : World) where
         let same : same_side (side_of s.side m.act) m.side ≡ true = ap (λ d. same_side d m.side) (plain_side s.side m.act plain ∙ on) ∙ ap (λ d. same_side Replay d) here in
         ap (λ b. cond b (answer_to s.want m.act) None) same ∙ fault_stops s.want m.act kind fault h
 
-    met : (kind : FaultKind) → FaultMayCome this (begin w) (seen past) s.thread kind → HasFault w past s kind
-    met kind c =
+    pub met_fault : (kind : FaultKind) (c : FaultMayCome this (begin w) (seen past) s.thread kind) → IsFault w past s kind c.mark
+    met_fault kind c =
         let own = c.allowed.own in
         let here : c.mark.side ≡ Replay = own.side in
         record {
-          mark = c.mark;
-          met = record {
-            mark = record {
-              of_thread = c.thread;
-              index = c.allowed.index ∙ ap length (sym (events_seen past f (OfThread c.mark.thread)));
-              above = λ z. record {
-                own = (own.keys, own.carries);
-                index = c.allowed.index;
-                steps = c.allowed.steps;
-                tickets = c.allowed.tickets;
-                shared = c.allowed.shared;
-                rises = c.allowed.rises;
-                least = c.allowed.least;
-                bytes = c.allowed.bytes;
-              };
+          mark = record {
+            of_thread = c.thread;
+            index = c.allowed.index ∙ ap length (sym (events_seen past f (OfThread c.mark.thread)));
+            above = λ z. record {
+              own = (own.keys, own.carries);
+              index = c.allowed.index;
+              steps = c.allowed.steps;
+              tickets = c.allowed.tickets;
+              shared = c.allowed.shared;
+              rises = c.allowed.rises;
+              least = c.allowed.least;
+              bytes = c.allowed.bytes;
             };
-            stops = answered c.mark kind here c.fault own.replies;
-            kind_is = c.fault;
-            read_only = own.read_only;
-            below = λ z. absurd (true≢false (ap (λ d. same_side d Replay) (sym here ∙ z)));
           };
+          stops = answered c.mark kind here c.fault own.replies;
+          kind_is = c.fault;
+          read_only = own.read_only;
+          below = λ z. absurd (true≢false (ap (λ d. same_side d Replay) (sym here ∙ z)));
         }
+
+    met : (kind : FaultKind) → FaultMayCome this (begin w) (seen past) s.thread kind → HasFault w past s kind
+    met kind c = record { mark = c.mark; met = met_fault kind c }
 
     comes_to : IsFitFile w → EndsWhatIsThere (begin w) (seen past) s.want → (kind : FaultKind) → Finds (checks (interface w) (begin w) (seen past) s.thread s.want) (FaultFound kind) → HasFault w past s kind
     comes_to fit ends kind h = let r = running past f s.thread in met kind (come this (begin w) (seen past) s.thread kind (few_threads fit past s) r.0 r.1 ends h)
 
-    give_none : (g : ℕ) (args : List ℕ) (a : Given) (kind : FaultKind) → Finds (give_checks w past g args a) (FaultFound kind) → ⊥
+    pub give_none : (g : ℕ) (args : List ℕ) (a : Given) (kind : FaultKind) → Finds (give_checks w past g args a) (FaultFound kind) → ⊥
     give_none g args ByPool kind h = h
     give_none g args NoMore kind h = h
     give_none g args (Says v pieces) kind h = return_none (interface w) (begin w) (seen past) (comes_up w past g args v pieces) g args v kind h
 
-    replayed : (want : Want) (kind : FaultKind) → Finds (checks_above w past s.thread want) (FaultFound kind) → Finds (checks (interface w) (begin w) (seen past) s.thread want) (FaultFound kind)
+    pub replayed : (want : Want) (kind : FaultKind) → Finds (checks_above w past s.thread want) (FaultFound kind) → Finds (checks (interface w) (begin w) (seen past) s.thread want) (FaultFound kind)
     replayed (Gives g args) kind h = absurd (give_none g args (given w past s.thread g args) kind h)
     replayed (Returns g args v) kind h = absurd (return_none (interface w) (begin w) (seen past) (comes_up w past g args v []) g args v kind h)
     replayed Outside kind h = h

@@ -1,0 +1,10 @@
+pub mod Tested
+pub mod Along
+pub mod Marks
+pub mod Begun
+pub mod Apart
+pub mod Ran
+pub mod Kept
+pub mod Whole
+pub mod Ended
+pub mod Places

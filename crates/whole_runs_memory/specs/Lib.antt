@@ -1,0 +1,10 @@
+pub mod Stands
+pub mod Starts
+pub mod Plain
+pub mod Below
+pub mod Steps
+pub mod Refusals
+pub mod Above
+pub mod Rets
+pub mod Real
+pub mod Threads

@@ -1,0 +1,16 @@
+pub mod Answered
+pub mod Entries
+pub mod Stopping
+pub mod Outcomes
+pub mod Threads
+pub mod Wanted
+pub mod Seen
+pub mod SeenEvents
+pub mod Step
+pub mod Calm
+pub mod Alive
+pub mod Ends
+pub mod Faults
+pub mod BeforeStops
+pub mod OneStop
+pub mod Stops
