@@ -1,6 +1,6 @@
 //! The watch.
 
-ghost use Rattle.std.specs.Prelude.{◌≡◌, ◌+◌, ◌<◌, ◌≤◌, [], length, IfOk, OnOk, OnErr};
+ghost use Rattle.std.specs.Prelude.{◌≡◌, ◌+◌, ◌<◌, ◌≤◌, [], length, IsTrue, IfOk, OnOk, OnErr};
 ghost use Rattle.logical_clock.specs.Events.{occurrence};
 ghost use Rattle.memory_map.specs.declared.areas.TheConstants.{THREADS};
 ghost use Rattle.race_watch.specs.Told.{Accessed, Happened};
@@ -110,19 +110,13 @@ impl Watch {
         ensures events { self.new.events ≡ self.old.events }
         ensures threads { length self.new.rows ≡ length self.old.rows }
     {
-        let place = self.made[thread as usize];
-        if is_settled(&self.tables, thread, range, write, place + 1) {
+        if self.has(thread, range, write) {
             return Ok(());
         }
-        let tested = Tested {
-            thread,
-            known: &self.rows[thread as usize],
-            range,
-            write,
-        };
-        if let Some((addr, other)) = first_race(&tested, &self.seen, &self.tables) {
-            return Err(WatchError::Race { other, addr });
+        if let Err(race) = self.test(thread, range, write) {
+            return Err(race);
         }
+        let place = self.made[thread as usize];
         let one = Seen {
             thread,
             place,
@@ -130,6 +124,34 @@ impl Watch {
             write,
         };
         note(&mut self.seen, &mut self.tables, one)
+    }
+
+    /// Whether the watch is seen to take the access and to stay as it is: the thread accessed each byte of the range since its
+    /// last event, in a way that counts for this access too.
+    pub fn has(&self, thread: u8, range: Range, write: bool) -> bool
+        requires { thread < length self.now.rows }
+        ensures free { IsTrue result → AnswersBy self.now thread range write (Ok tt) }
+        ensures told { IsTrue result → WasTold (Accessed thread range write) self.now self.now }
+    {
+        let place = self.made[thread as usize];
+        is_settled(&self.tables, thread, range, write, place + 1)
+    }
+
+    /// `Race` exactly where `access` would answer it. The watch isn't told of the access.
+    pub fn test(&self, thread: u8, range: Range, write: bool) -> Result<(), WatchError>
+        requires { thread < length self.now.rows }
+        ensures { AnswersBy self.now thread range write result }
+    {
+        let tested = Tested {
+            thread,
+            known: &self.rows[thread as usize],
+            range,
+            write,
+        };
+        match first_race(&tested, &self.seen, &self.tables) {
+            Some((addr, other)) => Err(WatchError::Race { other, addr }),
+            None => Ok(()),
+        }
     }
 
     /// Takes an event that the thread makes with these keys.

@@ -1,0 +1,9 @@
+pub mod Lists
+pub mod Lengths
+pub mod Forms
+pub mod Parts
+pub mod Threads
+pub mod Logs
+pub mod Totals
+pub mod Runs
+pub mod Small

@@ -1,0 +1,3 @@
+pub mod Sizes
+pub mod Chunks
+pub mod Book

@@ -1,0 +1,14 @@
+pub mod Extend
+pub mod Made
+pub mod Ranges
+pub mod Accesses
+pub mod Tests
+pub mod Begins
+pub mod Entering
+pub mod Leaving
+pub mod Turning
+pub mod Happening
+pub mod Freeing
+pub mod Returning
+pub mod Calling
+pub mod Called

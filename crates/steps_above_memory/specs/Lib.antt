@@ -1,0 +1,6 @@
+pub mod Above
+pub mod Refusals
+pub mod Steps
+pub mod Events
+pub mod Returns
+pub mod Calls

@@ -1,0 +1,10 @@
+use Rattle.std.proofs.Common.{◌≡◌, map, take}
+use Rattle.std.specs.List.{AllByRecursion}
+use Rattle.steps_above_stamps.specs.Tickets.{HasWord, with_ticket}
+use Rattle.steps_above_stamps.proofs.tickets.blank_marks.Given as goal
+
+abbrev pub invariant-loop-key : goal.invariant-loop-key
+invariant-loop-key l = record {
+  made : l.marks.items ≡ map (with_ticket 0) (take l.key-index l.keys);
+  words : AllByRecursion HasWord l.marks.items;
+}

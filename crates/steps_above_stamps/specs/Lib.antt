@@ -1,0 +1,4 @@
+pub mod State
+pub mod Tickets
+pub mod Stamps
+pub mod Laws
