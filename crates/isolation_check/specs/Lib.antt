@@ -3,3 +3,4 @@ pub mod Rows
 pub mod Literals
 pub mod Objects
 pub mod Flags
+pub mod Answers

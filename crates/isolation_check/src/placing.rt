@@ -1,4 +1,4 @@
-//! The places of a cut.
+//! The places of a cut, whatever is found in it.
 
 ghost use Rattle.std.specs.Prelude.{◌≡◌, ◌+◌, ◌≤◌, ◌^◌, length, IfOk};
 ghost use Rattle.c_builtins.specs.Table.{first_source_function};
@@ -48,7 +48,7 @@ fn with_flags(alloc: Global, objects: Objects, sides: Sides<'_>) -> Result<Place
 ///
 /// `sides` has a flag for each function. `AllocError` where there is no memory, or where a value has more members than 32 bits can
 /// number.
-pub fn place(
+pub fn places_of(
     alloc: Global,
     program: &TypedProgram,
     mentions: &Mentions,

@@ -7,7 +7,7 @@ use Rattle.isolation_check.specs.Areas.{area_at}
 use Rattle.isolation_check.specs.Literals.{literals_in}
 use Rattle.isolation_check.proofs.Firsts.{are_areas}
 use Rattle.isolation_check.proofs.Whole.{fits_here, globals_many, moved, whole}
-use Rattle.isolation_check.proofs.placing.place.Goals as goal
+use Rattle.isolation_check.proofs.placing.places_of.Goals as goal
 
 pub place_objects-requires-clause-areas : goal.place_objects-requires-clause-areas
 place_objects-requires-clause-areas c =
