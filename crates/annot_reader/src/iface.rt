@@ -6,6 +6,7 @@ use crate::builtins::{annots, builtin_notes};
 use annot_reader_functions::FunctionNotes;
 use annot_reader_words::Annots;
 use c_builtins::FIRST_SOURCE_FUNCTION;
+use c_syntax::SharedSeq;
 use std::alloc::{AllocError, Global};
 use std::marker::Model;
 
@@ -106,6 +107,16 @@ impl Iface {
         match self.notes(func) {
             Some(notes) => notes.holds.as_slice(),
             None => &[],
+        }
+    }
+
+    /// The same list for one owner more, without a copy. `AllocError` where 2^64 - 1 share it.
+    pub fn share_holds(&self, func: u16) -> Result<SharedSeq<i64>, AllocError>
+        ensures { IfOk result (λ s. s ≡ holds_at self.now func) }
+    {
+        match self.notes(func) {
+            Some(notes) => notes.holds.share(),
+            None => Ok(SharedSeq::empty()),
         }
     }
 }

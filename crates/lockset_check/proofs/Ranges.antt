@@ -1,11 +1,7 @@
 -- Lists by place that grow by one.
-use Rattle.std.proofs.Common.{◌≡◌, ℕ, ℤ, ◌+◌, List, [], ◌∷◌, ◌++◌, Vec, Global, map, zero-add, refl, ap}
+use Rattle.std.proofs.Common.{◌≡◌, ℕ, ◌+◌, [], ◌∷◌, ◌++◌, map, zero-add}
 use Rattle.std.specs.List.{range_with_len}
 use Rattle.std.proofs.lemmas.List.FromFn.{map-range_with_len_more}
 
 pub one_more : {X : Type 0} (f : ℕ → X) (n : ℕ) → map f (range_with_len 0 (n + 1)) ≡ map f (range_with_len 0 n) ++ f n ∷ []
 one_more f n = map-range_with_len_more f 0 n n (zero-add n)
-
-pub one_held_more : (vs : List (Vec ℤ Global)) (v : Vec ℤ Global) → map (λ (ks : Vec ℤ Global). ks.items) (vs ++ v ∷ []) ≡ map (λ (ks : Vec ℤ Global). ks.items) vs ++ v.items ∷ []
-one_held_more [] v = refl
-one_held_more (u ∷ us) v = ap (λ (l : List (List ℤ)). u.items ∷ l) (one_held_more us v)

@@ -9,7 +9,7 @@ ghost use Rattle.lockset_check.specs.Answers.{sayings_of};
 use annot_reader::Iface;
 use c_builtins::FIRST_SOURCE_FUNCTION;
 use c_types_program::TypedProgram;
-use lockset_check_values::Guards;
+use lockset_check_values::{Guards, Holds};
 use std::alloc::{AllocError, Global};
 
 // The mutexes that guard the first globals.
@@ -25,23 +25,28 @@ fn guards_of(alloc: Global, iface: &Iface, count: usize) -> Result<Vec<Option<i6
     Ok(guards)
 }
 
-// The mutexes that the callers of a function hold.
-fn held(alloc: Global, iface: &Iface, place: usize) -> Result<Vec<i64>, AllocError>
+// What the callers of a function hold, in the list of the interface, after those of functions before it.
+fn held(alloc: Global, iface: &Iface, place: usize, before: &[Holds]) -> Result<Holds, AllocError>
     requires { first_source_function + place < 2 ^ 16 }
-    ensures { IfOk result (λ v. v.items ≡ holds_at iface.now (first_source_function + place)) }
+    ensures { IfOk result (λ h. h ≡ holds_at iface.now (first_source_function + place)) }
 {
-    Vec::from_slice(alloc, iface.holds(FIRST_SOURCE_FUNCTION + place as u16))
+    let listed = iface.share_holds(FIRST_SOURCE_FUNCTION + place as u16)?;
+    match before {
+        [.., last] => last.next(alloc, listed),
+        [] => Holds::new(alloc, listed),
+    }
 }
 
 // Those of the first functions.
-fn holds_of(alloc: Global, iface: &Iface, count: usize) -> Result<Vec<Vec<i64>>, AllocError>
+fn holds_of(alloc: Global, iface: &Iface, count: usize) -> Result<Vec<Holds>, AllocError>
     requires { first_source_function + count ≤ 2 ^ 16 }
-    ensures { IfOk result (λ v. map (λ ks. ks.items) v.items ≡
+    ensures { IfOk result (λ v. v.items ≡
         map (λ place. holds_at iface.now (first_source_function + place)) (range_with_len 0 count)) }
 {
     let mut holds = Vec::with_capacity(alloc, count)?;
     for place in 0..count {
-        holds.push(held(alloc, iface, place)?)?;
+        let one = held(alloc, iface, place, holds.as_slice())?;
+        holds.push(one)?;
     }
     Ok(holds)
 }

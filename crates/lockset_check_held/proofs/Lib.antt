@@ -1,1 +1,4 @@
+pub mod Places
+pub mod Sharing
 pub mod Stacks
+pub mod Starts

@@ -1,5 +1,5 @@
 -- Lists that are kept from their ends.
-use Rattle.std.proofs.Common.{◌≡◌, ℤ, List, [], ◌∷◌, ◌++◌, ap, append_assoc, ◌∙◌}
+use Rattle.std.proofs.Common.{◌≡◌, List, [], ◌∷◌, ◌++◌, ap, ◌∙◌}
 use Rattle.std.specs.Prelude.{reverse}
 use Rattle.std.proofs.lemmas.List.{reverse-append}
 use Rattle.lockset_check_rules.specs.Mutexes.{Locks}
@@ -9,6 +9,3 @@ pushed sets set = reverse-append sets (set ∷ [])
 
 pub popped : (all sets : List Locks) (set : Locks) → all ≡ sets ++ set ∷ [] → reverse all ≡ set ∷ reverse sets
 popped all sets set e = ap reverse e ∙ pushed sets set
-
-pub appended : (xs ys : List ℤ) (x : ℤ) → (xs ++ x ∷ []) ++ ys ≡ xs ++ x ∷ ys
-appended xs ys x = append_assoc xs (x ∷ []) ys

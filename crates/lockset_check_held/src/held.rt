@@ -1,6 +1,6 @@
 //! What a walk keeps in mind of mutexes.
 
-ghost use Rattle.std.specs.Prelude.{◌≡◌, IfOk, OnOk};
+ghost use Rattle.std.specs.Prelude.{◌≡◌, true, IfOk, OnOk};
 ghost use Rattle.lockset_check_rules.specs.Mutexes.{are_held, is_held, locks_of, same, with_lock, without_lock};
 ghost use Rattle.lockset_check_held.specs.HeldSets.{at_start, entering, forgetting, going_back, is_as_at_loop, joining, keeping, leaving, restarting, turning};
 
@@ -9,10 +9,20 @@ use crate::stack::Stack;
 use std::alloc::{AllocError, Global};
 use std::marker::Model;
 
+// Whether two lists have the same mutexes, in the same order.
+fn are_same(mutexes: &[i64], others: &[i64]) -> bool
+    ensures { result ≡ true → mutexes.now ≡ others.now }
+{
+    mutexes == others
+}
+
 /// What is held at the place that a walk has come to, at the starts of the function and of the loops that it is in, and where ways
 /// began that go on elsewhere.
 #[derive(Drop)]
 pub struct Held {
+    alloc: Global,
+    // Those that callers hold, as they are listed.
+    listed: Vec<i64>,
     held: Locks,
     start: Locks,
     loops: Stack,
@@ -20,11 +30,15 @@ pub struct Held {
 }
 
 impl Model for Held {
+    ghost use Rattle.std.specs.Prelude.{◌≡◌};
+    ghost use Rattle.lockset_check_rules.specs.Mutexes.{locks_of};
     ghost use Rattle.lockset_check_held.specs.HeldSets.{HeldSets};
 
     ghost Value = { HeldSets };
 
     ghost view = { λ h. record { held = h.held; start = h.start; loops = h.loops; kept = h.kept } };
+
+    ghost invariant = { λ h. h.start ≡ locks_of h.listed.items };
 }
 
 impl Held {
@@ -32,14 +46,46 @@ impl Held {
     pub fn new(alloc: Global, mutexes: &[i64]) -> Result<Held, AllocError>
         ensures { IfOk result (λ h. h ≡ at_start (locks_of mutexes.now)) }
     {
+        let listed = Vec::from_slice(alloc, mutexes)?;
         let held = Locks::of(alloc, mutexes)?;
         let start = held.copy()?;
         Ok(Held {
+            alloc,
+            listed,
             held,
             start,
             loops: Stack::new(alloc),
             kept: Stack::new(alloc),
         })
+    }
+
+    // Whether these are the mutexes that callers hold, in the order that they are listed in.
+    #[tactic(auto, using(crate::proofs::Starts::same_start))]
+    fn is_listed(&self, mutexes: &[i64]) -> bool
+        ensures { result ≡ true → self.now.start ≡ locks_of mutexes.now }
+    {
+        are_same(mutexes, self.listed.as_slice())
+    }
+
+    // At the start of the same function again.
+    fn rewind(&mut self) -> Result<(), AllocError>
+        ensures { OnOk result (self.new ≡ at_start self.old.start) }
+    {
+        self.held = self.start.copy()?;
+        self.loops = Stack::new(self.alloc);
+        self.kept = Stack::new(self.alloc);
+        Ok(())
+    }
+
+    /// At the start of a function whose callers hold these. The set of them is made only where they are others than at the last start.
+    pub fn start(&mut self, mutexes: &[i64]) -> Result<(), AllocError>
+        ensures { OnOk result (self.new ≡ at_start (locks_of mutexes.now)) }
+    {
+        if self.is_listed(mutexes) {
+            return self.rewind();
+        }
+        *self = Held::new(self.alloc, mutexes)?;
+        Ok(())
     }
 
     /// Whether the mutex is held.
@@ -49,11 +95,11 @@ impl Held {
         self.held.has(mutex)
     }
 
-    /// Whether all of these mutexes are held.
-    pub fn has_all(&self, mutexes: &[i64]) -> bool
-        ensures { result ≡ are_held mutexes.now self.now.held }
+    /// Whether all mutexes of a set are held.
+    pub fn has_all(&self, set: &Locks) -> bool
+        ensures { result ≡ are_held set.now self.now.held }
     {
-        self.held.has_all(mutexes)
+        self.held.has_all(set)
     }
 
     /// The mutex is taken.

@@ -1,23 +1,50 @@
 //! Sets of mutexes.
 
-ghost use Rattle.std.specs.Prelude.{◌≡◌, ◌∷◌, ◌++◌, IfOk, OnOk, [], filter, int_lt};
+ghost use Rattle.std.specs.Prelude.{◌≡◌, ◌<◌, IfOk, OnOk, [], get_or, length, slice_get};
 ghost use Rattle.lockset_check_rules.specs.Mutexes.{are_held, is_held, locks_of, same, shared, with_lock, with_locks, without_lock};
+ghost use Rattle.lockset_check_held.specs.Ascending.{Ascends, IsPlace, StartsBelow, is_at};
 
 use std::alloc::{AllocError, Global};
 use std::marker::Model;
 
-// The numbers below one.
-fn keep_below(numbers: &mut Vec<i128>, least: i128)
-    ensures { numbers.new.items ≡ filter (λ m. int_lt m least) numbers.old.items }
+// How many of some numbers are below one.
+fn place_of(numbers: &[i128], one: i128) -> usize
+    requires { Ascends numbers.now }
+    ensures { IsPlace one numbers.now result }
 {
-    numbers.retain(|number| *number < least);
+    numbers.partition_point(|number| *number < one)
 }
 
-// The numbers above one.
-fn keep_above(numbers: &mut Vec<i128>, greatest: i128)
-    ensures { numbers.new.items ≡ filter (λ m. int_lt greatest m) numbers.old.items }
+// The same where the first of them are known to be, in steps as many as there are more.
+#[tactic(auto, using(crate::proofs::Places::stopped_at))]
+fn place_from(numbers: &[i128], first: usize, one: i128) -> usize
+    requires numbers { Ascends numbers.now }
+    requires first { StartsBelow one numbers.now first }
+    ensures { IsPlace one numbers.now result }
 {
-    numbers.retain(|number| greatest < *number);
+    let mut place = first;
+    while place < numbers.len() && numbers[place] < one {
+        place += 1;
+    }
+    place
+}
+
+// Whether a number stands at a place.
+fn is_at(numbers: &[i128], place: usize, one: i128) -> bool
+    ensures { result ≡ is_at one (slice_get numbers.now place) }
+{
+    match numbers.get(place) {
+        Some(number) => *number == one,
+        None => false,
+    }
+}
+
+// The number at a place.
+fn number_at(numbers: &[i128], place: usize) -> i128
+    requires { place < length numbers.now }
+    ensures { result ≡ get_or numbers.now place result }
+{
+    numbers[place]
 }
 
 // The numbers other than one.
@@ -27,11 +54,55 @@ fn keep_others(numbers: &mut Vec<i128>, one: i128)
     numbers.retain(|number| *number != one);
 }
 
-// The numbers that are members of a set.
-fn keep_among(numbers: &mut Vec<i128>, set: &Locks)
-    ensures { numbers.new.items ≡ shared numbers.old.items set.now }
+// The numbers that are among others.
+fn keep_among(numbers: &mut Vec<i128>, others: &[i128])
+    requires numbers { Ascends numbers.old.items }
+    requires others { Ascends others.now }
+    ensures { numbers.new.items ≡ shared numbers.old.items others.now }
 {
-    numbers.retain(|number| set.has(*number));
+    let mut kept = 0;
+    let mut place = 0;
+    for i in 0..numbers.len() {
+        let number = number_at(numbers.as_slice(), i);
+        place = place_from(others, place, number);
+        if is_at(others, place, number) {
+            numbers[kept] = number;
+            kept += 1;
+        }
+    }
+    numbers.truncate(kept);
+}
+
+// Whether all of some numbers are among others.
+fn are_among(numbers: &[i128], others: &[i128]) -> bool
+    requires numbers { Ascends numbers.now }
+    requires others { Ascends others.now }
+    ensures { result ≡ are_held numbers.now others.now }
+{
+    let mut place = 0;
+    for i in 0..numbers.len() {
+        let number = number_at(numbers, i);
+        place = place_from(others, place, number);
+        if !is_at(others, place, number) {
+            return false;
+        }
+    }
+    true
+}
+
+// One number more, if it isn't there.
+#[tactic(auto, using(crate::proofs::Places::there, crate::proofs::Places::put_in, crate::proofs::Places::with_ascends))]
+fn put(numbers: &mut Vec<i128>, one: i128) -> Result<(), AllocError>
+    requires { Ascends numbers.old.items }
+    ensures done { OnOk result (numbers.new.items ≡ with_lock one numbers.old.items) }
+    ensures ascends { Ascends numbers.new.items }
+{
+    let place = place_of(numbers.as_slice(), one);
+    if is_at(numbers.as_slice(), place, one) {
+        return Ok(());
+    }
+    numbers.insert(place, one)?;
+    Ok(())
 }
 
 /// A set of mutexes. Contracts see the list of its members, the least first.
@@ -43,10 +114,13 @@ pub struct Locks {
 
 impl Model for Locks {
     ghost use Rattle.lockset_check_rules.specs.Mutexes.{Locks as Set};
+    ghost use Rattle.lockset_check_held.specs.Ascending.{Ascends};
 
     ghost Value = { Set };
 
     ghost view = { λ l. l.members.items };
+
+    ghost invariant = { λ l. Ascends l.members.items };
 }
 
 impl Locks {
@@ -70,68 +144,41 @@ impl Locks {
     }
 
     // These mutexes more.
+    #[tactic(auto, using(crate::proofs::Starts::put_next, crate::proofs::Starts::all_put))]
     fn add_all(&mut self, mutexes: &[i64]) -> Result<(), AllocError>
         ensures { OnOk result (self.new ≡ with_locks mutexes.now self.old) }
     {
-        match mutexes {
-            [] => Ok(()),
-            [first, others @ ..] => {
-                self.add(i128::from(*first))?;
-                self.add_all(others)
-            }
+        for i in 0..mutexes.len() {
+            self.add(i128::from(mutexes[i]))?;
         }
+        Ok(())
     }
 
     /// Whether the mutex is among them.
+    #[tactic(auto, using(crate::proofs::Places::held_at))]
     pub fn has(&self, mutex: i128) -> bool
         ensures { result ≡ is_held mutex self.now }
     {
-        self.members.iter().any(|member| *member == mutex)
+        let members = self.members.as_slice();
+        is_at(members, place_of(members, mutex), mutex)
     }
 
-    /// Whether all of these mutexes are among them.
-    pub fn has_all(&self, mutexes: &[i64]) -> bool
-        ensures { result ≡ are_held mutexes.now self.now }
+    /// Whether all members of another set are among them.
+    pub fn has_all(&self, other: &Locks) -> bool
+        ensures { result ≡ are_held other.now self.now }
     {
-        mutexes.iter().all(|mutex| self.has(i128::from(*mutex)))
-    }
-
-    // The members above a number.
-    fn above(&self, number: i128) -> Result<Vec<i128>, AllocError>
-        ensures { IfOk result (λ v. v.items ≡ filter (λ m. int_lt number m) self.now) }
-    {
-        let mut numbers = Vec::from_slice(self.alloc, self.members.as_slice())?;
-        keep_above(&mut numbers, number);
-        Ok(numbers)
-    }
-
-    // The members below a number alone.
-    fn leave_below(&mut self, number: i128)
-        ensures { self.new ≡ filter (λ m. int_lt m number) self.old }
-    {
-        keep_below(&mut self.members, number);
-    }
-
-    // One member more and then these, all of them above those that are there.
-    #[tactic(auto, using(crate::proofs::Stacks::appended))]
-    fn append(&mut self, number: i128, above: &[i128]) -> Result<(), AllocError>
-        ensures { OnOk result (self.new ≡ self.old ++ number ∷ above.now) }
-    {
-        self.members.push(number)?;
-        self.members.extend_from_slice(above)?;
-        Ok(())
+        are_among(other.members.as_slice(), self.members.as_slice())
     }
 
     /// One mutex more. `AllocError` where there is no memory for it.
     pub fn add(&mut self, mutex: i128) -> Result<(), AllocError>
         ensures { OnOk result (self.new ≡ with_lock mutex self.old) }
     {
-        let above = self.above(mutex)?;
-        self.leave_below(mutex);
-        self.append(mutex, above.as_slice())
+        put(&mut self.members, mutex)
     }
 
     /// Without the mutex.
+    #[tactic(auto, using(crate::proofs::Places::without_ascends))]
     pub fn remove(&mut self, mutex: i128)
         ensures { self.new ≡ without_lock mutex self.old }
     {
@@ -139,10 +186,11 @@ impl Locks {
     }
 
     /// Those that are in the other set too.
+    #[tactic(auto, using(crate::proofs::Places::shared_ascends))]
     pub fn share(&mut self, other: &Locks)
         ensures { self.new ≡ shared self.old other.now }
     {
-        keep_among(&mut self.members, other);
+        keep_among(&mut self.members, other.members.as_slice());
     }
 
     /// Whether both sets have the same members.

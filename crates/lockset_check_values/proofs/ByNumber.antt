@@ -1,7 +1,8 @@
 -- Names by number, and the comparison of types.
-use Rattle.std.proofs.Common.{◌≡◌, ℕ, ◌↔◌, Bool, true, false, IsTrue, List, map, refl, sym}
-use Rattle.std.specs.Prelude.{ℤ, slice_get}
-use Rattle.std.specs.Global.{Vec}
+use Rattle.std.proofs.Common.{◌≡◌, ℕ, ℤ, ◌↔◌, ◌-◌, Bool, true, false, IsTrue, if◌then◌else◌, nat_lt, List, [], Option, None, map, refl, sym, ap, ◌∙◌}
+use Rattle.std.specs.Prelude.{slice_get}
+use Rattle.c_builtins.specs.Table.{first_source_function}
+use Rattle.lockset_check_values.specs.Sayings.{Sayings, callers_in, held, holds_in}
 use Rattle.std.specs.Option.{option_map}
 use Rattle.std.proofs.lemmas.Option.{slice_get-map}
 use Rattle.c_types_model.specs.Types.{CType}
@@ -18,9 +19,6 @@ global_at t gs place = slice_get-map (global_in t) gs place
 pub function_at : (t : Table) (fs : List Function) (place : ℕ) → slice_get (map (function_in t) fs) place ≡ option_map (function_in t) (slice_get fs place)
 function_at t fs place = slice_get-map (function_in t) fs place
 
-pub items_at : (vs : List (Vec ℤ)) (place : ℕ) → slice_get (map (λ (v : Vec ℤ). v.items) vs) place ≡ option_map (λ (v : Vec ℤ). v.items) (slice_get vs place)
-items_at vs place = slice_get-map (λ (v : Vec ℤ). v.items) vs place
-
 tests : (a b : Bool) → (IsTrue a → IsTrue b) → (IsTrue b → IsTrue a) → a ≡ b
 tests true true f g = refl
 tests true false f g = sym (f refl)
@@ -31,3 +29,14 @@ pub same_as_test : (r : Bool) (t u : CType) → IsTrue r ↔ (t ≡ u) → r ≡
 same_as_test r t u h =
     let k = types_compared t u in
     tests r (same_type t u) (λ e. k.1 (h.0 e)) (λ e. h.1 (k.0 e))
+
+pub held_by_callers : (s : Sayings) (number : ℕ) (o : Option (List ℤ)) → o ≡ callers_in s number → holds_in s number ≡ held o
+held_by_callers s number o e = by (nat_lt number first_source_function) refl ∙ ap held (sym e)
+  where
+    by : (b : Bool) → nat_lt number first_source_function ≡ b → holds_in s number ≡ held (callers_in s number)
+    by true h =
+        (λ j. if h j then [] else held (slice_get s.holds (number - first_source_function)))
+        ∙ (λ j. held (if sym h j then None else slice_get s.holds (number - first_source_function)))
+    by false h =
+        (λ j. if h j then [] else held (slice_get s.holds (number - first_source_function)))
+        ∙ (λ j. held (if sym h j then None else slice_get s.holds (number - first_source_function)))

@@ -19,6 +19,11 @@ held None = []
 abbrev pub guard_in : Sayings → (place : ℕ) → Option ℤ
 guard_in s place = guarding (slice_get s.guards place)
 
+-- what the callers of a function of the source hold
+abbrev pub callers_in : Sayings → (number : ℕ) → Option (List ℤ)
+callers_in s number =
+    if nat_lt number first_source_function then None else slice_get s.holds (number - first_source_function)
+
 -- builtins hold nothing
 abbrev pub holds_in : Sayings → (number : ℕ) → List ℤ
 holds_in s number =

@@ -3,6 +3,7 @@
 
 mod calls;
 mod guards;
+mod holds;
 mod logic;
 mod names;
 mod pairs;
@@ -13,5 +14,6 @@ mod walk;
 mod walker;
 
 pub use guards::Guards;
+pub use holds::Holds;
 pub use walk::Walk;
 pub use walker::Walker;

@@ -2,6 +2,7 @@
 
 ghost use Rattle.std.specs.Prelude.{◌≡◌, IfOk, OnOk, Some};
 ghost use Rattle.lockset_check_rules.specs.Guards.{address as address_found, called_unheld, function_address as function_address_found, function_name, global_name, unheld};
+ghost use Rattle.lockset_check_rules.specs.Mutexes.{are_held};
 ghost use Rattle.lockset_check_rules.specs.Values.{touched};
 ghost use Rattle.c_types_nodes.specs.Tables.{IsObjectAt, object_at};
 ghost use Rattle.lockset_check_values.specs.Setting.{guarded};
@@ -126,6 +127,17 @@ impl Walker<'_, '_> {
         }
     }
 
+    // Whether all mutexes are held that the callers of a function hold.
+    #[tactic(auto, using(crate::proofs::ByNumber::held_by_callers))]
+    fn are_held(&self, walk: &Walk, number: u32) -> bool
+        ensures { result ≡ are_held ((guarded self.now).holds number) walk.now.sets.held }
+    {
+        match self.guards().callers(number as usize) {
+            Some(mutexes) => walk.has_all(mutexes),
+            None => true,
+        }
+    }
+
     /// A function is called by its name.
     pub(crate) fn called_function(
         &self,
@@ -136,7 +148,7 @@ impl Walker<'_, '_> {
         ensures { OnOk result (walk.new ≡ finding (called_unheld (guarded self.now) from number
             walk.old.sets.held) walk.old) }
     {
-        if walk.has_all(self.guards().holds(number as usize)) {
+        if self.are_held(walk, number) {
             return Ok(());
         }
         let name = self.function_name(number)?;

@@ -5,6 +5,7 @@ ghost use Rattle.lockset_check_rules.specs.Mutexes.{are_held, is_held, locks_of,
 ghost use Rattle.lockset_check_held.specs.HeldSets.{at_start, entering, forgetting, going_back, is_as_at_loop, joining, keeping, leaving, restarting, turning};
 ghost use Rattle.lockset_check_values.specs.Walks.{finding, with_sets};
 
+use crate::holds::Holds;
 use lockset_check_held::Held;
 use lockset_check_rules::LockFinding;
 use std::alloc::{AllocError, Global};
@@ -13,7 +14,6 @@ use std::marker::Model;
 /// What is held where a walk has come to, and what was found on the way, in its order.
 #[derive(Drop)]
 pub struct Walk {
-    alloc: Global,
     sets: Held,
     found: Vec<LockFinding>,
 }
@@ -33,7 +33,6 @@ impl Walk {
     {
         let sets = Held::new(alloc, &[])?;
         Ok(Walk {
-            alloc,
             sets,
             found: Vec::new(alloc),
         })
@@ -43,8 +42,7 @@ impl Walk {
     pub fn start(&mut self, mutexes: &[i64]) -> Result<(), AllocError>
         ensures { OnOk result (self.new ≡ with_sets (at_start (locks_of mutexes.now)) self.old) }
     {
-        self.sets = Held::new(self.alloc, mutexes)?;
-        Ok(())
+        self.sets.start(mutexes)
     }
 
     /// One finding more.
@@ -70,10 +68,11 @@ impl Walk {
     }
 
     /// Whether all of these mutexes are held.
-    pub fn has_all(&self, mutexes: &[i64]) -> bool
+    #[tactic(auto, using(crate::proofs::Held::held_by_set))]
+    pub fn has_all(&self, mutexes: &Holds) -> bool
         ensures { result ≡ are_held mutexes.now self.now.sets.held }
     {
-        self.sets.has_all(mutexes)
+        self.sets.has_all(mutexes.set())
     }
 
     /// The mutex is taken.
