@@ -3,16 +3,13 @@ use Rattle.std.proofs.Common.{◌≡◌, ◌≢◌, ℕ, zero, suc, ◌<◌, ◌
 use Rattle.std.specs.Prelude.{reverse, filter, find}
 use Rattle.std.specs.List.{cons_option}
 use Rattle.std.proofs.lemmas.List.{reverse-append}
-use Rattle.std.proofs.lemmas.Bool.{true≢false}
 use Rattle.marks.specs.Places.{thread_count}
-use Rattle.marks.specs.declared.side.Side.{Side}
-use Rattle.marks.specs.declared.side.Side.TheVariants.{Replay, System}
+use Rattle.marks.specs.declared.side.Side.TheVariants.{Replay}
 use Rattle.marks.specs.declared.fault.FaultKind.{FaultKind}
 use Rattle.marks.specs.Marks.{Act, Turn, Load, Store, Enter, Leave, Step, Fault, Made, Mark, is_event}
 use Rattle.marks.specs.Opens.{is_stop, tail}
-use Rattle.marks.specs.Wants.{Want, Answer}
-use Rattle.c_code.specs.Machine.{Config, Starting, callee, first}
-use Rattle.c_code.specs.MarkLists.{Split, Next, Quiet, Wants, Ends, No, same_side, follow, follow_to, Open, Wrong, lists, step, state}
+use Rattle.c_code.specs.Machine.{Starting, callee, first}
+use Rattle.c_code.specs.MarkLists.{Split, Next, Quiet, Wants, Ends, No, same_side, follow, follow_to, Open, Wrong, at_end, lists, step, settled, moved, move, state}
 use Rattle.c_code.specs.Valid.{start_sig}
 use Rattle.c_code.specs.Typed.{StartsWell}
 use Rattle.c_code.proofs.Prefixes.{state_settled}
@@ -27,13 +24,14 @@ use Rattle.whole_runs.specs.declared.ending.Ending.{Ending}
 use Rattle.whole_runs.specs.World.{World, begin, program_of}
 use Rattle.whole_runs.specs.Sides.{seen, own}
 use Rattle.whole_runs.specs.Outcomes.{Outcome, act_outcome, outcomes, is_start, started, args_of, started_with}
-use Rattle.whole_runs.specs.Threads.{beginning, comes, is_next_above, in_replay_mode}
+use Rattle.whole_runs.specs.Threads.{beginning, comes}
 use Rattle.whole_runs.specs.Steps.{Picked, IsFault}
 use Rattle.whole_runs.specs.Ends.{Follows, IsFound, IsLast, done, budget, blocked, fault, breach, script, events, full}
 use Rattle.whole_runs.specs.Fits.{IsFit}
 use Rattle.whole_runs_laws.proofs.OneStep.{same_side_true}
 use Rattle.whole_runs_laws.proofs.FaultsAbove.{running, events_seen}
-use Rattle.whole_runs_seen.proofs.Answered.{said_on, right_where_wanted}
+use Rattle.whole_runs_seen.specs.Suits.{IsHere}
+use Rattle.whole_runs_seen.proofs.Answered.{said_on, said_all}
 use Rattle.whole_runs_seen.proofs.Threads.{AreThreads, threads_known, func_at, args_at, picked_started}
 use Rattle.whole_runs_seen.proofs.Calm.{calm_run}
 use Rattle.whole_runs_seen.proofs.Faults.{fault_allowed, fault_unraced}
@@ -42,18 +40,18 @@ use Rattle.whole_runs_seen.proofs.Faults.{fault_allowed, fault_unraced}
 pub record IsBeforeStops (w : World) (run : List Mark) : Type 0 where
   pub few : started run ≤ thread_count
   pub well : (t : ℕ) → t < started run → StartsWell w.laid (func_at w run t) (args_at w run t)
-  pub right : (t : ℕ) → t < started run → in_replay_mode w run t ≡ true → lists Split (reverse (own w t run)) w.laid (beginning w run t) ≢ Wrong
+  pub silent : (t : ℕ) → started run ≤ t → own w t run ≡ []
+  pub right : (t : ℕ) → t < started run → IsHere (comes w run t) → lists Split (reverse (own w t run)) w.laid (beginning w run t) ≢ Wrong
   pub running : (t : ℕ) → is_stopped (marks_of (begin w) t (seen run)) ≡ false
   pub events : (link : Link) → events_with (begin w) link run ≡ events_with (begin w) link (seen run)
   pub disciplined : IsReplayRun (program_of w) (begin w) (seen run)
 
--- what stands above the cut wants a mark
-pub above_wants : (n : Next) → is_next_above n ≡ true → (side : Side) × (want : Want) × (to : Answer → Config) × (n ≡ Wants side want to)
-above_wants (Wants Replay want to) e = (Replay, want, to, refl)
-above_wants (Wants System want to) e = absurd (true≢false (sym e))
-above_wants (Quiet c) e = absurd (true≢false (sym e))
-above_wants (Ends v) e = absurd (true≢false (sym e))
-above_wants No e = absurd (true≢false (sym e))
+-- what is there is right
+right_end : (n : Next) → IsHere n → at_end n ≢ Wrong
+right_end (Wants side want to) h = λ e. cc
+right_end (Quiet c) h = absurd h
+right_end (Ends v) h = λ e. cc
+right_end No h = absurd h
 
 -- the mark of a fault is no event, and no call comes to its result by it
 record IsPlainFault (a : Act) : Type 0 where
@@ -87,10 +85,9 @@ module _ (w : World) (fit : IsFit w) (past : List Mark) (follows : Follows w pas
   known : AreThreads w past
   known = threads_known w fit.code past follows
 
-  right_past : (t : ℕ) → t < started past → in_replay_mode w past t ≡ true → lists Split (reverse (own w t past)) w.laid (beginning w past t) ≢ Wrong
-  right_past t lt mode =
-      let z = above_wants (comes w past t) mode in
-      right_where_wanted Split w.laid (beginning w past t) (own w t past) (known.go_on t lt) z.0 z.1 z.2 z.3
+  right_past : (t : ℕ) → t < started past → IsHere (comes w past t) → lists Split (reverse (own w t past)) w.laid (beginning w past t) ≢ Wrong
+  right_past t lt here =
+      subst (λ v. v ≢ Wrong) (sym (said_all Split w.laid (beginning w past t) (own w t past) (known.go_on t lt))) (right_end (comes w past t) here)
 
   disciplined_past : IsReplayRun p st (seen past)
   disciplined_past =
@@ -103,6 +100,7 @@ module _ (w : World) (fit : IsFit w) (past : List Mark) (follows : Follows w pas
   after_steps = record {
     few = known.few;
     well = known.well;
+    silent = known.silent;
     right = right_past;
     running = λ t. (running w past follows t).0;
     events = events_seen w past follows;
@@ -121,13 +119,13 @@ module _ (w : World) (fit : IsFit w) (past : List Mark) (follows : Follows w pas
     same_outcomes : outcomes now ≡ outcomes past
     same_outcomes = ap (λ o. cons_option o (outcomes past)) (plain.no_outcome m.thread)
 
-    same_started : started now ≡ started past
+    pub same_started : started now ≡ started past
     same_started = ap (λ os. suc (length (filter is_start os))) same_outcomes
 
     same_with : (t : ℕ) → started_with t now ≡ started_with t past
     same_with t = ap (λ os. args_of (find (λ (o : Outcome). is_start o && eqb o.result t) os)) same_outcomes
 
-    same_beginning : (t : ℕ) → beginning w now t ≡ beginning w past t
+    pub same_beginning : (t : ℕ) → beginning w now t ≡ beginning w past t
     same_beginning zero = refl
     same_beginning (suc t) = ap (λ xs. Starting (callee w.laid start_sig (first xs)) (tail xs)) (same_with (suc t))
 
@@ -146,20 +144,52 @@ module _ (w : World) (fit : IsFit w) (past : List Mark) (follows : Follows w pas
         let z : Open ≡ Wrong = sym stopped ∙ wrong in
         absurd cc
 
-    right_now : (t : ℕ) → t < started now → in_replay_mode w now t ≡ true → lists Split (reverse (own w t now)) w.laid (beginning w now t) ≢ Wrong
-    right_now t lt mode =
+    right_now : (t : ℕ) → t < started now → IsHere (comes w now t) → lists Split (reverse (own w t now)) w.laid (beginning w now t) ≢ Wrong
+    right_now t lt here =
         subst (λ c. lists Split (reverse (own w t now)) w.laid c ≢ Wrong) (sym (same_beginning t))
-        (go (eqb m.thread t) refl (subst (λ c. is_next_above (step Split w.laid (state Split w.laid c (own w t now))) ≡ true) (same_beginning t) mode))
+        (go (eqb m.thread t) refl (subst (λ c. IsHere (step Split w.laid (state Split w.laid c (own w t now)))) (same_beginning t) here))
       where
         before : t < started past
         before = let e = same_started in omega (arith, lt, e)
 
-        go : (b : Bool) → eqb m.thread t ≡ b → is_next_above (step Split w.laid (state Split w.laid (beginning w past t) (cond b (m ∷ own w t past) (own w t past)))) ≡ true →
+        go : (b : Bool) → eqb m.thread t ≡ b → IsHere (step Split w.laid (state Split w.laid (beginning w past t) (cond b (m ∷ own w t past) (own w t past)))) →
             lists Split (reverse (cond b (m ∷ own w t past) (own w t past))) w.laid (beginning w past t) ≢ Wrong
         go false e z = right_past t before z
         go true e z =
-            let here : s.thread ≡ t = sym h.mark.of_thread ∙ eqb-true m.thread t e in
-            subst (λ u. lists Split (reverse (m ∷ own w u past)) w.laid (beginning w past u) ≢ Wrong) here right_fault
+            let same : s.thread ≡ t = sym h.mark.of_thread ∙ eqb-true m.thread t e in
+            subst (λ u. lists Split (reverse (m ∷ own w u past)) w.laid (beginning w past u) ≢ Wrong) same right_fault
+
+    silent_now : (t : ℕ) → started now ≤ t → own w t now ≡ []
+    silent_now t le = go (eqb m.thread t) refl
+      where
+        go : (b : Bool) → eqb m.thread t ≡ b → cond b (m ∷ own w t past) (own w t past) ≡ []
+        go true e =
+            let same = sym h.mark.of_thread ∙ eqb-true m.thread t e in
+            let lt = picked_started w fit.code past known s in
+            let all = same_started in
+            absurd (omega (arith, le, same, lt, all))
+        go false e = known.silent t (let all = same_started in omega (arith, le, all))
+
+    -- it leaves its thread where it is
+    pub same_state : state Split w.laid (beginning w past s.thread) (m ∷ own w s.thread past) ≡ state Split w.laid (beginning w past s.thread) (own w s.thread past)
+    same_state =
+        let c = beginning w past s.thread in
+        let mine = own w s.thread past in
+        let stays = ap (λ n. move n m (state Split w.laid c mine)) s.comes_is ∙ ap (λ o. moved o s.to (state Split w.laid c mine)) h.stops in
+        ap (settled w.laid) stays ∙ state_settled Split w.laid c mine
+
+    here_now : ((t : ℕ) → t < started past → IsHere (comes w past t)) → (t : ℕ) → t < started now → IsHere (comes w now t)
+    here_now each t lt = subst (λ c. IsHere (step Split w.laid (state Split w.laid c (own w t now)))) (sym (same_beginning t)) (go (eqb m.thread t) refl)
+      where
+        before : t < started past
+        before = let e = same_started in omega (arith, lt, e)
+
+        go : (b : Bool) → eqb m.thread t ≡ b → IsHere (step Split w.laid (state Split w.laid (beginning w past t) (cond b (m ∷ own w t past) (own w t past))))
+        go false e = each t before
+        go true e =
+            let same : s.thread ≡ t = sym h.mark.of_thread ∙ eqb-true m.thread t e in
+            subst (λ u. IsHere (step Split w.laid (state Split w.laid (beginning w past u) (m ∷ own w u past)))) same
+            (subst (λ d. IsHere (step Split w.laid d)) (sym same_state) (each s.thread (picked_started w fit.code past known s)))
 
     running_now : (t : ℕ) → is_stopped (marks_of st t (seen now)) ≡ false
     running_now t = go (same_side m.side Replay)
@@ -208,6 +238,7 @@ module _ (w : World) (fit : IsFit w) (past : List Mark) (follows : Follows w pas
     after_fault = record {
       few = let k = known.few in let e = same_started in omega (arith, k, e);
       well = well_now;
+      silent = silent_now;
       right = right_now;
       running = running_now;
       events = events_now;
@@ -224,3 +255,14 @@ module _ (w : World) (fit : IsFit w) (past : List Mark) (follows : Follows w pas
   after_last last e (script s passes lacks) = after_steps
   after_last last e (events m s made many) = after_steps
   after_last last e (full m s made room many) = after_steps
+
+  -- and no thread is lost by its end
+  pub here_last : ((t : ℕ) → t < started past → IsHere (comes w past t)) → (last : List Mark) (e : Ending) → IsLast w past last e → (t : ℕ) → t < started (last ++ past) → IsHere (comes w (last ++ past) t)
+  here_last each last e (done a) = each
+  here_last each last e (budget a b) = each
+  here_last each last e (blocked a b) = each
+  here_last each last e (fault {m = m} kind s found h) = here_now s kind found m h each
+  here_last each last e (breach kind x other s found) = each
+  here_last each last e (script s passes lacks) = each
+  here_last each last e (events m s made many) = each
+  here_last each last e (full m s made room many) = each

@@ -1,5 +1,5 @@
 -- Below a call of the interface by its own code, what returns is a function with a body.
-use Rattle.std.proofs.Common.{◌≡◌, ℕ, zero, suc, Bool, true, false, cond, List, [], ◌∷◌, Option, Some, None, Result, Ok, Err, refl, ap, subst}
+use Rattle.std.proofs.Common.{◌≡◌, ℕ, zero, suc, Bool, true, false, cond, ◌&&◌, List, [], ◌∷◌, Option, Some, None, Result, Ok, Err, refl, sym, ap, subst}
 use Rattle.std.specs.Prelude.{slice_get}
 use Rattle.marks.specs.declared.side.Side.{Side}
 use Rattle.marks.specs.declared.side.Side.TheVariants.{Replay, System}
@@ -16,8 +16,9 @@ use Rattle.c_code.specs.declared.activation.Call.{Call}
 use Rattle.c_code.specs.declared.activation.Waiting.{Waiting}
 use Rattle.c_code.specs.declared.activation.Waiting.TheVariants.{ForValue, ForRet, ForUpRet, ForBelow, ForOutside}
 use Rattle.c_code.specs.Values.{combined, is_value}
-use Rattle.c_code.specs.Machine.{Laid, Pending, Config, Going, Under, Entering, Closing, Starting, Done, Lost, Action, Silent, Asks, Pends, Awaits, Starts, Over, Stuck, func_of, entry, is_face, take_args, with_args, combine, is_pool, pool_act, pending, call_act, pointer_act, to_callee, callee, act, returning, awaiting, action, valued, loaded, give, begin, framed, next}
-use Rattle.c_code.specs.MarkLists.{Split, Next, Quiet, Wants, Ends, No, has_entry, called_back, after_call_back, after_start, stepped, entered, entered_below, called, below, ended, started, next_of, step, or_stay, settle, room, moved, move, reply, state, result_of}
+use Rattle.c_code.specs.Machine.{Laid, Pending, Config, Going, Under, Entering, Closing, Starting, Done, Lost, Action, Silent, Asks, Pends, Awaits, Starts, Over, Stuck, func_of, entry, is_face, entry_of, take_args, with_args, combine, is_pool, pool_act, pending, call_act, pointer_act, to_callee, callee, act, returning, awaiting, action, valued, loaded, give, begin, framed, next}
+use Rattle.c_code.specs.MarkLists.{Split, Next, Quiet, Wants, Ends, No, has_entry, takes_values, called_back, after_call_back, after_start, stepped, entered, entered_below, called, below, ended, started, next_of, step, or_stay, settle, room, moved, move, reply, state, result_of}
+use Rattle.whole_runs_seen.specs.Suits.{Suits, IsNumber, IsOfType, IsFrame, IsFrameOrBack}
 
 module _ (l : Laid) where
   -- each call whose return is waited for is of a function with a body
@@ -32,7 +33,7 @@ module _ (l : Laid) where
   abbrev pub Stands : Config → Type 0
   Stands (Going a vs ws) = HaveBodies ws
   Stands (Under call vs ws) = HaveBodies ws
-  Stands (Entering side i f args vs ws) = HaveBodies ws
+  Stands (Entering side i f args vs ws) = (has_entry (entry l f) ≡ true) × HaveBodies ws
   Stands (Closing v w vs ws) = HaveBodies (w ∷ ws)
   Stands (Starting f args) = Unit {0}
   Stands (Done v) = Unit {0}
@@ -58,9 +59,19 @@ module _ (l : Laid) where
   IsOwn side (Steps i f args) = Unit {0}
   IsOwn side (Fails kind) = Unit {0}
 
+  -- it is somewhere
+  abbrev pub IsThere : Config → Type 0
+  IsThere (Going a vs ws) = Unit {0}
+  IsThere (Under call vs ws) = Unit {0}
+  IsThere (Entering side i f args vs ws) = Unit {0}
+  IsThere (Closing v w vs ws) = Unit {0}
+  IsThere (Starting f args) = Unit {0}
+  IsThere (Done v) = Unit {0}
+  IsThere Lost = ⊥
+
   abbrev pub Acts : Action → Type 0
   Acts (Silent d) = Stands d
-  Acts (Asks side want k) = IsOwn side want × ((x : Answer) → Stands (k x))
+  Acts (Asks side want k) = IsOwn side want × ((x : Answer) → Stands (k x)) × ((x : Answer) → Suits l want x → IsThere (k x))
   Acts (Pends p) = HaveBodies p.waits
   Acts (Awaits p) = HaveBodies p.waits
   Acts (Starts f args) = Unit {0}
@@ -109,7 +120,12 @@ module _ (l : Laid) where
   framed_stands side f values ws h Stopped = tt
 
   back_stands : (g : ℕ) (args values : List ℕ) (ws : List Waiting) → HaveBodies ws → Stands (called_back l g args values ws)
-  back_stands g args values ws h = if_stands _ (Entering Replay false g args values ws) h
+  back_stands g args values ws h = by (has_entry (entry l g)) refl (takes_values (func_of l.code g) args)
+    where
+      by : (b : Bool) → has_entry (entry l g) ≡ b → (c : Bool) → Stands (cond (b && c) (Entering Replay false g args values ws) Lost)
+      by true e true = (e, h)
+      by true e false = tt
+      by false e c = tt
 
   ended_stands : (shape : Shape) (x : Answer) → Stands (ended shape x)
   ended_stands shape Go = tt
@@ -118,15 +134,68 @@ module _ (l : Laid) where
   ended_stands shape (CalledBack g args) = tt
   ended_stands shape Stopped = tt
 
+  -- ---- answers that suit lead somewhere
+
+  give_there : (v : ℕ) (ws : List Waiting) (values : List ℕ) → IsThere (give v ws values)
+  give_there v [] values = tt
+  give_there v (ForValue a ∷ ws) values = tt
+  give_there v (ForRet call ∷ ws) values = tt
+  give_there v (ForUpRet a g ∷ ws) values = tt
+  give_there v (ForBelow call g ∷ ws) values = tt
+  give_there v (ForOutside g ∷ ws) values = tt
+
+  valued_there : (shape : Shape) (a : Activation) (values : List ℕ) (ws : List Waiting) (x : Answer) → IsOfType shape x → IsThere (valued shape a values ws x)
+  valued_there shape a values ws (Value v) h = subst (λ b. IsThere (cond b (Going a (v ∷ values) ws) Lost)) (sym h) tt
+  valued_there shape a values ws Go h = h
+  valued_there shape a values ws (Frame at) h = h
+  valued_there shape a values ws (CalledBack g args) h = h
+  valued_there shape a values ws Stopped h = h
+
+  loaded_there : (a : Activation) (values : ℕ → List ℕ) (ws : List Waiting) (x : Answer) → IsNumber x → IsThere (loaded a values ws x)
+  loaded_there a values ws (Value v) h = tt
+  loaded_there a values ws Go h = h
+  loaded_there a values ws (Frame at) h = h
+  loaded_there a values ws (CalledBack g args) h = h
+  loaded_there a values ws Stopped h = h
+
+  begin_there : (side : Side) (base : ℕ) (f : Option FuncInfo) (at : Option ℕ) (values : List ℕ) (ws : List Waiting) → entry_of f ≡ at → has_entry at ≡ true → IsThere (begin side base f at values ws)
+  begin_there side base (Some f) (Some at) values ws e h = tt
+  begin_there side base None (Some at) values ws e h = absurd cc
+  begin_there side base (Some f) None values ws e h = absurd cc
+  begin_there side base None None values ws e h = absurd cc
+
+  at_there : (side : Side) (f : ℕ) (values : List ℕ) (ws : List Waiting) (base : ℕ) → has_entry (entry l f) ≡ true → is_value Pointer base ≡ true → IsThere (framed l side f values ws (Frame base))
+  at_there side f values ws base body h =
+      subst (λ b. IsThere (cond b (begin side base (func_of l.code f) (entry l f) values ws) Lost)) (sym h) (begin_there side base (func_of l.code f) (entry l f) values ws refl body)
+
+  framed_there : (side : Side) (f : ℕ) (values : List ℕ) (ws : List Waiting) → has_entry (entry l f) ≡ true → (x : Answer) → IsFrame x → IsThere (framed l side f values ws x)
+  framed_there side f values ws body (Frame base) h = at_there side f values ws base body h
+  framed_there side f values ws body Go h = h
+  framed_there side f values ws body (Value v) h = h
+  framed_there side f values ws body (CalledBack g args) h = h
+  framed_there side f values ws body Stopped h = h
+
+  back_there : (g : ℕ) (args values : List ℕ) (ws : List Waiting) → has_entry (entry l g) ≡ true → takes_values (func_of l.code g) args ≡ true → IsThere (called_back l g args values ws)
+  back_there g args values ws body takes =
+      subst (λ b. IsThere (cond (b && takes_values (func_of l.code g) args) (Entering Replay false g args values ws) Lost)) (sym body)
+      (subst (λ b. IsThere (cond (true && b) (Entering Replay false g args values ws) Lost)) (sym takes) tt)
+
+  ended_there : (shape : Shape) (x : Answer) → IsOfType shape x → IsThere (ended shape x)
+  ended_there shape (Value v) h = subst (λ b. IsThere (cond b (Done v) Lost)) (sym h) tt
+  ended_there shape Go h = h
+  ended_there shape (Frame at) h = h
+  ended_there shape (CalledBack g args) h = h
+  ended_there shape Stopped h = h
+
   -- ---- instructions
 
   combine_acts : (o : Result ℕ FaultKind) (a : Activation) (values : List ℕ) (ws : List Waiting) → HaveBodies ws → Acts (combine o a values ws)
   combine_acts (Ok v) a values ws h = h
-  combine_acts (Err kind) a values ws h = (tt, λ x. tt)
+  combine_acts (Err kind) a values ws h = (tt, λ x. tt, λ x s. s)
 
   pool_acts : (f : ℕ) (a : Activation) (args rest : List ℕ) (ws : List Waiting) → HaveBodies ws → Acts (pool_act f a args rest ws)
-  pool_acts zero a args rest ws h = (refl, valued_stands Pointer (next a) rest ws h)
-  pool_acts (suc f) a args rest ws h = (refl, λ x. h)
+  pool_acts zero a args rest ws h = (refl, valued_stands Pointer (next a) rest ws h, valued_there Pointer (next a) rest ws)
+  pool_acts (suc f) a args rest ws h = (refl, λ x. h, λ x s. tt)
 
   call_acts : (f : ℕ) (a : Activation) (values : List ℕ) (ws : List Waiting) (o : Option (List ℕ × List ℕ)) → HaveBodies ws → Acts (with_args o (call_act f a values ws))
   call_acts f a values ws None h = tt
@@ -137,7 +206,7 @@ module _ (l : Laid) where
       by false = h
 
   callee_acts : (o : Option ℕ) (a : Activation) (args values rest : List ℕ) (ws : List Waiting) → HaveBodies ws → Acts (to_callee o a args values rest ws)
-  callee_acts None a args values rest ws h = (tt, λ x. tt)
+  callee_acts None a args values rest ws h = (tt, λ x. tt, λ x s. s)
   callee_acts (Some f) a args values rest ws h = h
 
   pointer_acts : (sig : ℕ) (a : Activation) (values : List ℕ) (ws : List Waiting) (o : Option (List ℕ × List ℕ)) → HaveBodies ws → Acts (with_args o (pointer_act l sig a values ws))
@@ -148,17 +217,17 @@ module _ (l : Laid) where
   act_acts : (i : Option Instr) (a : Activation) (values : List ℕ) (ws : List Waiting) → HaveBodies ws → Acts (act l i a values ws)
   act_acts (Some (instr.Push what)) a values ws h = h
   act_acts (Some (instr.Load k o)) a [] ws h = tt
-  act_acts (Some (instr.Load k o)) a (p ∷ values) ws h = (tt, loaded_stands (next a) _ ws h)
+  act_acts (Some (instr.Load k o)) a (p ∷ values) ws h = (tt, loaded_stands (next a) _ ws h, loaded_there (next a) _ ws)
   act_acts (Some (instr.LoadKeep k o)) a [] ws h = tt
-  act_acts (Some (instr.LoadKeep k o)) a (p ∷ values) ws h = (tt, loaded_stands (next a) _ ws h)
+  act_acts (Some (instr.LoadKeep k o)) a (p ∷ values) ws h = (tt, loaded_stands (next a) _ ws h, loaded_there (next a) _ ws)
   act_acts (Some (instr.Store k o)) a [] ws h = tt
   act_acts (Some (instr.Store k o)) a (p ∷ []) ws h = tt
-  act_acts (Some (instr.Store k o)) a (v ∷ (p ∷ values)) ws h = (tt, λ x. h)
+  act_acts (Some (instr.Store k o)) a (v ∷ (p ∷ values)) ws h = (tt, λ x. h, λ x s. tt)
   act_acts (Some (instr.StoreLocal k offset)) a [] ws h = tt
-  act_acts (Some (instr.StoreLocal k offset)) a (v ∷ values) ws h = (tt, λ x. h)
+  act_acts (Some (instr.StoreLocal k offset)) a (v ∷ values) ws h = (tt, λ x. h, λ x s. tt)
   act_acts (Some (instr.StoreStep k by old o)) a [] ws h = tt
   act_acts (Some (instr.StoreStep k by old o)) a (p ∷ []) ws h = tt
-  act_acts (Some (instr.StoreStep k by old o)) a (v ∷ (p ∷ values)) ws h = (tt, λ x. h)
+  act_acts (Some (instr.StoreStep k by old o)) a (v ∷ (p ∷ values)) ws h = (tt, λ x. h, λ x s. tt)
   act_acts (Some (instr.Change how)) a [] ws h = tt
   act_acts (Some (instr.Change how)) a (v ∷ values) ws h = h
   act_acts (Some (instr.Combine how)) a [] ws h = tt
@@ -174,14 +243,14 @@ module _ (l : Laid) where
   act_acts (Some (instr.SkipIfZero n)) a (zero ∷ values) ws h = h
   act_acts (Some (instr.SkipIfZero n)) a (suc v ∷ values) ws h = h
   act_acts (Some (instr.GoOn n)) a values ws h = h
-  act_acts (Some instr.Turn) a values ws h = (tt, λ x. h)
-  act_acts (Some (instr.GoBack n)) a values ws h = (tt, λ x. h)
+  act_acts (Some instr.Turn) a values ws h = (tt, λ x. h, λ x s. tt)
+  act_acts (Some (instr.GoBack n)) a values ws h = (tt, λ x. h, λ x s. tt)
   act_acts (Some (instr.Call f n)) a values ws h = call_acts f a values ws (take_args n [] values) h
   act_acts (Some (instr.CallPointer sig n)) a values ws h = pointer_acts sig a values ws (take_args n [] values) h
   act_acts (Some instr.Drop) a [] ws h = tt
   act_acts (Some instr.Drop) a (v ∷ values) ws h = h
   act_acts (Some instr.Finish) a [] ws h = tt
-  act_acts (Some instr.Finish) a (v ∷ values) ws h = (tt, λ x. give_stands v ws values h)
+  act_acts (Some instr.Finish) a (v ∷ values) ws h = (tt, λ x. give_stands v ws values h, λ x s. give_there v ws values)
   act_acts None a values ws h = tt
 
   under_acts : (call : Call) (values : List ℕ) (ws : List Waiting) (o : Option (List ℕ × List ℕ)) → HaveBodies ws → Acts (with_args o (awaiting call values ws))
@@ -190,18 +259,18 @@ module _ (l : Laid) where
 
   return_acts : (v : ℕ) (call : Call) (ws : List Waiting) (o : Option (List ℕ × List ℕ)) → has_entry (entry l call.func) ≡ true → HaveBodies ws → Acts (with_args o (returning v call ws))
   return_acts v call ws None e h = tt
-  return_acts v call ws (Some taken) e h = ((refl, e), λ x. h)
+  return_acts v call ws (Some taken) e h = ((refl, e), λ x. h, λ x s. tt)
 
   action_acts : (c : Config) → Stands c → Acts (action l c)
   action_acts (Going a values ws) h = act_acts (slice_get l.code.instrs a.at) a values ws h
   action_acts (Under call values ws) h = under_acts call values ws (take_args call.args [] values) h
-  action_acts (Entering s i f args values ws) h = (tt, framed_stands s f values ws h)
+  action_acts (Entering s i f args values ws) h = (tt, framed_stands s f values ws h.1, framed_there s f values ws h.0)
   action_acts (Closing v (ForValue a) values ws) h = tt
   action_acts (Closing v (ForRet call) values ws) h = return_acts v call ws (take_args call.args [] values) h.0 h.1
-  action_acts (Closing v (ForUpRet a g) values ws) h = (refl, λ x. h)
-  action_acts (Closing v (ForBelow call g) values ws) h = (refl, λ x. h)
-  action_acts (Closing v (ForOutside g) values ws) h = (refl, λ x. tt)
-  action_acts (Starting None args) h = (tt, λ x. tt)
+  action_acts (Closing v (ForUpRet a g) values ws) h = (refl, λ x. h, λ x s. tt)
+  action_acts (Closing v (ForBelow call g) values ws) h = (refl, λ x. h, λ x s. tt)
+  action_acts (Closing v (ForOutside g) values ws) h = (refl, λ x. tt, λ x s. tt)
+  action_acts (Starting None args) h = (tt, λ x. tt, λ x s. s)
   action_acts (Starting (Some f) args) h = tt
   action_acts (Done v) h = tt
   action_acts Lost h = tt
@@ -210,7 +279,7 @@ module _ (l : Laid) where
 
   abbrev pub StepsOn : Next → Type 0
   StepsOn (Quiet d) = Stands d
-  StepsOn (Wants side want k) = IsOwn side want × ((x : Answer) → Stands (k x))
+  StepsOn (Wants side want k) = IsOwn side want × ((x : Answer) → Stands (k x)) × ((x : Answer) → Suits l want x → IsThere (k x))
   StepsOn (Ends v) = Unit {0}
   StepsOn No = Unit {0}
 
@@ -222,25 +291,34 @@ module _ (l : Laid) where
   after_call_back_stands p h Stopped = tt
 
   stepped_on : (p : Pending) → HaveBodies p.waits → StepsOn (stepped l p)
-  stepped_on p h = (tt, valued_stands (result_of l p.call.func) p.call.then p.rest p.waits h)
+  stepped_on p h = (tt, valued_stands (result_of l p.call.func) p.call.then p.rest p.waits h, valued_there (result_of l p.call.func) p.call.then p.rest p.waits)
 
-  entered_on : (p : Pending) → HaveBodies p.waits → StepsOn (entered l p)
-  entered_on p h = (tt, framed_stands p.call.then.side p.call.func p.rest (ForValue p.call.then ∷ p.waits) h)
+  entered_on : (p : Pending) → has_entry (entry l p.call.func) ≡ true → HaveBodies p.waits → StepsOn (entered l p)
+  entered_on p body h =
+      (tt, framed_stands p.call.then.side p.call.func p.rest (ForValue p.call.then ∷ p.waits) h, framed_there p.call.then.side p.call.func p.rest (ForValue p.call.then ∷ p.waits) body)
 
-  entered_below_on : (p : Pending) (i : Bool) → HaveBodies p.waits → StepsOn (entered_below l p i)
-  entered_below_on p false h = entered_on p h
-  entered_below_on p true h = (refl, after_call_back_stands p h)
+  after_call_back_there : (p : Pending) → has_entry (entry l p.call.func) ≡ true → (x : Answer) → IsFrameOrBack l p.call.func p.args x → IsThere (after_call_back l p x)
+  after_call_back_there p body (Frame at) h = at_there System p.call.func p.rest (ForValue p.call.then ∷ p.waits) at body h
+  after_call_back_there p body (CalledBack g args) h = back_there p.call.func p.args p.rest (ForUpRet p.call.then p.call.func ∷ p.waits) body h
+  after_call_back_there p body Go h = h
+  after_call_back_there p body (Value v) h = h
+  after_call_back_there p body Stopped h = h
 
-  called_on : (p : Pending) (side : Side) (face : Bool) (e : Option ℕ) → HaveBodies p.waits → StepsOn (called l p side face e)
-  called_on p Replay true e h = (refl, λ x. h)
-  called_on p Replay false (Some at) h = entered_on p h
-  called_on p Replay false None h = stepped_on p h
-  called_on p System face (Some at) h = entered_below_on p p.call.indirect h
-  called_on p System face None h = stepped_on p h
+  entered_below_on : (p : Pending) (i : Bool) → has_entry (entry l p.call.func) ≡ true → HaveBodies p.waits → StepsOn (entered_below l p i)
+  entered_below_on p false body h = entered_on p body h
+  entered_below_on p true body h = (refl, after_call_back_stands p h, after_call_back_there p body)
+
+  called_on : (p : Pending) (side : Side) (face : Bool) (e : Option ℕ) → entry l p.call.func ≡ e → HaveBodies p.waits → StepsOn (called l p side face e)
+  called_on p Replay true e z h = (refl, λ x. h, λ x s. tt)
+  called_on p Replay false (Some at) z h = entered_on p (ap has_entry z) h
+  called_on p Replay false None z h = stepped_on p h
+  called_on p System face (Some at) z h = entered_below_on p p.call.indirect (ap has_entry z) h
+  called_on p System face None z h = stepped_on p h
 
   below_on : (p : Pending) (e : Option ℕ) → entry l p.call.func ≡ e → HaveBodies p.waits → StepsOn (below Split l p e)
-  below_on p (Some at) z h = (tt, framed_stands System p.call.func p.values (ForRet p.call ∷ p.waits) (ap has_entry z, h))
-  below_on p None z h = (refl, valued_stands (result_of l p.call.func) p.call.then p.rest p.waits h)
+  below_on p (Some at) z h =
+      (tt, framed_stands System p.call.func p.values (ForRet p.call ∷ p.waits) (ap has_entry z, h), framed_there System p.call.func p.values (ForRet p.call ∷ p.waits) (ap has_entry z))
+  below_on p None z h = (refl, valued_stands (result_of l p.call.func) p.call.then p.rest p.waits h, valued_there (result_of l p.call.func) p.call.then p.rest p.waits)
 
   after_start_stands : (f : ℕ) (args : List ℕ) (x : Answer) → Stands (after_start l f args x)
   after_start_stands f args Go = tt
@@ -249,16 +327,23 @@ module _ (l : Laid) where
   after_start_stands f args (CalledBack g bs) = back_stands f args [] (ForOutside f ∷ []) tt
   after_start_stands f args Stopped = tt
 
-  started_on : (f : ℕ) (args : List ℕ) (e : Option ℕ) → StepsOn (started l f args e)
-  started_on f args (Some at) = (refl, after_start_stands f args)
-  started_on f args None = (tt, ended_stands (result_of l f))
+  after_start_there : (f : ℕ) (args : List ℕ) → has_entry (entry l f) ≡ true → (x : Answer) → IsFrameOrBack l f args x → IsThere (after_start l f args x)
+  after_start_there f args body (Frame at) h = at_there System f [] [] at body h
+  after_start_there f args body (CalledBack g bs) h = back_there f args [] (ForOutside f ∷ []) body h
+  after_start_there f args body Go h = h
+  after_start_there f args body (Value v) h = h
+  after_start_there f args body Stopped h = h
+
+  started_on : (f : ℕ) (args : List ℕ) (e : Option ℕ) → entry l f ≡ e → StepsOn (started l f args e)
+  started_on f args (Some at) z = (refl, after_start_stands f args, after_start_there f args (ap has_entry z))
+  started_on f args None z = (tt, ended_stands (result_of l f), ended_there (result_of l f))
 
   next_on : (a : Action) → Acts a → StepsOn (next_of Split l a)
   next_on (Silent d) h = h
   next_on (Asks side want k) h = h
-  next_on (Pends p) h = called_on p p.call.then.side (is_face l p.call.func) (entry l p.call.func) h
+  next_on (Pends p) h = called_on p p.call.then.side (is_face l p.call.func) (entry l p.call.func) refl h
   next_on (Awaits p) h = below_on p (entry l p.call.func) refl h
-  next_on (Starts f args) h = started_on f args (entry l f)
+  next_on (Starts f args) h = started_on f args (entry l f) refl
   next_on (Over v) h = tt
   next_on Stuck h = tt
 

@@ -14,3 +14,9 @@ pub mod Faults
 pub mod BeforeStops
 pub mod OneStop
 pub mod Stops
+pub mod Here
+pub mod Left
+pub mod Crossed
+pub mod CrossedMarks
+pub mod Lasting
+pub mod OfProgram

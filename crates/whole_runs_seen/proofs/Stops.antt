@@ -28,6 +28,7 @@ use Rattle.whole_runs.specs.Threads.{beginning, comes, is_next_above, in_replay_
 use Rattle.whole_runs.specs.Ends.{stop_of, stops}
 use Rattle.whole_runs.specs.Fits.{IsFit}
 use Rattle.whole_runs_seen.specs.Laws.{IsSeenAsRun, RunsAreSeenAsRuns}
+use Rattle.whole_runs_seen.specs.Suits.{IsHere}
 use Rattle.whole_runs_seen.proofs.Threads.{func_at, args_at, begins_so}
 use Rattle.whole_runs_seen.proofs.Wanted.{own_seen}
 use Rattle.whole_runs_seen.proofs.BeforeStops.{IsBeforeStops, after_last}
@@ -59,6 +60,12 @@ stands_above (Quiet c) above e h = absurd (true≢false (sym e))
 stands_above (Ends v) above e h = absurd (true≢false (sym e))
 stands_above No above e h = absurd (true≢false (sym e))
 
+mode_here : (n : Next) → is_next_above n ≡ true → IsHere n
+mode_here (Wants side want to) e = tt
+mode_here (Quiet c) e = absurd (true≢false (sym e))
+mode_here (Ends v) e = tt
+mode_here No e = absurd (true≢false (sym e))
+
 module _ (w : World) where
   abbrev p : Program
   p = program_of w
@@ -67,21 +74,21 @@ module _ (w : World) where
   st = begin w
 
   module _ (run : List Mark) where
-    abbrev stop : ℕ → Mark
+    abbrev pub stop : ℕ → Mark
     stop = stop_of w run
 
-    abbrev mode : ℕ → Bool
+    abbrev pub mode : ℕ → Bool
     mode = in_replay_mode w run
 
     -- the Stops of these threads come after what a run has
-    abbrev stopped : List ℕ → List Mark → List Mark
+    abbrev pub stopped : List ℕ → List Mark → List Mark
     stopped ts rs = reverse (map stop ts) ++ rs
 
-    turned : (t : ℕ) (ts : List ℕ) (rs : List Mark) → stopped (t ∷ ts) rs ≡ stopped ts (stop t ∷ rs)
+    pub turned : (t : ℕ) (ts : List ℕ) (rs : List Mark) → stopped (t ∷ ts) rs ≡ stopped ts (stop t ∷ rs)
     turned t ts rs = ap (λ xs. xs ++ rs) (reverse-append (stop t ∷ []) (map stop ts)) ∙ append_assoc (reverse (map stop ts)) (stop t ∷ []) rs
 
     -- all of them are seen
-    stops_seen : (ts : List ℕ) (rs : List Mark) → seen (stopped ts rs) ≡ stopped ts (seen rs)
+    pub stops_seen : (ts : List ℕ) (rs : List Mark) → seen (stopped ts rs) ≡ stopped ts (seen rs)
     stops_seen [] rs = refl
     stops_seen (t ∷ ts) rs = ap seen (turned t ts rs) ∙ (stops_seen ts (stop t ∷ rs) ∙ sym (turned t ts (seen rs)))
 
@@ -92,16 +99,19 @@ module _ (w : World) where
         ap (events_with st l) (turned t ts rs) ∙ (same_events l ts (stop t ∷ rs) (stop t ∷ qs) (ap (λ es. cond (has (stop t) l) (stop t ∷ es) es) e) ∙ sym (ap (events_with st l) (turned t ts qs)))
 
     module _ (fit : IsFit w) (there : IsBeforeStops w run) where
-      -- a thread in replay mode is wanted above the cut
-      wanted_above : (t : ℕ) → t < started run → mode t ≡ true → is_above (p.want t (marks_of st t (seen run))) ≡ true
-      wanted_above t lt e =
+      -- what a thread that isn't lost wants above the cut is seen there
+      pub seen_above_there : (t : ℕ) → t < started run → IsHere (comes w run t) → IsSeenAbove (comes w run t) (p.want t (marks_of st t (seen run)))
+      seen_above_there t lt here_too =
           let so : beginning w run t ≡ Starting (func_at w run t) (args_at w run t) = begins_so w run t in
-          let right : lists Split (reverse (own w t run)) w.laid (Starting (func_at w run t) (args_at w run t)) ≢ Wrong = subst (λ c. lists Split (reverse (own w t run)) w.laid c ≢ Wrong) so (there.right t lt e) in
+          let right : lists Split (reverse (own w t run)) w.laid (Starting (func_at w run t) (args_at w run t)) ≢ Wrong = subst (λ c. lists Split (reverse (own w t run)) w.laid c ≢ Wrong) so (there.right t lt here_too) in
           let here : IsSeenAbove (step Split w.laid (state Split w.laid (Starting (func_at w run t) (args_at w run t)) (own w t run))) (want_above w.laid (replay_part (own w t run))) =
           typed.wants w.laid fit.code.valid fit.code.typed (func_at w run t) (args_at w run t) (there.well t lt) (own w t run) right in
           let next : IsSeenAbove (comes w run t) (want_above w.laid (replay_part (own w t run))) = subst (λ c. IsSeenAbove (step Split w.laid (state Split w.laid c (own w t run))) (want_above w.laid (replay_part (own w t run)))) (sym so) here in
-          stands_above (comes w run t) (want_above w.laid (marks_of st t (seen run))) e
-          (subst (λ ms. IsSeenAbove (comes w run t) (want_above w.laid ms)) (sym (own_seen w run t)) next)
+          subst (λ ms. IsSeenAbove (comes w run t) (want_above w.laid ms)) (sym (own_seen w run t)) next
+
+      -- a thread in replay mode is wanted above the cut
+      wanted_above : (t : ℕ) → t < started run → mode t ≡ true → is_above (p.want t (marks_of st t (seen run))) ≡ true
+      wanted_above t lt e = stands_above (comes w run t) (p.want t (marks_of st t (seen run))) e (seen_above_there t lt (mode_here (comes w run t) e))
 
       -- what is seen before the Stops of the threads from k on: they did the same as in the run
       record IsSeenBefore (k : ℕ) (rs : List Mark) : Type 0 where

@@ -13,7 +13,7 @@ use Rattle.c_code.specs.declared.shape.Shape.TheVariants.{Pointer}
 use Rattle.c_code.specs.Builtins.{prototypes, AreBuiltins}
 use Rattle.c_code.specs.Values.{is_value}
 use Rattle.c_code.specs.Frames.{are_values}
-use Rattle.c_code.specs.Machine.{Laid, Starting, func_of, entry_of, entry, callee, has_sig, first}
+use Rattle.c_code.specs.Machine.{Laid, Config, Starting, func_of, entry_of, entry, callee, has_sig, first}
 use Rattle.c_code.specs.MarkLists.{Split, Wants, has_entry, takes_values, reply, lists, step, state, Wrong}
 use Rattle.c_code.specs.Valid.{IsValid, start_sig, IsStart}
 use Rattle.c_code.specs.Typed.{AreArguments, CarriesValues, StartsWell}
@@ -263,11 +263,11 @@ module _ (w : World) (code : IsFitCode w.laid) where
 
     module _ (m : Mark) (h : IsMade w past s m) where
       -- the answer that the mark gives
-      answer_of : (o : Option Answer) → reply s.side s.want m ≡ o → is_some o ≡ true → (x : Answer) × (reply s.side s.want m ≡ Some x)
+      pub answer_of : (o : Option Answer) → reply s.side s.want m ≡ o → is_some o ≡ true → (x : Answer) × (reply s.side s.want m ≡ Some x)
       answer_of (Some x) e z = (x, e)
       answer_of None e z = absurd (true≢false (sym z))
 
-      no_fault : (a : Act) → Agrees w past s.thread s.side s.want a → is_fault a ≡ 0
+      pub no_fault : (a : Act) → Agrees w past s.thread s.side s.want a → is_fault a ≡ 0
       no_fault Turn a = refl
       no_fault (Load o at bytes) a = refl
       no_fault (Store o at bytes) a = refl
@@ -385,6 +385,31 @@ module _ (w : World) (code : IsFitCode w.laid) where
       new_well : (t : ℕ) (o : Outcome) → t ≡ started past → start_of t (outcomes now) ≡ Some o → AreArguments l spawn_number o.args → StartsWell l (func_at w now t) (args_at w now t)
       new_well zero o e z k = absurd cc
       new_well (suc t) o e z k = subst (λ xs. StartsWell l (callee l start_sig (first xs)) (tail xs)) (sym (ap args_of z)) (starts_well l code.valid o.args k)
+
+      -- what holds of each thread's marks goes on to hold, where it does of this mark and of a thread that begins
+      pub kept_along : (Q : Config → List Mark → Type 0) → ((t : ℕ) → t < started past → Q (beginning w past t) (own w t past)) → Q (beginning w past s.thread) (m ∷ own w s.thread past) →
+          ((f : Option ℕ) (args : List ℕ) → Q (Starting f args) []) → (t : ℕ) → t < started now → Q (beginning w now t) (own w t now)
+      kept_along Q each next begins t lt = by next_starts
+        where
+          by_mark : t < started past → (b : Bool) → eqb m.thread t ≡ b → Q (beginning w past t) (cond b (m ∷ own w t past) (own w t past))
+          by_mark le false e = each t le
+          by_mark le true e =
+              let here : s.thread ≡ t = sym h.mark.of_thread ∙ eqb-true m.thread t e in
+              subst (λ u. Q (beginning w past u) (m ∷ own w u past)) here next
+
+          older_one : t < started past → start_of t (outcomes now) ≡ start_of t (outcomes past) → Q (beginning w now t) (own w t now)
+          older_one le kept = subst (λ c. Q c (own w t now)) (sym (same_beginning t kept)) (by_mark le (eqb m.thread t) refl)
+
+          new_one : started past ≤ t → Q (beginning w now t) (own w t now)
+          new_one le = subst (λ c. Q c (own w t now)) (sym (begins_so w now t)) (subst (λ ms. Q (Starting (func_at w now t) (args_at w now t)) ms) (sym (still_silent t le)) (begins (func_at w now t) (args_at w now t)))
+
+          by : NextStarts → Q (beginning w now t) (own w t now)
+          by (same few older) = let le : t < started past = omega (arith, lt, few) in older_one le (older t le)
+          by (more o few room args newest older) = go (ltb t (started past)) refl
+            where
+              go : (b : Bool) → ltb t (started past) ≡ b → Q (beginning w now t) (own w t now)
+              go true e = let le : t < started past = ltb-true _ _ e in older_one le (older t le)
+              go false e = new_one (ltb-false t (started past) e)
 
       now_known : AreThreads w now
       now_known = by next_starts
