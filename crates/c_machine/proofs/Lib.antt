@@ -8,6 +8,7 @@ pub mod Runs
 pub mod Pushes
 pub mod Space
 pub mod Hearing
+pub mod Hears
 pub mod Facts
 pub mod Answering
 pub mod Following

@@ -19,10 +19,10 @@ use c_machine_stack::Stack;
 use marks::FaultKind;
 
 // A call of a function by its number; of one of the pool by replay code it is an event.
-pub(crate) fn call(func: u16, n: u8, a: &Activation, values: &Stack<u64>) -> Outcome
+pub(crate) fn call(func: u16, n: u8, a: Activation, values: &Stack<u64>) -> Outcome
     requires enough { n ≤ length (held values.now) }
-    requires place { a.now.at + 1 < 2 ^ 32 }
-    ensures { (l : Laid) → IsOutcome l (instrs.Call func n) a.now (held values.now) result }
+    requires place { a.at + 1 < 2 ^ 32 }
+    ensures { (l : Laid) → IsOutcome l (instrs.Call func n) a (held values.now) result }
 {
     if is_pool(a.side, func) {
         return pool(func, n, a, values);
@@ -31,16 +31,16 @@ pub(crate) fn call(func: u16, n: u8, a: &Activation, values: &Stack<u64>) -> Out
         func,
         args: n,
         indirect: false,
-        then: next(*a),
+        then: next(a),
     })
 }
 
 // An event of the pool: what it gives takes the place of the argument.
-fn pool(func: u16, n: u8, a: &Activation, values: &Stack<u64>) -> Outcome
+fn pool(func: u16, n: u8, a: Activation, values: &Stack<u64>) -> Outcome
     requires enough { n ≤ length (held values.now) }
-    requires place { a.now.at + 1 < 2 ^ 32 }
-    requires pool { is_pool_of a.now.side func ≡ true }
-    ensures { (l : Laid) → IsOutcome l (instrs.Call func n) a.now (held values.now) result }
+    requires place { a.at + 1 < 2 ^ 32 }
+    requires pool { is_pool_of a.side func ≡ true }
+    ensures { (l : Laid) → IsOutcome l (instrs.Call func n) a (held values.now) result }
 {
     let first = first_of(values.top_slice(n as usize));
     if func == 0 {
@@ -57,14 +57,14 @@ fn pool(func: u16, n: u8, a: &Activation, values: &Stack<u64>) -> Outcome
 pub(crate) fn call_through(
     sig: u32,
     n: u8,
-    a: &Activation,
+    a: Activation,
     values: &Stack<u64>,
     code: &FusedCode,
 ) -> Outcome
     requires valid { IsValid code.now }
     requires enough { n < length (held values.now) }
-    requires place { a.now.at + 1 < 2 ^ 32 }
-    ensures { (placed : Places) → IsOutcome (laid code.now placed) (instrs.CallPointer sig n) a.now
+    requires place { a.at + 1 < 2 ^ 32 }
+    ensures { (placed : Places) → IsOutcome (laid code.now placed) (instrs.CallPointer sig n) a
         (held values.now) result }
 {
     match callee(code, sig, address_below(values, n)) {
@@ -72,7 +72,7 @@ pub(crate) fn call_through(
             func,
             args: n,
             indirect: true,
-            then: next(*a),
+            then: next(a),
         }),
         None => Outcome::Asks(Want::Fault(FaultKind::BadCall.number()), Heard::Nothing),
     }

@@ -13,9 +13,9 @@ ghost use Rattle.c_machine.specs.Wants.{told};
 ghost use Rattle.c_machine.specs.Acts.{ended};
 ghost use Rattle.c_machine.specs.Moves.{FitsIn, fed, heard};
 
-use crate::act::act;
+use crate::answered::hearing;
 use crate::edits::hear;
-use crate::outcome::{Heard, Outcome};
+use crate::outcome::Heard;
 use crate::position::Position;
 use crate::state::{Entry, State};
 use crate::tops::{first_at, frame_size, has_args, result_shape};
@@ -39,13 +39,10 @@ impl Position {
             return;
         };
         let instr = &code.instrs()[a.at as usize];
-        match act(instr, a, &self.values, code, placed) {
-            Outcome::Asks(_, heard) => match hear(heard, &mut self.values, answer) {
-                Some(at) => a.at = at,
-                None => self.end(heard),
-            },
-            Outcome::Silent(_, _) => self.state = State::Lost,
-            Outcome::Pends(_) => self.state = State::Lost,
+        let heard = hearing(instr, a, &self.values);
+        match hear(heard, &mut self.values, answer) {
+            Some(at) => a.at = at,
+            None => self.end(heard),
         }
     }
 

@@ -3,6 +3,7 @@
 
 mod act;
 mod act_call;
+mod answered;
 mod begin;
 mod calls;
 mod edits;

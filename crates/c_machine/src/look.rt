@@ -50,7 +50,7 @@ impl Position {
     }
 
     // The same at an instruction.
-    #[inline(always)]
+    #[inline(never)]
     fn look_at(&self, a: &Activation, code: &FusedCode, placed: &Placed) -> Option<Want>
         requires valid { IsValid code.now }
         requires fits { FitsIn (laid code.now placed.now)
