@@ -7,6 +7,8 @@ import sys
 END = "int main(void) { return 0; }\n"
 # A source has 1,000 functions at most, main among them.
 FUNCTIONS = 990
+# A branch, and what takes and gives a mutex, are 19 of the 131,072 nodes that a source may have.
+BRANCHES = 6_800
 
 
 def names(budget, spell):
@@ -51,6 +53,31 @@ def mutexes_before_functions(size):
     declared = ",".join(f"x{number}(void)" for number in range(count))
     bodies = "\n".join(f"void x{number}(void) {{ }}" for number in range(count))
     return f"[{lists}] void {declared};\n{bodies}\n[cut(top)] int outside(void);\n" + END
+
+
+def mutexes_held_by_bodies(size):
+    """Mutexes that functions hold, all different, before names of functions that run, in a source with a guard."""
+    count = min(FUNCTIONS, size // 160)
+    lists = ",".join(f"holds({mutex})" for mutex in range((size - 80 * count) // 14))
+    declared = ",".join(f"x{number}(void)" for number in range(count))
+    bodies = "\n".join(f"int x{number}(void) {{ return n; }}" for number in range(count))
+    named = "".join(f"sizeof(x{number}());" for number in range(count))
+    return (
+        f"[guarded_by(0)] int n;\n[{lists}] int {declared};\n{bodies}\n[cut(top)] int outside(void);\n"
+        f"int main(void) {{ {named} return 0; }}\n"
+    )
+
+
+def mutexes_and_branches(size):
+    """Mutexes that are held together, and as many branches, each of which gives one back on one way and takes it again."""
+    mutexes = range(min(BRANCHES, size // 72))
+    taken = "".join(f"r2_lock({mutex});" for mutex in mutexes)
+    branches = "".join(f"if(c){{r2_unlock({mutex});r2_lock({mutex});}}" for mutex in mutexes)
+    given = "".join(f"r2_unlock({mutex});" for mutex in mutexes)
+    return (
+        "[guarded_by(0)] int n;\nint c;\n[cut(top)] int outside(void);\n"
+        f"int main(void) {{ {taken}\n{branches}\n{given} return 0; }}\n"
+    )
 
 
 def cuts_before_functions(size):
@@ -102,6 +129,8 @@ KINDS = [
     words_before_one_name_again,
     sizes_before_globals,
     mutexes_before_functions,
+    mutexes_held_by_bodies,
+    mutexes_and_branches,
     cuts_before_functions,
     long_tag_of_globals,
     long_tag_of_structs,
