@@ -1,6 +1,10 @@
 -- The stage that reads a source: nothing is found in it, or what is wrong with it is named.
 use Rattle.std.specs.Prelude.{◌≢◌, ℕ, List, [], ◌++◌, codes, decimal}
+use Rattle.c_types_model.specs.Limits.{greatest_object, most_members}
+use Rattle.c_types_rules.specs.Limits.{greatest_frame, most_functions, most_params}
 use Rattle.c_types.specs.declared.error.Which.TheVariants as numbers
+use Rattle.c_code.specs.Valid.{most_values}
+use Rattle.c_lower.specs.Depths.{most_nodes}
 use Rattle.cut_check.specs.Lines.{LinesOf, text_of}
 use Rattle.front_end.specs.Sources.{IsWrong}
 use Rattle.front_end.specs.declared.error.SourceError.{SourceError}
@@ -45,14 +49,14 @@ limit_word Nodes = codes "code"
 limit_word Values = codes "values"
 
 abbrev pub limit_number : SourceLimit → ℕ
-limit_number (Types numbers.Functions) = 1000
-limit_number (Types numbers.Params) = 8
-limit_number (Types numbers.Members) = 64
-limit_number (Types numbers.Object) = 1048576
-limit_number (Types numbers.Globals) = 1048576
-limit_number (Types numbers.Frame) = 32768
-limit_number Nodes = 131072
-limit_number Values = 64
+limit_number (Types numbers.Functions) = most_functions
+limit_number (Types numbers.Params) = most_params
+limit_number (Types numbers.Members) = most_members
+limit_number (Types numbers.Object) = greatest_object
+limit_number (Types numbers.Globals) = greatest_object
+limit_number (Types numbers.Frame) = greatest_frame
+limit_number Nodes = most_nodes
+limit_number Values = most_values
 
 -- how a source is refused with which this is wrong
 abbrev pub refused_for : (cut : List ℕ) → SourceError → Outcome
