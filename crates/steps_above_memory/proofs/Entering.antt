@@ -49,6 +49,7 @@ use Rattle.steps_above_memory.specs.declared.above.MemoryAbove.{MemoryAbove}
 use Rattle.steps_above_memory.specs.declared.refusal.StepRefusal.{StepRefusal}
 use Rattle.steps_above_memory.specs.Above.{StandsForAbove}
 use Rattle.steps_above_memory.specs.Refusals.{IsFound, refusal_of, refusal_by}
+use Rattle.steps_above_memory.specs.Spaces.{IsEntered}
 use Rattle.steps_above_memory.specs.Steps.{IsMade, Makes, Refuses, next_mark}
 use Rattle.steps_above_memory.proofs.Accesses.{same_numbers_self}
 use Rattle.steps_above_memory.proofs.Made.{step_made}
@@ -175,3 +176,24 @@ module _ (old new : MemoryAbove) (t size : ℕ) (offsets widths args : List ℕ)
       entered program memory past old h t size lt i f values (bytes_with_args size offsets widths args) count modes new addr
       (enters (fresh memory) past old.spaces new.spaces (next_mark memory past t (Enter f values addr (bytes_with_args size offsets widths args))) f values (bytes_with_args size offsets widths args) addr size h.spaces lt (new_sides ∙ sides) place none (new_held ∙ held) has.bytes has.outside count refl)
       (subst (λ k. Stands (Accessed t (range addr k) true ∷ told past) new.watch) (sym count) (one (told past) h.watch))
+
+-- what memory has then
+pub entered_spaces : (old in' new : SpaceState) (t size addr : ℕ) (offsets widths args : List ℕ) → length widths ≡ length offsets → length args ≡ length offsets → ((i : ℕ) → i < length offsets → slice_index offsets i + slice_index widths i ≤ size) → t < length old.sides.replay.stacks → addr ≡ end_of (stack_of old.sides.replay.stacks t).base (frames_of old.sides.replay t) → in'.sides ≡ with_side old.sides Replay (with_thread old.sides.replay t (frames_of old.sides.replay t ++ record { addr = addr; len = size } ∷ [])) → ((r : Refusal) → IsEnterRefused (stack_of old.sides.replay.stacks t) size r → ⊥) → FillsWith (record { addr = addr; len = size }) (Some 0) old.bytes in'.bytes → in'.held ≡ old.held → extents new.bytes ≡ extents in'.bytes → IfSome (top_of in'.sides.replay t) (λ frame. (x : ℕ) → byte_at new.bytes x ≡ with_args frame.addr offsets widths args x (byte_at in'.bytes x)) → new ≡ record in' { bytes = new.bytes } → IsEntered old new t addr size (bytes_with_args size offsets widths args)
+entered_spaces old in' new t size addr offsets widths args widths_same args_same fit stack_there place sides none fills held areas set rest = record {
+  place = place;
+  fits = none;
+  sides = ap (λ (q : SpaceState). q.sides) rest ∙ sides;
+  count = has.count;
+  bytes_are = has.bytes;
+  others = has.outside;
+  held = ap (λ (q : SpaceState). q.held) rest ∙ held;
+}
+  where
+    top : top_of in'.sides.replay t ≡ Some (record { addr = addr; len = size })
+    top = ap (λ (q : Sides). top_of q.replay t) sides ∙ top_with old.sides.replay t (frames_of old.sides.replay t) (record { addr = addr; len = size }) stack_there
+
+    set_there : (x : ℕ) → byte_at new.bytes x ≡ with_args addr offsets widths args x (byte_at in'.bytes x)
+    set_there = subst (λ o. IfSome o (λ (r : Range). (x : ℕ) → byte_at new.bytes x ≡ with_args r.addr offsets widths args x (byte_at in'.bytes x))) top set
+
+    has : HasArgs addr size offsets widths args old.bytes new.bytes
+    has = arguments old.bytes in'.bytes new.bytes (record { addr = addr; len = size }) offsets widths args fills widths_same args_same fit areas set_there

@@ -1,21 +1,17 @@
 -- Events of a thread that are made.
-use Rattle.std.proofs.Common.{◌≡◌, ◌⊎◌, ℕ, ◌+◌, ◌^◌, ◌<◌, ◌≤◌, true, false, ◌||◌, eqb, List, [], ◌∷◌, Some, map, refl, sym, ap, ◌∙◌, subst, arith}
+use Rattle.std.proofs.Common.{◌≡◌, ◌⊎◌, ℕ, ◌+◌, ◌^◌, ◌<◌, ◌≤◌, true, false, ◌||◌, eqb, List, [], ◌∷◌, map, refl, sym, ap, ◌∙◌, subst, arith}
 use Rattle.std.proofs.lemmas.Bool.{cond-false, ne_eqb, true≢false}
 use Rattle.run_events.specs.declared.key.Class.TheVariants.{Pool}
 use Rattle.run_events.specs.declared.key.Key.{Key}
 use Rattle.run_events.specs.declared.key.KeyMark.{KeyMark}
-use Rattle.marks.specs.declared.side.Side.TheVariants.{Replay}
 use Rattle.marks.specs.Places.{replay_pool, pool_size}
 use Rattle.marks.specs.Ranges.{range}
 use Rattle.marks.specs.Marks.{EventKind, Call, Ret, Up, UpRet, Alloc, Free, Stop, Event, Made, Mark}
 use Rattle.marks.specs.Bytes.{Byte, granted, touches}
 use Rattle.logical_clock.specs.Events.{occurrence}
-use Rattle.pool_list.specs.Blocks.{PoolState, with_block}
-use Rattle.pool_list.specs.Places.{IsLeastPlace}
+use Rattle.pool_list.specs.Blocks.{PoolState}
 use Rattle.pool_list.specs.Places as pool
-use Rattle.space_memory_bytes.specs.Numbers.{FillsWith}
-use Rattle.space_memory.specs.Sides.{with_blocks}
-use Rattle.space_memory.specs.Spaces.{SpaceState, with_side}
+use Rattle.space_memory.specs.Spaces.{SpaceState}
 use Rattle.space_memory_laws.specs.Marks.{IsQuietEvent}
 use Rattle.space_memory_laws.specs.PoolMarks.{IsAlloc}
 use Rattle.space_memory_laws.specs.StandsFor.{StandsFor}
@@ -36,6 +32,7 @@ use Rattle.race_watch.specs.Stands.{Stands, WasTold}
 use Rattle.race_watch_laws.specs.Told.{told}
 use Rattle.steps_above_memory.specs.declared.above.MemoryAbove.{MemoryAbove}
 use Rattle.steps_above_memory.specs.Above.{StandsForAbove}
+use Rattle.steps_above_memory.specs.Spaces.{IsTaken}
 use Rattle.steps_above_memory.specs.Steps.{next_mark}
 use Rattle.steps_above_memory.specs.Events.{MakesEvent, HasPlace, next_event}
 use Rattle.steps_above_memory.proofs.Extend.{goes_on}
@@ -103,13 +100,6 @@ module _ (old new : MemoryAbove) (t size addr len : ℕ) (between : WatchState) 
   }
 
 -- a block that the pool gave
-pub record IsTaken (old new : SpaceState) (size addr : ℕ) : Type 0 where
-  pub least : IsLeastPlace old.sides.replay.pool size addr
-  pub some : 1 ≤ size
-  pub sides : new.sides ≡ with_side old.sides Replay (with_blocks old.sides.replay (with_block old.sides.replay.pool.blocks (record { addr = addr; len = size })))
-  pub fills : FillsWith (record { addr = addr; len = size }) (Some 0) old.bytes new.bytes
-  pub held : new.held ≡ old.held
-
 module _ (old : MemoryAbove) (new : SpaceState) (t size addr : ℕ) (g : IsTaken old.spaces new size addr) (memory : ℕ → Byte) (past : List Mark) (h : StandsFor (fresh memory) past old.spaces) where
   in_pool : (replay_pool ≤ addr) × (addr + size ≤ replay_pool + pool_size)
   in_pool =

@@ -4,3 +4,4 @@ pub mod Steps
 pub mod Events
 pub mod Returns
 pub mod Calls
+pub mod Spaces

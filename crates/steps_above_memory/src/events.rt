@@ -10,6 +10,7 @@ ghost use Rattle.race_watch.specs.Told.{Accessed};
 ghost use Rattle.race_watch.specs.Stands.{WasTold};
 ghost use Rattle.space_memory_laws.specs.Marks.{IsQuietEvent};
 ghost use Rattle.steps_above_memory.specs.Events.{MakesEvent, HasPlace, WasToldFree};
+ghost use Rattle.steps_above_memory.specs.Spaces.{IsFreed, IsGiven};
 ghost use Rattle.steps_above_memory.specs.Steps.{HasCause, Refuses, Takes};
 
 use crate::above::MemoryAbove;
@@ -78,6 +79,7 @@ impl MemoryAbove {
         ensures place { IfOk result (HasPlace self.old size) }
         ensures made { IfOk result (λ addr.
             MakesEvent self.old thread (key Pool 0 ∷ []) (Alloc addr size) self.new) }
+        ensures spaces { IfOk result (IsGiven self.old.spaces self.new.spaces size) }
     {
         self.watch.event(thread, &[POOL_KEY])?;
         match self.spaces.alloc_in(Side::Replay, size) {
@@ -100,6 +102,7 @@ impl MemoryAbove {
         ensures passes { OnOk result (Takes self.old thread (Frees addr)) }
         ensures made { IfOk result (λ size.
             MakesEvent self.old thread (key Pool 0 ∷ []) (Free addr size) self.new) }
+        ensures spaces { IfOk result (IsFreed self.old.spaces self.new.spaces addr) }
         ensures refused { IfErr result (Refuses self.old thread (Frees addr)) }
         ensures unchanged { IfErr result (λ refusal. HasCause refusal → self.new ≡ self.old) }
     {

@@ -6,6 +6,7 @@ ghost use Rattle.marks.specs.Marks.{Load};
 ghost use Rattle.marks.specs.Wants.{Loads};
 ghost use Rattle.memory_map.specs.declared.areas.TheConstants.{THREADS};
 ghost use Rattle.race_watch.specs.Stands.{Stands};
+ghost use Rattle.space_memory_bytes.specs.Numbers.{HasNumber};
 ghost use Rattle.steps_above_memory.specs.Above.{BeginsAbove};
 ghost use Rattle.steps_above_memory.specs.Steps.{Makes, Refuses, FindsRefusal};
 
@@ -37,6 +38,8 @@ impl MemoryAbove {
         ensures loaded { IfOk result (λ value. (origin : Option ℕ) → Makes self.old thread
             (Loads origin addr width) (Load origin addr (bytes_of_number width value)) self.new) }
         ensures fits { IfOk result (λ value. value < 256 ^ width) }
+        ensures number { IfOk result (HasNumber self.old.spaces.bytes addr width) }
+        ensures spaces { self.new.spaces ≡ self.old.spaces }
         ensures refused { IfErr result (λ refusal. (origin : Option ℕ) → Refuses self.old thread
             (Loads origin addr width) refusal) }
         ensures unchanged { OnErr result (self.new ≡ self.old) }

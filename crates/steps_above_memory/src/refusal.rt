@@ -36,7 +36,7 @@ impl fmt::Debug for StepRefusal {
 
 impl StepRefusal {
     /// What a refusal of memory is to the step.
-    pub(crate) fn of(refusal: Refusal) -> StepRefusal
+    pub fn of(refusal: Refusal) -> StepRefusal
         ensures { result ≡ refusal_of refusal }
     {
         let (kind, addr) = match refusal {

@@ -4,6 +4,7 @@ ghost use Rattle.std.specs.Prelude.{◌≡◌, ◌<◌, ◌≤◌, length, slice
 ghost use Rattle.memory_map.specs.declared.areas.TheConstants.{THREADS};
 ghost use Rattle.space_memory_access.specs.Held.{innermost};
 ghost use Rattle.space_memory.specs.Releases.{outs_of};
+ghost use Rattle.steps_above_memory.specs.Spaces.{IsReleased};
 ghost use Rattle.steps_above_memory.specs.Steps.{HasCause};
 ghost use Rattle.steps_above_memory.specs.Returns.{MakesReturn, RefusesReturn, TakesReturn, WasToldReturn, WasToldAccesses};
 
@@ -65,6 +66,7 @@ impl MemoryAbove {
         ensures passes { OnOk result (TakesReturn self.old thread used.now commit) }
         ensures made { OnOk result (MakesReturn self.old thread used.now commit ranges.now keys.now
             self.new) }
+        ensures spaces { OnOk result (IsReleased self.old.spaces self.new.spaces thread used.now commit) }
         ensures refused { IfErr result (RefusesReturn self.old thread used.now commit) }
         ensures unchanged { IfErr result (λ refusal. HasCause refusal → self.new ≡ self.old) }
     {

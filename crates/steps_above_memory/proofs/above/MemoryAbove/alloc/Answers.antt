@@ -1,4 +1,5 @@
-use Rattle.steps_above_memory.proofs.Happening.{IsTaken, taken_made, taken_place, refused_made, refused_place}
+use Rattle.steps_above_memory.specs.Spaces.{IsTaken}
+use Rattle.steps_above_memory.proofs.Happening.{taken_made, taken_place, refused_made, refused_place}
 use Rattle.steps_above_memory.proofs.above.MemoryAbove.alloc.Goals as goal
 
 pub returns-in_ok-accessed-in-Some-clause-place : goal.returns-in_ok-accessed-in-Some-clause-place

@@ -8,7 +8,7 @@ use Rattle.space_memory.specs.Sides.{frames_of, top_of, with_thread}
 use Rattle.space_memory.specs.Spaces.{SpaceState, with_side}
 use Rattle.race_watch.specs.Stands.{AnswersBy}
 use Rattle.steps_above_memory.proofs.Tests.{not_both}
-use Rattle.steps_above_memory.proofs.Entering.{top_with, enter_made, enter_full, enter_raced}
+use Rattle.steps_above_memory.proofs.Entering.{top_with, enter_made, enter_full, enter_raced, entered_spaces}
 use Rattle.steps_above_memory.proofs.above.MemoryAbove.enter.Goals as goal
 
 pub returns-in-Err-clause-refused : goal.returns-in-Err-clause-refused
@@ -43,3 +43,14 @@ returns-clause-entered c = λ i f values.
     (λ e k. not_both _ _ e c.in-Ok.is ((c.may_enter.ensures.refused e).1 k))
     (subst (λ a. FillsWith (frame a) (Some 0) old.bytes c.enter.new.self.bytes) same c.in-Ok-enter.ensures.zero)
     c.enter.ensures.held c.set_args.ensures.areas c.set_args.ensures.set c.set_args.ensures.rest c.in_default.ensures.told i f values
+
+pub returns-clause-spaces : goal.returns-clause-spaces
+returns-clause-spaces c =
+    let same : c.in-Ok-enter.field-0 ≡ c.in-Ok.addr = c.in-Ok-enter.ensures.place ∙ sym c.in-Ok.ensures.place in
+    let frame : ℕ → Range = λ a. record { addr = a; len = c.args.size } in
+    let old : SpaceState = c.args.self.now.spaces in
+    entered_spaces old c.enter.new.self c.set_args.new.self c.args.thread c.args.size c.in-Ok.addr c.args.offsets.now c.args.widths.now c.args.args.now c.requires.widths c.requires.args c.requires.in_frame c.requires.stack c.in-Ok.ensures.place
+    (subst (λ a. c.enter.new.self.sides ≡ with_side old.sides Replay (with_thread old.sides.replay c.args.thread (frames_of old.sides.replay c.args.thread ++ frame a ∷ []))) same c.in-Ok-enter.ensures.entered)
+    (λ e k. not_both _ _ e c.in-Ok.is ((c.may_enter.ensures.refused e).1 k))
+    (subst (λ a. FillsWith (frame a) (Some 0) old.bytes c.enter.new.self.bytes) same c.in-Ok-enter.ensures.zero)
+    c.enter.ensures.held c.set_args.ensures.areas c.set_args.ensures.set c.set_args.ensures.rest

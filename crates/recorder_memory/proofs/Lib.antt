@@ -1,0 +1,14 @@
+pub mod Replies
+pub mod Modes
+pub mod Marking
+pub mod Begins
+pub mod Accesses
+pub mod Frames
+pub mod Pool
+pub mod Printed
+pub mod Pieces
+pub mod Quiet
+pub mod MarkingAbove
+pub mod AccessesAbove
+pub mod FramesAbove
+pub mod Results

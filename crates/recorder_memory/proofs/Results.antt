@@ -1,0 +1,11 @@
+-- What follows of results that are given on.
+use Rattle.std.proofs.Common.{Result, Ok, Err}
+use Rattle.std.specs.Prelude.{IfOk, IfErr}
+
+pub both_ok : {A E : Type 0} (r : Result A E) (P Q R : A → Type 0) → ((a : A) → P a → Q a → R a) → IfOk r P → IfOk r Q → IfOk r R
+both_ok (Ok a) P Q R go p q = go a p q
+both_ok (Err e) P Q R go p q = p
+
+pub any_err : {A E : Type 0} (r : Result A E) (P Q : E → Type 0) → ((e : E) → P e → Q e) → IfErr r P → IfErr r Q
+any_err (Ok a) P Q go p = p
+any_err (Err e) P Q go p = go e p

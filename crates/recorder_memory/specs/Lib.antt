@@ -1,0 +1,5 @@
+pub mod Stands
+pub mod Steps
+pub mod Below
+pub mod Printing
+pub mod Laws

@@ -1,0 +1,21 @@
+//! The memory of a recorded run, of both sides of the cut, with the watch for races above it: it does each step of a whole run, or
+//! says what the tests of the step find.
+#![tactic(auto)]
+
+mod above;
+mod below;
+mod externals;
+mod frames_above;
+mod frames_below;
+mod laws;
+mod memory;
+mod pool_below;
+mod printing;
+mod target;
+
+pub use laws::{
+    frames_that_end_are_there, steps_of_threads_leave_memory, threads_have_stacks,
+    threads_that_step_are_few, turns_above_leave_memory, turns_below_leave_memory,
+};
+pub use memory::Memory;
+pub use target::PieceTarget;
