@@ -3,4 +3,5 @@ pub mod Refusals
 pub mod Steps
 pub mod Events
 pub mod Returns
+pub mod Parts
 pub mod Calls
