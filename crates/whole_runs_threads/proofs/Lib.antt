@@ -1,0 +1,4 @@
+pub mod Own
+pub mod Framing
+pub mod Values
+pub mod Suits
