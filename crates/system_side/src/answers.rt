@@ -39,6 +39,12 @@ impl Queue {
         Ok(())
     }
 
+    fn first(&self) -> Option<usize>
+        ensures { result ≡ slice_get self.now 0 }
+    {
+        self.places.front().copied()
+    }
+
     fn take(&mut self) -> Option<usize>
         ensures next { result ≡ slice_get self.old 0 }
         ensures rest { self.new ≡ drop 1 self.old }
@@ -73,6 +79,17 @@ impl Left {
             left.add(alloc, answer.func, place)?;
         }
         Ok(left)
+    }
+
+    /// The place of the function's next answer.
+    pub fn first(&self, func: u16) -> Option<usize>
+        ensures { result ≡ slice_get (left_of self.now func) 0 }
+    {
+        let at = usize::from(func);
+        if at >= self.queues.len() {
+            return None;
+        }
+        self.queues[at].first()
     }
 
     /// Takes the place of the function's next answer.

@@ -12,3 +12,4 @@ mod turns;
 pub use file::{Scripted, SysFile};
 pub use lists::{Answers, Schedule};
 pub use system::System;
+pub use threads::Wait;

@@ -111,6 +111,7 @@ impl System {
               threads =
                   map (woken (Wait.Mutex m)) self.old.threads;
             } }
+        ensures free { holds self.old.held thread m ≡ true → holder self.new.held m ≡ None }
         ensures unchanged { holds self.old.held thread m ≡ false → self.new ≡ self.old }
     {
         if self.holds(thread, m) {
@@ -122,14 +123,29 @@ impl System {
         }
     }
 
-    // Whether the thread holds the mutex.
-    fn holds(&self, thread: u8, m: i32) -> bool
+    /// Whether a thread holds the mutex.
+    pub fn is_held(&self, m: i32) -> bool
+        ensures { result ≡ is_some (holder self.now.held m) }
+    {
+        self.held.contains_key(&m)
+    }
+
+    /// Whether the thread holds the mutex.
+    pub fn holds(&self, thread: u8, m: i32) -> bool
         ensures { result ≡ holds self.now.held thread m }
     {
         match self.held.get(&m) {
             Some(holder) => *holder == thread,
             None => false,
         }
+    }
+
+    /// How many threads were started.
+    pub fn started(&self) -> usize
+        ensures count { result ≡ length self.now.threads }
+        ensures few { result ≤ 32 }
+    {
+        self.threads.len()
     }
 
     /// Starts a thread and answers its number, the count of those before; -1 where 32 were started.
@@ -161,6 +177,31 @@ impl System {
         self.threads.wake(Wait::Thread(i32::from(thread)));
     }
 
+    /// Blocks a thread until what it waits for has come.
+    pub fn block(&mut self, thread: u8, wait: Wait)
+        requires { has_not_ended self.old.threads thread ≡ true }
+        ensures { self.new ≡ record self.old {
+          threads =
+              slice_set self.old.threads thread (Standing.Waits wait);
+        } }
+    {
+        self.threads.stop(thread, Standing::Waits(wait));
+    }
+
+    /// What `join` would answer; no thread is blocked.
+    pub fn joined(&self, thread: u8, t: i32) -> Option<i32>
+        ensures { result ≡ joined self.now.threads thread t }
+    {
+        if t == i32::from(thread) {
+            return Some(-1);
+        }
+        match self.threads.standing(t) {
+            None => Some(-1),
+            Some(Standing::Ended(value)) => Some(value),
+            Some(_) => None,
+        }
+    }
+
     /// The result of another thread that has ended; -1 where `t` isn't another thread that was started. Where it hasn't
     /// ended, `None`, and the thread is blocked until it has.
     pub fn join(&mut self, thread: u8, t: i32) -> Option<i32>
@@ -173,20 +214,21 @@ impl System {
             }) }
         ensures unchanged { IsSome result → self.new ≡ self.old }
     {
-        if t == i32::from(thread) {
-            return Some(-1);
+        let joined = self.joined(thread, t);
+        if joined.is_none() {
+            self.block(thread, Wait::Thread(t));
         }
-        match self.threads.standing(t) {
-            None => Some(-1),
-            Some(Standing::Ended(value)) => Some(value),
-            Some(_) => {
-                self.threads.stop(thread, Standing::Waits(Wait::Thread(t)));
-                None
-            }
-        }
+        joined
     }
 
-    /// The place, in the answers of the file, of the function's next answer; `None` where there is none.
+    /// The place, in the answers of the file, of the function's next answer, which is left; `None` where there is none.
+    pub fn next_answer(&self, func: u16) -> Option<usize>
+        ensures { result ≡ slice_get (left_of self.now.left func) 0 }
+    {
+        self.left.first(func)
+    }
+
+    /// Takes the function's next answer, and gives its place in the answers of the file; `None` where there is none.
     pub fn answer(&mut self, func: u16) -> Option<usize>
         ensures next { result ≡ slice_get (left_of self.old.left func) 0 }
         ensures rest { self.new ≡ record self.old {

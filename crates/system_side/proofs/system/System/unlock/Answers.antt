@@ -6,7 +6,7 @@ use Rattle.std.proofs.lemmas.Bool.{false≢true}
 use Rattle.std.proofs.lemmas.Int.{to_z-of_z}
 use Rattle.system_side.specs.declared.threads.Wait.TheVariants.{Mutex}
 use Rattle.system_side.specs.Threads.{woken}
-use Rattle.system_side.specs.System.{SystemState, holds}
+use Rattle.system_side.specs.System.{SystemState, holder, holds}
 use Rattle.system_side.proofs.State.{same_state}
 use Rattle.system_side.proofs.system.System.unlock.Goals as goal
 
@@ -33,5 +33,13 @@ returns-else-holds-clause-answer c =
 
 pub returns-else-holds-clause-freed : goal.returns-else-holds-clause-freed
 returns-else-holds-clause-freed c = λ e.
+    let is : holds c.args.self.now.held c.args.thread c.args.m ≡ false = ap (λ k. holds c.args.self.now.held c.args.thread k) (sym (to_z-of_z w32 c.args.m c.ranges.m)) ∙ sym c.holds.ensures ∙ c.if-holds.false in
+    absurd (false≢true (sym is ∙ e))
+
+pub returns-then-holds-clause-free : goal.returns-then-holds-clause-free
+returns-then-holds-clause-free c = λ e. ap (holder c.remove.new.self.entries) (sym (to_z-of_z w32 c.args.m c.ranges.m)) ∙ c.remove.ensures.updates.1
+
+pub returns-else-holds-clause-free : goal.returns-else-holds-clause-free
+returns-else-holds-clause-free c = λ e.
     let is : holds c.args.self.now.held c.args.thread c.args.m ≡ false = ap (λ k. holds c.args.self.now.held c.args.thread k) (sym (to_z-of_z w32 c.args.m c.ranges.m)) ∙ sym c.holds.ensures ∙ c.if-holds.false in
     absurd (false≢true (sym is ∙ e))
