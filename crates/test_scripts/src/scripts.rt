@@ -61,11 +61,7 @@ fn said_by(alloc: Global, file: &SysFile) -> Result<Output, AllocError> {
 }
 
 /// What the file says, or the first line that is wrong.
-fn script_text(
-    alloc: Global,
-    source: &CheckedSource,
-    script: &str,
-) -> Result<Output, AllocError> {
+fn script_text(alloc: Global, source: &CheckedSource, script: &str) -> Result<Output, AllocError> {
     if source.program.functions().len() > MOST_FUNCTIONS || script.len() > MOST_BYTES {
         return Err(AllocError);
     }
