@@ -12,3 +12,5 @@ pub mod MarkingAbove
 pub mod AccessesAbove
 pub mod FramesAbove
 pub mod Results
+pub mod Events
+pub mod Blocks

@@ -9,3 +9,7 @@ both_ok (Err e) P Q R go p q = p
 pub any_err : {A E : Type 0} (r : Result A E) (P Q : E → Type 0) → ((e : E) → P e → Q e) → IfErr r P → IfErr r Q
 any_err (Ok a) P Q go p = p
 any_err (Err e) P Q go p = go e p
+
+pub any_ok : {A E : Type 0} (r : Result A E) (P Q : A → Type 0) → ((a : A) → P a → Q a) → IfOk r P → IfOk r Q
+any_ok (Ok a) P Q go p = go a p
+any_ok (Err e) P Q go p = p

@@ -3,3 +3,4 @@ pub mod Steps
 pub mod Below
 pub mod Printing
 pub mod Laws
+pub mod Events

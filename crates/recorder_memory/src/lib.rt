@@ -4,6 +4,7 @@
 
 mod above;
 mod below;
+mod events_above;
 mod externals;
 mod frames_above;
 mod frames_below;
