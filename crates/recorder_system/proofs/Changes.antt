@@ -1,5 +1,5 @@
 -- What is noted by each call.
-use Rattle.std.proofs.Common.{◌≡◌, ◌≢◌, ◌⊎◌, inl, inr, ⊎_elim, ℕ, suc, ◌+◌, ◌<◌, ◌≤◌, ℤ, Bool, true, false, cond, ◌&&◌, not, eqb, ltb, leb, List, [], ◌∷◌, ◌++◌, length, get_or, map, set, drop, Option, Some, None, refl, sym, ap, ◌∙◌, subst, arith}
+use Rattle.std.proofs.Common.{◌≡◌, ◌≢◌, ◌⊎◌, inl, inr, ℕ, ◌+◌, ◌<◌, ◌≤◌, ℤ, Bool, true, false, cond, ◌&&◌, not, eqb, leb, List, [], ◌∷◌, ◌++◌, length, get_or, map, set, drop, Option, Some, None, refl, sym, ap, ◌∙◌, subst, arith}
 use Rattle.std.specs.Prelude.{is_some, option_map}
 use Rattle.std.specs.Ordering.{int_cmp}
 use Rattle.std.specs.BTreeMap.{insert_entry, is_at}
@@ -19,8 +19,8 @@ use Rattle.system_side.specs.Answers.{left_of}
 use Rattle.system_side.specs.System.{SystemState}
 use Rattle.system_side.specs.System as system
 use Rattle.whole_runs.specs.World.{World}
-use Rattle.whole_runs.specs.Outcomes.{Outcome, act_outcome, builtin_of, holder, is_start, minus_one, outcome, started}
-use Rattle.whole_runs.specs.Picks.{can_step, is_free}
+use Rattle.whole_runs.specs.Outcomes.{act_outcome, builtin_of, holder, is_start, minus_one, outcome, started}
+use Rattle.whole_runs.specs.Picks.{can_step}
 use Rattle.whole_runs.specs.Below.{Given, ByPool, Says, NoMore}
 use Rattle.recorder_system.specs.Stands.{IsInt, IsSound, IsSystemBut, IsSystemOf, int_of, running_in}
 use Rattle.recorder_system.specs.Calls.{IsOutcome, Notes}
@@ -29,7 +29,7 @@ use Rattle.recorder_system.proofs.Standing.{running_there, within}
 use Rattle.recorder_system.proofs.Told.{woken_runs}
 use Rattle.recorder_system.proofs.Waiting.{still_sound}
 use Rattle.recorder_system.proofs.Mutexes.{after_call, lock_number, others_leave, unlock_number}
-use Rattle.recorder_system.proofs.Noted.{frees, grows, holder_now, keeps_mutexes, leaves, left_by_builtin, left_by_external, none_apart, ne-eqb, spawn_number, takes}
+use Rattle.recorder_system.proofs.Noted.{frees, grows, holder_now, keeps_mutexes, leaves, left_by_builtin, left_by_external, none_apart, spawn_number, takes}
 
 -- the thread of the mark is the one that is named
 module _ (w : World) (past : List Mark) (t f : ℕ) (args : List ℕ) (m : Mark) (x : IsOutcome w past t f args m) where

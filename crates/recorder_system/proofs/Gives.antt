@@ -1,24 +1,22 @@
 -- What a system says that a call is given is what the run gives.
-use Rattle.std.proofs.Common.{◌≡◌, ◌≢◌, ℕ, ◌+◌, ◌<◌, ◌≤◌, ℤ, Bool, true, false, cond, eqb, ltb, leb, List, [], ◌∷◌, length, ◌⊎◌, inl, inr, Option, Some, None, refl, sym, ap, ◌∙◌, subst, arith}
-use Rattle.std.specs.Prelude.{filter, is_some, slice_get, unwrap_or}
-use Rattle.std.proofs.lemmas.Bool.{le-leb, lt-leb, ltb-true, ltb-false, cases_lt, lt-ltb, le-ltb}
+use Rattle.std.proofs.Common.{◌≡◌, ℕ, ◌≤◌, cond, leb, List, [], length, inl, inr, Option, Some, None, refl, sym, ap, ◌∙◌, subst, arith}
+use Rattle.std.specs.Prelude.{filter, slice_get}
+use Rattle.std.proofs.lemmas.Bool.{le-leb, lt-leb, cases_lt, lt-ltb, le-ltb}
 use Rattle.marks.specs.Places.{thread_count}
 use Rattle.marks.specs.Marks.{Mark}
 use Rattle.c_builtins.specs.declared.builtin.Builtin.{Builtin}
 use Rattle.c_builtins.specs.declared.builtin.Builtin.TheVariants.{Malloc, Free, Spawn, Join, Lock, Unlock, Print}
 use Rattle.c_code.specs.Machine.{first}
-use Rattle.system_side.specs.declared.file.Scripted.{Scripted}
 use Rattle.system_side.specs.Answers.{left_of, places_of}
 use Rattle.system_side.specs.System.{SystemState, is_thread}
-use Rattle.system_side.specs.System as system
 use Rattle.whole_runs.specs.World.{World}
-use Rattle.whole_runs.specs.Outcomes.{builtin_of, holder, minus_one, started, used}
+use Rattle.whole_runs.specs.Outcomes.{builtin_of, minus_one, started, used}
 use Rattle.whole_runs.specs.Below.{Says, given, given_by, next_answer}
 use Rattle.recorder_system.specs.declared.given.Given.{Given}
 use Rattle.recorder_system.specs.declared.given.Given.TheVariants as shown
-use Rattle.recorder_system.specs.Stands.{IsSystemOf, int_of}
+use Rattle.recorder_system.specs.Stands.{IsSystemOf}
 use Rattle.recorder_system.specs.Calls.{IsGiven, TakesInt, TellsGiven}
-use Rattle.recorder_system.specs.Shown.{given_in, joined_in, spawned_in}
+use Rattle.recorder_system.specs.Shown.{given_in, spawned_in}
 use Rattle.recorder_system.proofs.Joins.{answered_so, joins}
 use Rattle.recorder_system.proofs.Scripts.{Found, found, get_drop, is_of, none_left, one}
 

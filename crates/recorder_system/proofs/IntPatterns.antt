@@ -1,10 +1,9 @@
 -- Ints and their patterns.
-use Rattle.std.proofs.Common.{◌≡◌, ◌≢◌, ◌⊎◌, inl, inr, ℕ, suc, ◌+◌, ◌-◌, ◌^◌, ◌<◌, ◌≤◌, ℤ, pos, negsuc, Bool, true, false, refl, sym, ap, ◌∙◌, arith, eqb-true}
+use Rattle.std.proofs.Common.{◌≡◌, ◌≢◌, ◌⊎◌, inl, inr, ℕ, ◌<◌, ℤ, pos, negsuc, Bool, true, false, refl, sym, ap, ◌∙◌, arith, eqb-true}
 use Rattle.std.specs.Ordering.{int_eq}
 use Rattle.std.proofs.lemmas.Int.{ints}
 use Rattle.std.proofs.lemmas.Bool.Decides.{Decides-int_eq}
-use Rattle.c_code.specs.Values.{read, written}
-use Rattle.r2_num.specs.declared.kinds.IntKind.TheVariants.{I32}
+use Rattle.c_code.specs.Values.{written}
 use Rattle.recorder_system.specs.Stands.{IsInt, int_of}
 
 pub same_ints : (x y : ℤ) → x ≡ y → int_eq x y ≡ true

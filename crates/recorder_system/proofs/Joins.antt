@@ -1,8 +1,7 @@
 -- What a thread that joins is answered.
-use Rattle.std.proofs.Common.{◌≡◌, ◌≢◌, ◌⊎◌, inl, inr, ⊎_elim, ℕ, ◌<◌, ◌≤◌, ℤ, pos, negsuc, Bool, true, false, cond, ◌&&◌, ◌||◌, not, eqb, ltb, List, length, get_or, Option, Some, None, refl, sym, ap, ◌∙◌, subst, arith, eqb-true, eq-eqb}
+use Rattle.std.proofs.Common.{◌≡◌, ◌≢◌, inl, inr, ⊎_elim, ℕ, ◌<◌, ◌≤◌, ℤ, pos, negsuc, Bool, true, false, cond, ◌&&◌, ◌||◌, not, eqb, ltb, List, length, get_or, Option, Some, None, refl, sym, ap, ◌∙◌, subst, arith, eqb-true, eq-eqb}
 use Rattle.std.specs.Prelude.{is_some, slice_get, unwrap_or}
-use Rattle.std.specs.Ordering.{int_eq}
-use Rattle.std.proofs.lemmas.Bool.{true≢false, ltb-true, ltb-false, lt-ltb, le-ltb, cases_eq}
+use Rattle.std.proofs.lemmas.Bool.{ltb-true, ltb-false, le-ltb, cases_eq}
 use Rattle.std.proofs.lemmas.Option.{slice_get-get_or, slice_get_past}
 use Rattle.marks.specs.Marks.{Mark}
 use Rattle.c_code.specs.Values.{written}
@@ -16,7 +15,7 @@ use Rattle.whole_runs.specs.Outcomes.{minus_one, started}
 use Rattle.whole_runs.specs.Threads.{has_ended, result_of}
 use Rattle.whole_runs.specs.Picks.{is_other}
 use Rattle.recorder_system.specs.Stands.{IsInt, IsSystemOf, int_of}
-use Rattle.recorder_system.specs.Shown.{joined_in, written_or_zero}
+use Rattle.recorder_system.specs.Shown.{written_or_zero}
 use Rattle.recorder_system.proofs.IntPatterns.{other_ints, same_ints, small_or_great}
 
 -- -1 where no other thread is named; nothing while that runs; and then its result

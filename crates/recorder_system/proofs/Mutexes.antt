@@ -1,17 +1,15 @@
 -- Who holds a mutex, after a mark and after a call of the system.
-use Rattle.std.proofs.Common.{◌≡◌, ◌≢◌, ◌⊎◌, inl, inr, ℕ, ℤ, Bool, true, false, cond, ◌&&◌, eqb, List, [], ◌∷◌, Option, Some, None, refl, sym, ap, ◌∙◌, subst, arith, eqb-true, eq-eqb}
-use Rattle.std.specs.Prelude.{is_some}
+use Rattle.std.proofs.Common.{◌≡◌, ◌≢◌, ℕ, ℤ, Bool, true, false, cond, ◌&&◌, eqb, List, [], ◌∷◌, Option, Some, None, refl, sym, ap, ◌∙◌, subst}
 use Rattle.std.specs.declared.cmp.Ordering.{Ordering}
 use Rattle.std.specs.declared.cmp.Ordering.TheVariants.{Less, Equal, Greater}
 use Rattle.std.specs.Ordering.{int_cmp, is_eq, match_ordering}
 use Rattle.std.specs.BTreeMap.{insert_entry, is_at}
 use Rattle.std.specs.Map.{lookup, remove_entry}
-use Rattle.std.proofs.lemmas.Bool.{true≢false, cases_eq, and_parts}
 use Rattle.std.proofs.lemmas.Map.Lookups.{exact_signed}
 use Rattle.marks.specs.declared.side.Side.TheVariants.{Replay, System}
 use Rattle.marks.specs.Marks.{EventKind, Call, Ret, Up, UpRet, Alloc, Free, Stop, Act, Turn, Load, Store, Enter, Leave, Step, Fault, Made, Mark}
 use Rattle.lockset_check_laws.specs.Locks.{Deed, Takes, GivesBack, Frees, Drops, Other, deed, event_deed, holder_after, is_that}
-use Rattle.whole_runs.specs.Outcomes.{Outcome, act_outcome, event_outcome, holder, mutex_calls, outcome}
+use Rattle.whole_runs.specs.Outcomes.{Outcome, act_outcome, event_outcome, holder, mutex_calls}
 use Rattle.recorder_system.proofs.IntPatterns.{equal_ints, other_ints, same_ints}
 
 -- ---- in a run

@@ -1,5 +1,5 @@
 -- A system after a mark, but for the end of the mark's thread.
-use Rattle.std.proofs.Common.{◌≡◌, ◌≢◌, ◌⊎◌, inl, inr, ⊎_elim, ℕ, suc, ◌+◌, ◌-◌, ◌^◌, ◌<◌, ◌≤◌, ℤ, pos, negsuc, Bool, true, false, cond, ◌&&◌, not, eqb, ltb, leb, List, [], ◌∷◌, ◌++◌, length, map, set, drop, Option, Some, None, refl, sym, ap, ◌∙◌, subst, arith, eqb-true, eq-eqb}
+use Rattle.std.proofs.Common.{◌≡◌, ◌≢◌, inl, inr, ℕ, suc, ◌<◌, Bool, true, false, cond, ◌&&◌, not, eqb, List, [], ◌∷◌, ◌++◌, length, map, set, drop, Option, Some, None, refl, sym, ap, ◌∙◌, subst, arith, eqb-true, eq-eqb}
 use Rattle.std.specs.Prelude.{filter, is_some, slice_get, option_map}
 use Rattle.std.specs.Ordering.{int_cmp}
 use Rattle.std.specs.BTreeMap.{insert_entry, is_at}
@@ -11,7 +11,7 @@ use Rattle.c_builtins.specs.declared.builtin.Builtin.{Builtin}
 use Rattle.c_builtins.specs.declared.builtin.Builtin.TheVariants.{Spawn, Lock, Unlock}
 use Rattle.c_builtins.specs.Table.{number_of}
 use Rattle.system_side.specs.declared.threads.Standing.{Standing}
-use Rattle.system_side.specs.declared.threads.Standing.TheVariants.{Ready, Waits, Ended}
+use Rattle.system_side.specs.declared.threads.Standing.TheVariants.{Ready}
 use Rattle.system_side.specs.Answers.{left_of, places_of}
 use Rattle.system_side.specs.declared.threads.Wait.TheVariants.{Mutex}
 use Rattle.system_side.specs.Threads.{woken}

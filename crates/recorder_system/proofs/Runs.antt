@@ -1,5 +1,5 @@
 -- What a mark changes of a run: how many threads there are, and what the code of the others comes to.
-use Rattle.std.proofs.Common.{◌≡◌, ◌≢◌, ℕ, zero, suc, ◌<◌, ◌≤◌, Bool, true, false, cond, ◌&&◌, not, eqb, List, [], ◌∷◌, length, Option, Some, None, refl, sym, ap, ◌∙◌, arith, eqb-true}
+use Rattle.std.proofs.Common.{◌≡◌, ◌≢◌, ℕ, zero, suc, ◌<◌, ◌≤◌, Bool, true, false, cond, ◌&&◌, eqb, List, [], ◌∷◌, length, Option, Some, None, refl, ap, ◌∙◌, arith, eqb-true}
 use Rattle.std.specs.Prelude.{filter, find}
 use Rattle.marks.specs.Marks.{Mark}
 use Rattle.marks.specs.Opens.{tail}

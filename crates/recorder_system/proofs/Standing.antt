@@ -1,12 +1,11 @@
 -- What a thread that stands somewhere can do.
-use Rattle.std.proofs.Common.{◌≡◌, ◌≢◌, ◌⊎◌, inl, inr, ⊎_elim, ℕ, ◌<◌, ◌≤◌, ℤ, pos, negsuc, Bool, true, false, cond, ◌&&◌, ◌||◌, not, eqb, ltb, List, [], ◌∷◌, length, get_or, Option, Some, None, refl, sym, ap, ◌∙◌, subst, arith, eqb-true, eq-eqb}
-use Rattle.std.specs.Prelude.{find, is_some, slice_get}
-use Rattle.std.proofs.lemmas.Bool.{and_parts, true≢false, ltb-true, ltb-false, lt-ltb, cases_eq}
-use Rattle.std.proofs.lemmas.Option.{slice_get-get_or, slice_get_within, slice_get_past}
+use Rattle.std.proofs.Common.{◌≡◌, ℕ, ◌<◌, Bool, true, false, ◌&&◌, ◌||◌, not, ltb, List, length, get_or, Option, Some, None, refl, sym, ap, ◌∙◌, arith}
+use Rattle.std.specs.Prelude.{is_some, slice_get}
+use Rattle.std.proofs.lemmas.Bool.{and_parts, true≢false, ltb-true, lt-ltb}
+use Rattle.std.proofs.lemmas.Option.{slice_get-get_or, slice_get_within}
 use Rattle.marks.specs.Marks.{Mark}
 use Rattle.c_builtins.specs.declared.builtin.Builtin.TheVariants.{Join, Lock}
 use Rattle.c_builtins.specs.Table.{number_of}
-use Rattle.c_code.specs.Machine.{first}
 use Rattle.c_code.specs.Values.{written}
 use Rattle.c_code.specs.MarkLists.{Next, Quiet, Wants, Ends, No}
 use Rattle.system_side.specs.declared.threads.Wait.{Wait}
@@ -19,7 +18,7 @@ use Rattle.whole_runs.specs.World.{World}
 use Rattle.whole_runs.specs.Outcomes.{builtin_of, holder, started}
 use Rattle.whole_runs.specs.Threads.{comes, ended_with, has_ended, result_of}
 use Rattle.whole_runs.specs.Picks.{Asked, can_step, is_free, is_other, is_unblocked, may_go_on}
-use Rattle.recorder_system.specs.Stands.{Asks, Awaits, IsSystemOf, Stands, StandsAs, asked_by, call_of, next_asked}
+use Rattle.recorder_system.specs.Stands.{Awaits, IsSystemOf, asked_by, call_of, next_asked}
 
 -- ---- by what the code comes to
 

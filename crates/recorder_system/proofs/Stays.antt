@@ -1,5 +1,5 @@
 -- Where the threads stand after a mark of one that could step, but for its own end.
-use Rattle.std.proofs.Common.{◌≡◌, ◌≢◌, ◌⊎◌, inl, inr, ⊎_elim, ℕ, suc, ◌<◌, ◌≤◌, ℤ, pos, Bool, true, false, cond, ◌&&◌, not, eqb, ltb, List, [], ◌∷◌, length, Option, Some, None, refl, sym, ap, ◌∙◌, subst, arith, eqb-true, eq-eqb}
+use Rattle.std.proofs.Common.{◌≡◌, ◌≢◌, inl, inr, ℕ, ◌<◌, ◌≤◌, ℤ, Bool, true, false, cond, ◌&&◌, not, eqb, ltb, List, [], ◌∷◌, Option, Some, None, refl, sym, ap, ◌∙◌, arith, eqb-true, eq-eqb}
 use Rattle.std.specs.Prelude.{is_some, slice_get}
 use Rattle.std.specs.Ordering.{int_eq}
 use Rattle.std.proofs.lemmas.Bool.{and_parts, true≢false, ltb-true, lt-ltb, cases_eq}
@@ -17,7 +17,7 @@ use Rattle.whole_runs.specs.Sides.{own}
 use Rattle.whole_runs.specs.Outcomes.{act_outcome, holder, started}
 use Rattle.whole_runs.specs.Threads.{comes, ended_with, result_of}
 use Rattle.whole_runs.specs.Picks.{can_step, is_other}
-use Rattle.recorder_system.specs.Stands.{Asks, Awaits, IsInt, IsSystemOf, StandsAs, int_of, next_asked, result_but}
+use Rattle.recorder_system.specs.Stands.{Asks, IsInt, IsSystemOf, StandsAs, int_of, next_asked, result_but}
 use Rattle.recorder_system.proofs.IntPatterns.{same_ints}
 use Rattle.recorder_system.proofs.Runs.{StartsNext, comes_other, none_yet, own_other, started_more}
 use Rattle.recorder_system.proofs.Standing.{can_is_ready, can_started, ready_is}
@@ -107,25 +107,29 @@ module _ (w : World) (past : List Mark) (m : Mark) (s : SystemState) (h : IsSyst
   stays u (Waits (Mutex x)) e kept =
       let lt = in_range u (Waits (Mutex x)) e in
       let stood = h.threads u (Waits (Mutex x)) e in
-      let a = stood.1 in
-      (told_none u lt stood.0, record {
-        mutex = a.mutex;
-        is_int = a.is_int;
-        number = a.number;
-        asks = asks_same u _ _ (its_not u (Mutex x) e) lt a.asks;
-        held = kept a.mutex a.is_int (ap (λ z. Waits (Mutex z)) (sym a.number)) a.held;
-      })
+      let a = stood.1 in (
+        told_none u lt stood.0,
+        record {
+          mutex = a.mutex;
+          is_int = a.is_int;
+          number = a.number;
+          asks = asks_same u _ _ (its_not u (Mutex x) e) lt a.asks;
+          held = kept a.mutex a.is_int (ap (λ z. Waits (Mutex z)) (sym a.number)) a.held;
+        },
+      )
   stays u (Waits (Thread x)) e kept =
       let lt = in_range u (Waits (Thread x)) e in
       let stood = h.threads u (Waits (Thread x)) e in
-      let a = stood.1 in
-      (told_none u lt stood.0, record {
-        other = a.other;
-        number = a.number;
-        asks = asks_same u _ _ (its_not u (Thread x) e) lt a.asks;
-        is_another = other_now u a.other a.is_another;
-        runs = told_none a.other (other_parts u a.other a.is_another).0 a.runs;
-      })
+      let a = stood.1 in (
+        told_none u lt stood.0,
+        record {
+          other = a.other;
+          number = a.number;
+          asks = asks_same u _ _ (its_not u (Thread x) e) lt a.asks;
+          is_another = other_now u a.other a.is_another;
+          runs = told_none a.other (other_parts u a.other a.is_another).0 a.runs;
+        },
+      )
 
   -- so it does where those are woken that wait for a mutex, if all others are still held
   pub wakes : (z : ℤ) → ((k : ℕ) → IsInt k → int_of k ≢ z → is_some (holder k past) ≡ true → is_some (holder k now) ≡ true) → (u : ℕ) (at : Standing) → slice_get s.threads u ≡ Some at → StandsAs w now told u (woken (Mutex z) at)

@@ -1,5 +1,5 @@
 -- What a system is told of the ends of threads.
-use Rattle.std.proofs.Common.{◌≡◌, ◌≢◌, ◌⊎◌, inl, inr, ℕ, suc, ◌+◌, ◌<◌, ◌≤◌, ℤ, pos, Bool, true, false, cond, ◌&&◌, not, eqb, List, [], ◌∷◌, length, map, set, Option, Some, None, refl, sym, ap, ◌∙◌, subst, arith, eqb-true}
+use Rattle.std.proofs.Common.{◌≡◌, ◌≢◌, inl, inr, ℕ, suc, ◌+◌, ◌<◌, ◌≤◌, pos, Bool, true, false, cond, ◌&&◌, not, eqb, List, [], ◌∷◌, length, map, set, Option, Some, None, refl, sym, ap, ◌∙◌, subst, arith, eqb-true}
 use Rattle.std.specs.Prelude.{filter, is_some, slice_get, option_map}
 use Rattle.std.specs.List.{list_all, range_with_len}
 use Rattle.std.specs.Ordering.{int_eq}
@@ -14,9 +14,7 @@ use Rattle.system_side.specs.declared.threads.Standing.TheVariants.{Ready, Waits
 use Rattle.system_side.specs.Threads.{has_not_ended, is_running, same_wait, woken}
 use Rattle.system_side.specs.System.{SystemState}
 use Rattle.whole_runs.specs.World.{World}
-use Rattle.whole_runs.specs.Outcomes.{started}
 use Rattle.whole_runs.specs.Threads.{has_ended, result_of}
-use Rattle.whole_runs.specs.Picks.{all_ended}
 use Rattle.recorder_system.specs.Stands.{IsInt, IsSound, IsSystemBut, IsSystemOf, Stands, StandsAs, int_of, result_but, running_in}
 use Rattle.recorder_system.specs.Calls.{NotesEnd, TellsEnd}
 use Rattle.recorder_system.proofs.IntPatterns.{pattern_back, same_ints}
@@ -56,13 +54,16 @@ module _ (w : World) (past : List Mark) (t v : ℕ) (s : SystemState) (int : IsI
     where
       go : (b : Bool) → int_eq x (pos t) ≡ b → After u (cond b Ready (Waits (Thread x)))
       go true e = told u None ne stood.0
-      go false e = (told u None ne stood.0, record {
-        other = stood.1.other;
-        number = stood.1.number;
-        asks = stood.1.asks;
-        is_another = stood.1.is_another;
-        runs = told stood.1.other None (λ same. true≢false (sym (same_ints x (pos t) (stood.1.number ∙ ap pos same)) ∙ e)) stood.1.runs;
-      })
+      go false e = (
+        told u None ne stood.0,
+        record {
+          other = stood.1.other;
+          number = stood.1.number;
+          asks = stood.1.asks;
+          is_another = stood.1.is_another;
+          runs = told stood.1.other None (λ same. true≢false (sym (same_ints x (pos t) (stood.1.number ∙ ap pos same)) ∙ e)) stood.1.runs;
+        },
+      )
 
   abbrev or_at : Standing → Option Standing → Standing
   or_at at None = at

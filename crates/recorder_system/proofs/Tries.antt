@@ -1,6 +1,6 @@
 -- Which thread is to be tried.
-use Rattle.std.proofs.Common.{◌≡◌, ℕ, ◌<◌, ◌≤◌, Bool, true, false, List, length, Option, Some, None, IfSome, IsNone, ◌↔◌, refl, sym, ap, ◌∙◌, subst, arith}
-use Rattle.std.specs.Prelude.{find, slice_get}
+use Rattle.std.proofs.Common.{◌≡◌, ℕ, ◌<◌, ◌≤◌, Bool, true, false, List, length, Option, Some, None, IfSome, IsNone, ◌↔◌, refl, sym, ap, ◌∙◌, arith}
+use Rattle.std.specs.Prelude.{find}
 use Rattle.std.proofs.lemmas.Bool.{true≢false}
 use Rattle.std.proofs.lemmas.Option.{slice_get_within}
 use Rattle.marks.specs.Places.{thread_count}
@@ -9,10 +9,9 @@ use Rattle.system_side.specs.Schedule.{wish_at}
 use Rattle.system_side.specs.Threads.{has_not_ended, is_ready, order_of}
 use Rattle.system_side.specs.System.{SystemState}
 use Rattle.whole_runs.specs.World.{World}
-use Rattle.whole_runs.specs.Outcomes.{started}
 use Rattle.whole_runs.specs.Picks.{can_step, stepping}
 use Rattle.recorder_system.specs.Stands.{IsSystemOf}
-use Rattle.recorder_system.specs.Calls.{GivesTry, IsTry}
+use Rattle.recorder_system.specs.Calls.{GivesTry}
 use Rattle.recorder_system.proofs.Lists.{found_passes, found_too, none_found}
 use Rattle.recorder_system.proofs.Standing.{can_is_ready, ready_runs, ready_there}
 

@@ -1,12 +1,12 @@
 -- Arguments of builtins that take an int.
-use Rattle.std.proofs.Common.{◌≡◌, ℕ, zero, suc, true, List, [], ◌∷◌, Some, refl, sym, ap, ◌∙◌, subst}
+use Rattle.std.proofs.Common.{◌≡◌, ℕ, zero, suc, true, List, [], ◌∷◌, Some, refl, sym, subst}
 use Rattle.std.specs.Prelude.{slice_get}
 use Rattle.std.proofs.lemmas.Bool.{and_parts, true≢false}
 use Rattle.c_code.specs.declared.code.FuncInfo.{FuncInfo}
 use Rattle.c_code.specs.Builtins.{AreBuiltins, int, prototypes}
 use Rattle.c_code.specs.Frames.{are_values}
 use Rattle.c_code.specs.Values.{is_value}
-use Rattle.c_code.specs.Machine.{Laid, first, func_of}
+use Rattle.c_code.specs.Machine.{Laid, first}
 use Rattle.c_code.specs.MarkLists.{takes_values}
 use Rattle.c_code.specs.Valid.{IsValid}
 use Rattle.c_code.specs.Typed.{AreArguments}

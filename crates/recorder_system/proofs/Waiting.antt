@@ -1,7 +1,7 @@
 -- What a try of a thread whose call may have to wait does.
-use Rattle.std.proofs.Common.{◌≡◌, ◌≢◌, ◌⊎◌, inl, inr, ℕ, ◌<◌, ◌≤◌, ℤ, pos, negsuc, Bool, true, false, cond, ◌&&◌, ◌||◌, not, eqb, List, length, set, Option, Some, None, refl, sym, ap, ◌∙◌, subst, arith}
+use Rattle.std.proofs.Common.{◌≡◌, inl, inr, ℕ, ◌<◌, ◌≤◌, ℤ, Bool, true, false, cond, not, List, length, set, Option, Some, None, refl, sym, ap, ◌∙◌, subst, arith}
 use Rattle.std.specs.Prelude.{is_some, slice_get}
-use Rattle.std.proofs.lemmas.Bool.{true≢false, cases_eq}
+use Rattle.std.proofs.lemmas.Bool.{cases_eq}
 use Rattle.std.proofs.lemmas.Option.{slice_get_within}
 use Rattle.marks.specs.Marks.{Mark}
 use Rattle.c_builtins.specs.declared.builtin.Builtin.{Builtin}
@@ -16,10 +16,10 @@ use Rattle.system_side.specs.Threads.{has_not_ended, is_ready, is_running, joine
 use Rattle.system_side.specs.System.{SystemState}
 use Rattle.system_side.specs.System as system
 use Rattle.whole_runs.specs.World.{World}
-use Rattle.whole_runs.specs.Outcomes.{builtin_of, holder, started}
-use Rattle.whole_runs.specs.Threads.{comes, has_ended, result_of}
-use Rattle.whole_runs.specs.Picks.{can_step, is_free, is_other}
-use Rattle.recorder_system.specs.Stands.{Asks, Awaits, IsInt, IsSound, IsSystemOf, Stands, StandsAs, asked_by, call_of, int_of, ready_in, running_in}
+use Rattle.whole_runs.specs.Outcomes.{builtin_of, holder}
+use Rattle.whole_runs.specs.Threads.{comes, result_of}
+use Rattle.whole_runs.specs.Picks.{is_free}
+use Rattle.recorder_system.specs.Stands.{Awaits, IsSound, IsSystemOf, StandsAs, asked_by, call_of, int_of, ready_in}
 use Rattle.recorder_system.specs.Calls.{HasInt, KeepsRuns, TakesInt, TellsWait}
 use Rattle.recorder_system.specs.Shown.{wait_for}
 use Rattle.recorder_system.proofs.Lists.{count_less, count_same, get_set_other, get_set_same, length_set}

@@ -1,5 +1,5 @@
 -- What systems have to do with marks and with code.
-use Rattle.std.specs.Prelude.{◌≡◌, ℕ, true, List, ◌∷◌, Option, Some, None}
+use Rattle.std.specs.Prelude.{◌≡◌, ℕ, true, List, ◌∷◌, Some, None}
 use Rattle.marks.specs.Marks.{Mark}
 use Rattle.c_code.specs.Machine.{Laid}
 use Rattle.c_code.specs.Valid.{IsValid}

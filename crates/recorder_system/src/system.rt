@@ -122,11 +122,8 @@ impl RunSystem {
                     None
                 }
             }
-            Builtin::Malloc
-            | Builtin::Free
-            | Builtin::Spawn
-            | Builtin::Unlock
-            | Builtin::Print => None,
+            Builtin::Malloc | Builtin::Free | Builtin::Spawn | Builtin::Unlock | Builtin::Print =>
+                None,
         }
     }
 
@@ -210,12 +207,7 @@ impl RunSystem {
     }
 
     // The same of a builtin. Those that aren't named change nothing here.
-    fn note_builtin(
-        &mut self,
-        thread: u8,
-        builtin: Builtin,
-        args: &[u64],
-    ) -> Result<(), AllocError>
+    fn note_builtin(&mut self, thread: u8, builtin: Builtin, args: &[u64]) -> Result<(), AllocError>
         requires running { has_not_ended self.old.threads thread ≡ true }
         requires ints { HasInt (number_of builtin) args.now }
         ensures noted { OnOk result (Notes thread (number_of builtin) args.now self.old self.new) }

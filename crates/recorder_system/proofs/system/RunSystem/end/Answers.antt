@@ -1,4 +1,4 @@
-use Rattle.std.proofs.Common.{◌≡◌, ◌-◌, ◌≤◌, suc, ℤ, true, pos, map, set, FitsSigned, w32, sym, ap, ◌∙◌, subst, arith, rules}
+use Rattle.std.proofs.Common.{◌≡◌, ◌-◌, ◌≤◌, suc, true, pos, map, set, FitsSigned, w32, sym, ap, ◌∙◌, subst, arith, rules}
 use Rattle.std.proofs.lemmas.Int.{to_z-of_z}
 use Rattle.system_side.specs.declared.threads.Standing.TheVariants.{Ended}
 use Rattle.system_side.specs.declared.threads.Wait.TheVariants.{Thread}

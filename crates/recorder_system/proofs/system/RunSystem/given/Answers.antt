@@ -1,6 +1,5 @@
-use Rattle.std.proofs.Common.{◌≡◌, ◌≤◌, length, Some, None, sym, ap, ◌∙◌, subst}
+use Rattle.std.proofs.Common.{◌≤◌, length, sym, ap, ◌∙◌, subst}
 use Rattle.system_side.specs.System.{SystemState}
-use Rattle.whole_runs.specs.Outcomes.{builtin_of}
 use Rattle.whole_runs.specs.Below.{given}
 use Rattle.recorder_system.specs.Stands.{IsSystemOf}
 use Rattle.recorder_system.specs.Calls.{IsGiven}

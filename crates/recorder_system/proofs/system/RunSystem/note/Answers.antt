@@ -1,5 +1,4 @@
-use Rattle.std.proofs.Common.{◌≡◌, drop, set, OnOk, sym, ◌∙◌, subst}
-use Rattle.c_builtins.specs.Table.{number_of}
+use Rattle.std.proofs.Common.{drop, set, OnOk, sym, ◌∙◌, subst}
 use Rattle.system_side.specs.Answers.{left_of}
 use Rattle.system_side.specs.System.{SystemState}
 use Rattle.recorder_system.specs.Calls.{Notes}

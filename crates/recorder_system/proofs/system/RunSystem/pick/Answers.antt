@@ -1,5 +1,4 @@
-use Rattle.std.proofs.Common.{◌≡◌, ◌<◌, true, IfSome, sym, ap, ◌∙◌, subst}
-use Rattle.marks.specs.Places.{thread_count}
+use Rattle.std.proofs.Common.{◌≡◌, true, IfSome, subst}
 use Rattle.system_side.specs.Threads.{has_not_ended, is_ready}
 use Rattle.system_side.specs.System.{SystemState}
 use Rattle.recorder_system.specs.Calls.{GivesTry}

@@ -1,11 +1,10 @@
-use Rattle.std.proofs.Common.{◌≡◌, ◌<◌, ◌≤◌, ◌+◌, ◌++◌, [], ◌∷◌, true, length, sym, ap, ◌∙◌, subst, arith}
+use Rattle.std.proofs.Common.{◌≡◌, ◌<◌, ◌≤◌, ◌++◌, [], ◌∷◌, true, length, sym, subst, arith}
 use Rattle.system_side.specs.declared.threads.Standing.TheVariants.{Ready}
 use Rattle.system_side.specs.Threads.{has_not_ended}
 use Rattle.system_side.specs.System.{SystemState}
-use Rattle.recorder_system.specs.Stands.{IsSound}
 use Rattle.recorder_system.specs.Calls.{Notes}
 use Rattle.recorder_system.proofs.Noted.{spawn_number}
-use Rattle.recorder_system.proofs.Changes.{few_run, notes_no_spawn, notes_spawn, spawn_runs, spawn_sound}
+use Rattle.recorder_system.proofs.Changes.{few_run, notes_no_spawn, notes_spawn, spawn_runs}
 use Rattle.recorder_system.proofs.system.RunSystem.spawn.Goals as goal
 
 pub overflow_add-self : goal.overflow_add-self

@@ -1,4 +1,4 @@
-use Rattle.std.proofs.Common.{◌≡◌, ℕ, true, [], ◌∷◌, get_or, to_z, of_z, FitsSigned, w32, sym, ap, ◌∙◌, subst, rules}
+use Rattle.std.proofs.Common.{◌≡◌, true, [], ◌∷◌, get_or, to_z, of_z, FitsSigned, w32, sym, ◌∙◌, subst, rules}
 use Rattle.std.proofs.lemmas.Int.{to_z-of_z}
 use Rattle.c_code.specs.Machine.{first}
 use Rattle.system_side.specs.Threads.{has_not_ended}

@@ -1,11 +1,10 @@
-use Rattle.std.proofs.Common.{◌≡◌, ◌<◌, true, false, not, set, Option, Some, None, is_some, FitsSigned, w32, sym, ap, ◌∙◌, subst, rules}
+use Rattle.std.proofs.Common.{◌≡◌, ◌<◌, true, set, is_some, FitsSigned, w32, sym, ap, ◌∙◌, subst, rules}
 use Rattle.std.proofs.lemmas.Int.{to_z-of_z}
 use Rattle.c_code.specs.Machine.{first}
 use Rattle.system_side.specs.declared.threads.Standing.TheVariants.{Waits}
 use Rattle.system_side.specs.Threads.{is_ready}
 use Rattle.system_side.specs.System.{SystemState}
 use Rattle.whole_runs.specs.Outcomes.{builtin_of}
-use Rattle.whole_runs.specs.Picks.{can_step}
 use Rattle.recorder_system.specs.Stands.{IsSound, IsSystemOf, int_of, ready_in}
 use Rattle.recorder_system.specs.Shown.{wait_for}
 use Rattle.recorder_system.proofs.Standing.{ready_runs}
