@@ -1,0 +1,16 @@
+mod Lists
+mod IntPatterns
+mod Numbers
+mod Runs
+mod Standing
+mod Tries
+mod Joins
+mod Waiting
+mod Mutexes
+mod Scripts
+mod Stays
+mod Noted
+mod Told
+mod Changes
+mod Values
+mod Gives

@@ -1,0 +1,28 @@
+//! What systems have to do with marks and with code, as contracts of functions that do nothing.
+
+ghost use Rattle.recorder_system.specs.Laws.{ArgumentsAreInts, CallsAreFree, PickedThreadsCanStep, PlainMarksKeepTheSystem, ThreadsGoOn};
+
+/// A mark in which no call comes to its result leaves the system standing, but that it may end its thread.
+pub fn plain_marks_keep_the_system()
+    ensures { PlainMarksKeepTheSystem }
+{}
+
+/// Where the thread that made the last mark has not ended, the system is to be told nothing more.
+pub fn threads_go_on()
+    ensures { ThreadsGoOn }
+{}
+
+/// A thread that is picked can step.
+pub fn picked_threads_can_step()
+    ensures { PickedThreadsCanStep }
+{}
+
+/// A thread that can step needn't wait for what it calls.
+pub fn calls_are_free()
+    ensures { CallsAreFree }
+{}
+
+/// What code hands to a builtin that takes an int is one, where it hands over values of their types.
+pub fn arguments_are_ints()
+    ensures { ArgumentsAreInts }
+{}
