@@ -8,6 +8,7 @@ ghost use Rattle.c_syntax.specs.Syntax.{Decls};
 ghost use Rattle.c_parser.specs.Parsed.{IsCounted};
 ghost use Rattle.c_syntax_laws.specs.Numbers.{FitsDecls};
 ghost use Rattle.c_types.specs.Answers.{IsSource as IsFit};
+ghost use Rattle.c_types.specs.Texts.{texts_among};
 ghost use Rattle.front_end.specs.Answers.{IsChecked, IsRead, IsSourceError, IsTyped};
 ghost use Rattle.front_end.specs.Sources.{IsSource};
 
@@ -15,7 +16,7 @@ use crate::code::code_of;
 use crate::error::SourceError;
 use annot_reader::{Iface, interface_of};
 use c_code_fused::FusedCode;
-use c_lexer::{Token, lex};
+use c_lexer::{Kind, Token, lex};
 use c_parser::{Parsed, parse_counted};
 use c_syntax::Tree;
 use c_syntax_laws::numbers_fit;
@@ -54,6 +55,16 @@ fn tree_of(alloc: Global, tokens: &[Token]) -> Result<Parsed, SourceError>
         Ok(parsed) => Ok(parsed),
         Err(error) => Err(SourceError::from(error)),
     }
+}
+
+// The strings among the tokens, in place of all tokens, whose memory is given back.
+fn strings_of(tokens: Vec<Token>) -> Vec<Token>
+    ensures { texts_among result.items ≡ texts_among tokens.items }
+{
+    let mut tokens = tokens;
+    tokens.retain(|token| matches!(token.kind, Kind::Text(_)));
+    tokens.shrink_to_fit();
+    tokens
 }
 
 // What the source is by its types.
@@ -113,9 +124,10 @@ pub fn check_source(alloc: Global, bytes: &[u8], cut: &[u8]) -> Result<CheckedSo
 {
     let tokens = tokens_of(alloc, bytes)?;
     let parsed = tree_of(alloc, &tokens)?;
+    let strings = strings_of(tokens);
     numbers_fit();
-    let source = typed(alloc, &tokens, &parsed.tree)?;
-    drop(tokens);
+    let source = typed(alloc, &strings, &parsed.tree)?;
+    drop(strings);
     let (program, interface) = with_interface(alloc, source, &parsed.tree, cut)?;
     let code = code_of(alloc, &parsed, &program)?;
     Ok(CheckedSource {

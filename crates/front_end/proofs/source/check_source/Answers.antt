@@ -6,6 +6,7 @@ use Rattle.c_parser.specs.Parsed.{IsCounted}
 use Rattle.front_end.specs.Answers.{IsChecked, IsTyped}
 use Rattle.front_end.proofs.Accepting.{accepted, source_of}
 use Rattle.front_end.proofs.Few.{few_texts}
+use Rattle.front_end.proofs.Strings.{typed_by}
 use Rattle.front_end.proofs.Refusals.{by_size, read}
 use Rattle.front_end.proofs.source.check_source.Goals as goal
 
@@ -38,7 +39,7 @@ returns-in_err-program c =
     let p = subst (λ (v : List Token). IsCounted v q) c.deref.ensures.value c.in_ok-parsed.ensures.tree in
     let source = source_of bytes ts q lexed p in
     let t =
-    subst (λ (v : List Token). IsTyped N v p.0 c.in_ok-source.source) c.deref-2.ensures.value (c.in_ok-source.ensures.typed p.0 p.3.0 (c.numbers_fit.ensures bytes ts p.0 lexed p.1))
+    typed_by c.strings_of-strings.ensures (subst (λ (v : List Token). IsTyped N v p.0 c.in_ok-source.source) c.deref-2.ensures.value (c.in_ok-source.ensures.typed p.0 p.3.0 (c.numbers_fit.ensures bytes ts p.0 lexed p.1)))
     in
     let e = err_from_is_err_and c.from_residual-in_err-program.result c.from_residual-in_err-program.ensures.1 in
     subst (IsChecked bytes c.args.cut.now) (sym (e.1 ∙ ap Err e.2)) (c.in_err-program.ensures bytes p.0 source t)
@@ -53,7 +54,7 @@ code_of-requires c =
     let p = subst (λ (v : List Token). IsCounted v q) c.deref.ensures.value c.in_ok-parsed.ensures.tree in
     let source = source_of bytes ts q lexed p in
     let t =
-    subst (λ (v : List Token). IsTyped N v p.0 c.in_ok-source.source) c.deref-2.ensures.value (c.in_ok-source.ensures.typed p.0 p.3.0 (c.numbers_fit.ensures bytes ts p.0 lexed p.1))
+    typed_by c.strings_of-strings.ensures (subst (λ (v : List Token). IsTyped N v p.0 c.in_ok-source.source) c.deref-2.ensures.value (c.in_ok-source.ensures.typed p.0 p.3.0 (c.numbers_fit.ensures bytes ts p.0 lexed p.1)))
     in
     let reads = c.in_ok-program.ensures bytes p.0 source t in
     let texts : length c.in_ok-program.program.texts ≤ length ts = omega (arith, ap length (reads.1 ∙ t.texts), few_texts ts) in
@@ -72,7 +73,7 @@ returns-in_err-code c =
     let p = subst (λ (v : List Token). IsCounted v q) c.deref.ensures.value c.in_ok-parsed.ensures.tree in
     let source = source_of bytes ts q lexed p in
     let t =
-    subst (λ (v : List Token). IsTyped N v p.0 c.in_ok-source.source) c.deref-2.ensures.value (c.in_ok-source.ensures.typed p.0 p.3.0 (c.numbers_fit.ensures bytes ts p.0 lexed p.1))
+    typed_by c.strings_of-strings.ensures (subst (λ (v : List Token). IsTyped N v p.0 c.in_ok-source.source) c.deref-2.ensures.value (c.in_ok-source.ensures.typed p.0 p.3.0 (c.numbers_fit.ensures bytes ts p.0 lexed p.1)))
     in
     let reads = c.in_ok-program.ensures bytes p.0 source t in
     let e = err_from_is_err_and c.from_residual-in_err-code.result c.from_residual-in_err-code.ensures.1 in
@@ -90,7 +91,7 @@ returns c =
     let p = subst (λ (v : List Token). IsCounted v q) c.deref.ensures.value c.in_ok-parsed.ensures.tree in
     let source = source_of bytes ts q lexed p in
     let t =
-    subst (λ (v : List Token). IsTyped N v p.0 c.in_ok-source.source) c.deref-2.ensures.value (c.in_ok-source.ensures.typed p.0 p.3.0 (c.numbers_fit.ensures bytes ts p.0 lexed p.1))
+    typed_by c.strings_of-strings.ensures (subst (λ (v : List Token). IsTyped N v p.0 c.in_ok-source.source) c.deref-2.ensures.value (c.in_ok-source.ensures.typed p.0 p.3.0 (c.numbers_fit.ensures bytes ts p.0 lexed p.1)))
     in
     let reads = c.in_ok-program.ensures bytes p.0 source t in
     accepted bytes c.args.cut.now N p.0 c.in_ok-source.source (record { program = c.in_ok-program.program; interface = c.in_ok-program.interface; code = c.in_ok-code.code }) source t
