@@ -17,7 +17,7 @@ use crate::error::SourceError;
 use annot_reader::{Iface, interface_of};
 use c_code_fused::FusedCode;
 use c_lexer::{Kind, Token, lex};
-use c_parser::{Parsed, parse_counted};
+use c_parser::{Parsed, build_counted, postfix};
 use c_syntax::Tree;
 use c_syntax_laws::numbers_fit;
 use c_types::{TypedSource, check_source as check_types, sources_stay_typed};
@@ -45,18 +45,6 @@ fn tokens_of(alloc: Global, bytes: &[u8]) -> Result<Vec<Token>, SourceError>
     }
 }
 
-// The tree of the source that has these tokens, with its number of nodes.
-fn tree_of(alloc: Global, tokens: &[Token]) -> Result<Parsed, SourceError>
-    ensures tree { IfOk result (λ p. IsCounted tokens.now p) }
-    ensures refused { (bytes cut : List ℕ) → IsTokens bytes tokens.now →
-        IfErr result (IsSourceError bytes cut) }
-{
-    match parse_counted(alloc, tokens) {
-        Ok(parsed) => Ok(parsed),
-        Err(error) => Err(SourceError::from(error)),
-    }
-}
-
 // The strings among the tokens, in place of all tokens, whose memory is given back.
 fn strings_of(tokens: Vec<Token>) -> Vec<Token>
     ensures { texts_among result.items ≡ texts_among tokens.items }
@@ -65,6 +53,25 @@ fn strings_of(tokens: Vec<Token>) -> Vec<Token>
     tokens.retain(|token| matches!(token.kind, Kind::Text(_)));
     tokens.shrink_to_fit();
     tokens
+}
+
+// The tree of the source that has these tokens, with its number of nodes, and the strings among the tokens. The others are given back
+// before there is a tree.
+fn tree_of(alloc: Global, tokens: Vec<Token>) -> Result<(Parsed, Vec<Token>), SourceError>
+    ensures tree { IfOk result (λ found. IsCounted tokens.items found.0) }
+    ensures strings { IfOk result (λ found. texts_among found.1.items ≡ texts_among tokens.items) }
+    ensures refused { (bytes cut : List ℕ) → IsTokens bytes tokens.items →
+        IfErr result (IsSourceError bytes cut) }
+{
+    let actions = match postfix(alloc, &tokens) {
+        Ok(actions) => actions,
+        Err(error) => return Err(SourceError::from(error)),
+    };
+    let strings = strings_of(tokens);
+    match build_counted(alloc, actions) {
+        Ok(parsed) => Ok((parsed, strings)),
+        Err(error) => Err(SourceError::from(error)),
+    }
 }
 
 // What the source is by its types.
@@ -123,8 +130,7 @@ pub fn check_source(alloc: Global, bytes: &[u8], cut: &[u8]) -> Result<CheckedSo
     ensures { IsChecked bytes.now cut.now result }
 {
     let tokens = tokens_of(alloc, bytes)?;
-    let parsed = tree_of(alloc, &tokens)?;
-    let strings = strings_of(tokens);
+    let (parsed, strings) = tree_of(alloc, tokens)?;
     numbers_fit();
     let source = typed(alloc, &strings, &parsed.tree)?;
     drop(strings);
