@@ -1,99 +1,12 @@
 // How keywords and signs are spelled, and what is spelled so.
 
-ghost use Rattle.std.specs.Prelude.{◌≡◌, nat_eq};
+ghost use Rattle.std.specs.Prelude.{◌≡◌, ℕ, List, ◌∷◌, nat_eq};
 ghost use Rattle.std.specs.List.{find};
 ghost use Rattle.std.specs.Cmp.Lexicographic.{pointwise};
 ghost use Rattle.c_lexer.specs.Words.{word_text, keyword};
 ghost use Rattle.c_lexer.specs.Signs.{sign_text, begins_with, sign_at};
 
 use crate::token::{Sign, Word};
-
-// Every keyword.
-const WORDS: [Word; 34] = [
-    Word::Void,
-    Word::Char,
-    Word::Short,
-    Word::Int,
-    Word::Long,
-    Word::Signed,
-    Word::Unsigned,
-    Word::Struct,
-    Word::Const,
-    Word::Extern,
-    Word::Static,
-    Word::If,
-    Word::Else,
-    Word::While,
-    Word::For,
-    Word::Do,
-    Word::Break,
-    Word::Continue,
-    Word::Return,
-    Word::Sizeof,
-    Word::Typedef,
-    Word::Enum,
-    Word::Union,
-    Word::Switch,
-    Word::Case,
-    Word::Default,
-    Word::Goto,
-    Word::Float,
-    Word::Double,
-    Word::Volatile,
-    Word::Register,
-    Word::Inline,
-    Word::Restrict,
-    Word::Auto,
-];
-
-// Every sign, those of more bytes first.
-const SIGNS: [Sign; 45] = [
-    Sign::ShiftLeftAssign,
-    Sign::ShiftRightAssign,
-    Sign::Arrow,
-    Sign::Increment,
-    Sign::Decrement,
-    Sign::ShiftLeft,
-    Sign::ShiftRight,
-    Sign::LessEqual,
-    Sign::GreaterEqual,
-    Sign::Equal,
-    Sign::NotEqual,
-    Sign::AndAnd,
-    Sign::OrOr,
-    Sign::StarAssign,
-    Sign::SlashAssign,
-    Sign::PercentAssign,
-    Sign::PlusAssign,
-    Sign::MinusAssign,
-    Sign::AmpersandAssign,
-    Sign::CaretAssign,
-    Sign::BarAssign,
-    Sign::OpenBracket,
-    Sign::CloseBracket,
-    Sign::OpenParenthesis,
-    Sign::CloseParenthesis,
-    Sign::OpenBrace,
-    Sign::CloseBrace,
-    Sign::Dot,
-    Sign::Ampersand,
-    Sign::Star,
-    Sign::Plus,
-    Sign::Minus,
-    Sign::Tilde,
-    Sign::Exclamation,
-    Sign::Slash,
-    Sign::Percent,
-    Sign::Less,
-    Sign::Greater,
-    Sign::Caret,
-    Sign::Bar,
-    Sign::Question,
-    Sign::Colon,
-    Sign::Semicolon,
-    Sign::Assign,
-    Sign::Comma,
-];
 
 impl Word {
     /// How it is spelled.
@@ -206,12 +119,48 @@ fn first_word(words: &[Word], name: &[u8]) -> Option<Word>
     None
 }
 
+// The keywords that begin with this byte.
+#[tactic(auto, unfolding(crate::specs::Words::keyword))]
+fn words_with(first: u8) -> &'static [Word]
+    ensures { (rest : List ℕ) →
+        find (λ k. pointwise nat_eq (first ∷ rest) (word_text k)) result.now ≡ keyword (first ∷ rest) }
+{
+    match first {
+        b'a' => &[Word::Auto],
+        b'b' => &[Word::Break],
+        b'c' => &[Word::Char, Word::Const, Word::Continue, Word::Case],
+        b'd' => &[Word::Do, Word::Default, Word::Double],
+        b'e' => &[Word::Extern, Word::Else, Word::Enum],
+        b'f' => &[Word::For, Word::Float],
+        b'g' => &[Word::Goto],
+        b'i' => &[Word::Int, Word::If, Word::Inline],
+        b'l' => &[Word::Long],
+        b'r' => &[Word::Return, Word::Register, Word::Restrict],
+        b's' => &[
+            Word::Short,
+            Word::Signed,
+            Word::Struct,
+            Word::Static,
+            Word::Sizeof,
+            Word::Switch,
+        ],
+        b't' => &[Word::Typedef],
+        b'u' => &[Word::Unsigned, Word::Union],
+        b'v' => &[Word::Void, Word::Volatile],
+        b'w' => &[Word::While],
+        _ => &[],
+    }
+}
+
 /// The keyword that is spelled so.
 #[tactic(auto, unfolding(crate::specs::Words::keyword))]
 pub fn keyword_of(name: &[u8]) -> Option<Word>
     ensures { result ≡ keyword name.now }
 {
-    first_word(&WORDS, name)
+    match name.split_first() {
+        Some((first, _)) => first_word(words_with(*first), name),
+        None => None,
+    }
 }
 
 #[tactic(auto, using(crate::proofs::Search::find_on, crate::proofs::Search::find_stop, crate::proofs::Search::find_end))]
@@ -226,10 +175,58 @@ fn first_sign(signs: &[Sign], bytes: &[u8]) -> Option<Sign>
     None
 }
 
+// The signs that begin with this byte, those of more bytes first.
+#[tactic(auto, unfolding(crate::specs::Signs::sign_at))]
+fn signs_with(first: u8) -> &'static [Sign]
+    ensures { (rest : List ℕ) →
+        find (λ s. begins_with (first ∷ rest) s) result.now ≡ sign_at (first ∷ rest) }
+{
+    match first {
+        b'!' => &[Sign::NotEqual, Sign::Exclamation],
+        b'%' => &[Sign::PercentAssign, Sign::Percent],
+        b'&' => &[Sign::AndAnd, Sign::AmpersandAssign, Sign::Ampersand],
+        b'(' => &[Sign::OpenParenthesis],
+        b')' => &[Sign::CloseParenthesis],
+        b'*' => &[Sign::StarAssign, Sign::Star],
+        b'+' => &[Sign::Increment, Sign::PlusAssign, Sign::Plus],
+        b',' => &[Sign::Comma],
+        b'-' => &[Sign::Arrow, Sign::Decrement, Sign::MinusAssign, Sign::Minus],
+        b'.' => &[Sign::Dot],
+        b'/' => &[Sign::SlashAssign, Sign::Slash],
+        b':' => &[Sign::Colon],
+        b';' => &[Sign::Semicolon],
+        b'<' => &[
+            Sign::ShiftLeftAssign,
+            Sign::ShiftLeft,
+            Sign::LessEqual,
+            Sign::Less,
+        ],
+        b'=' => &[Sign::Equal, Sign::Assign],
+        b'>' => &[
+            Sign::ShiftRightAssign,
+            Sign::ShiftRight,
+            Sign::GreaterEqual,
+            Sign::Greater,
+        ],
+        b'?' => &[Sign::Question],
+        b'[' => &[Sign::OpenBracket],
+        b']' => &[Sign::CloseBracket],
+        b'^' => &[Sign::CaretAssign, Sign::Caret],
+        b'{' => &[Sign::OpenBrace],
+        b'|' => &[Sign::OrOr, Sign::BarAssign, Sign::Bar],
+        b'}' => &[Sign::CloseBrace],
+        b'~' => &[Sign::Tilde],
+        _ => &[],
+    }
+}
+
 /// The longest sign that the bytes begin with.
 #[tactic(auto, unfolding(crate::specs::Signs::sign_at))]
 pub fn sign_of(bytes: &[u8]) -> Option<Sign>
     ensures { result ≡ sign_at bytes.now }
 {
-    first_sign(&SIGNS, bytes)
+    match bytes.split_first() {
+        Some((first, _)) => first_sign(signs_with(*first), bytes),
+        None => None,
+    }
 }

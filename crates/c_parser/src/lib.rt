@@ -3,4 +3,4 @@
 
 mod parsing;
 
-pub use parsing::{ParseError, Parsed, parse, parse_counted};
+pub use parsing::{ParseError, Parsed, build_counted, parse, parse_counted, postfix};

@@ -1,6 +1,7 @@
 // Whole sources.
 
-ghost use Rattle.std.specs.Prelude.{◌≡◌, IfOk, IfErr};
+ghost use Rattle.std.specs.Prelude.{◌≡◌, List, IfOk, IfErr};
+ghost use Rattle.c_lexer.specs.declared.token.Token.{Token as Lexed};
 ghost use Rattle.c_parser.specs.Parsed.{IsCounted, IsParsed, IsParseError};
 ghost use Rattle.c_parser_actions.specs.Builds.{Found};
 
@@ -45,9 +46,11 @@ impl From<AllocError> for ParseError {
     }
 }
 
-/// The actions that build the source which has these tokens.
-fn postfix(alloc: Global, tokens: &[Token]) -> Result<Vec<Action>, ParseError>
+/// The actions that build the source which has these tokens, for `build_counted`.
+pub fn postfix(alloc: Global, tokens: &[Token]) -> Result<Vec<Action>, ParseError>
+    // They build the source which has these tokens.
     ensures found { IfOk result (λ v. Found tokens.now v.items) }
+    // Tokens are refused that no source has.
     ensures refused { IfErr result (λ e. IsParseError tokens.now e) }
 {
     match actions(alloc, tokens) {
@@ -57,18 +60,17 @@ fn postfix(alloc: Global, tokens: &[Token]) -> Result<Vec<Action>, ParseError>
     }
 }
 
-/// The tree of the source that has these tokens, and how many nodes it has. Tokens are those of one source at most
-/// (`c_parser_actions::one_tree`).
+/// The tree that these actions build, and how many nodes it has.
 ///
 /// Depth is tested before a tree is built, so that a tree's values in braces are dropped without deep recursion.
-pub fn parse_counted(alloc: Global, tokens: &[Token]) -> Result<Parsed, ParseError>
-    // The tree is that of the source which has these tokens, and no more than 200 nodes hold any of its nodes, which
-    // are so many.
-    ensures counted { IfOk result (λ p. IsCounted tokens.now p) }
-    // Tokens are refused that no source has, or a source with a node that more than 200 others hold.
-    ensures refused { IfErr result (λ e. IsParseError tokens.now e) }
+pub fn build_counted(alloc: Global, actions: Vec<Action>) -> Result<Parsed, ParseError>
+    // They build the source which some tokens have.
+    requires { (ts : List Lexed) × Found ts actions.items }
+    // The tree is that of this source, and no more than 200 nodes hold any of its nodes, which are so many.
+    ensures counted { (ts : List Lexed) → Found ts actions.items → IfOk result (λ p. IsCounted ts p) }
+    // It is refused where more than 200 nodes hold one of its nodes.
+    ensures refused { (ts : List Lexed) → Found ts actions.items → IfErr result (λ e. IsParseError ts e) }
 {
-    let actions = postfix(alloc, tokens)?;
     if let Some(place) = too_deep(alloc, actions.as_slice())? {
         return Err(ParseError::Deep(place));
     }
@@ -78,6 +80,19 @@ pub fn parse_counted(alloc: Global, tokens: &[Token]) -> Result<Parsed, ParseErr
         Err(BuildError::Unfit) => unreachable!(),
         Err(BuildError::Memory) => Err(ParseError::Memory),
     }
+}
+
+/// The tree of the source that has these tokens, and how many nodes it has. Tokens are those of one source at most
+/// (`c_parser_actions::one_tree`).
+pub fn parse_counted(alloc: Global, tokens: &[Token]) -> Result<Parsed, ParseError>
+    // The tree is that of the source which has these tokens, and no more than 200 nodes hold any of its nodes, which
+    // are so many.
+    ensures counted { IfOk result (λ p. IsCounted tokens.now p) }
+    // Tokens are refused that no source has, or a source with a node that more than 200 others hold.
+    ensures refused { IfErr result (λ e. IsParseError tokens.now e) }
+{
+    let actions = postfix(alloc, tokens)?;
+    build_counted(alloc, actions)
 }
 
 /// The tree of the source that has these tokens.

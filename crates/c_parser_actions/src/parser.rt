@@ -25,6 +25,7 @@ pub struct Parser {
 
 impl Parser {
     /// Opens a construct.
+    #[inline(always)]
     pub fn open(&mut self, frame: Frame) -> Result<(), AllocError>
         ensures opens { OnOk result (opens_seen self.new ≡ frame ∷ opens_seen self.old) }
         ensures acts { OnOk result (acts_seen self.new ≡ acts_seen self.old) }
@@ -85,6 +86,7 @@ impl Parser {
         self.emit_two(third, fourth)
     }
 
+    #[inline(always)]
     fn emit_all(&mut self, acts: Acts) -> Result<(), AllocError>
         ensures acts { OnOk result (acts_seen self.new ≡ acts_of acts ++ acts_seen self.old) }
         ensures opens { OnOk result (opens_seen self.new ≡ opens_seen self.old) }
@@ -101,6 +103,7 @@ impl Parser {
     }
 
     /// Opens a construct, in which an expression of this level is to be read.
+    #[inline(always)]
     fn begin<'a>(&mut self, frame: Frame, level: u8, rest: &'a [Token]) -> Went<'a>
         ensures { Goes result self.old self.new (λ K. begin level [] rest.now (frame ∷ K)) }
     {
@@ -110,6 +113,7 @@ impl Parser {
     }
 
     /// Does what is to be done, where there was memory to tell it.
+    #[inline(always)]
     pub fn go<'a>(&mut self, plan: Result<Plan<'a>, AllocError>) -> Went<'a>
         ensures { (m : List Construct → Move) → IfOk plan.entry (λ p. Plans p m) →
             Goes result self.old self.new m }
@@ -120,6 +124,7 @@ impl Parser {
         }
     }
 
+    #[inline(always)]
     fn carry_out<'a>(&mut self, plan: Plan<'a>) -> Went<'a>
         ensures { Goes result self.old self.new (planned plan.entry) }
     {

@@ -129,6 +129,7 @@ impl Parser {
     }
 
     /// One step, by what the table has of the tokens ahead.
+    #[inline(always)]
     #[tactic(auto, unfolding(crate::specs::MachineSteps::step))]
     pub fn step<'a>(
         &mut self,

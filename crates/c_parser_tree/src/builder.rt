@@ -118,6 +118,7 @@ impl Builder {
     }
 
     /// A new expression.
+    #[inline(always)]
     #[tactic(auto, unfolding(crate::specs::Seen::nodes_seen, crate::specs::Seen::stack_seen))]
     fn new_expr(&mut self, expr: Expr) -> Result<ExprId, BuildError>
         ensures number { IfOk result (λ i. i ≡ record { 0 = length (nodes_seen self.old).exprs }) }
@@ -156,6 +157,7 @@ impl Builder {
     }
 
     /// Puts a new expression on top.
+    #[inline(always)]
     pub fn put_expr(&mut self, from: u32, kind: ExprKind) -> Result<(), BuildError>
         ensures { Makes result self.old self.new (λ N. put_expr N from kind) }
     {

@@ -54,6 +54,7 @@ impl Builder {
     }
 
     /// Makes a declarator, or what the next kinds of action make.
+    #[inline(never)]
     #[tactic(auto, unfolding(crate::specs::Made::made_declr))]
     pub fn make_declarator(&mut self, action: Action) -> Result<(), BuildError>
         ensures { Makes result self.old self.new (made_declr action) }

@@ -9,6 +9,7 @@ use crate::piece::{Declarator, Shared, Tag};
 use c_syntax::{Annot, Atom, DeclId, Entry, ExprId, First, Item, Seq, StmtId, Value};
 
 impl Builder {
+    #[inline(always)]
     pub fn put_expr_id(&mut self, expr: ExprId) -> Result<(), BuildError>
         ensures { Makes result self.old self.new (λ N R. puts N (push_expr expr R)) }
     {

@@ -3,3 +3,4 @@ mod Refusals
 mod Accepting
 pub mod OneAnswer
 mod Few
+mod Strings

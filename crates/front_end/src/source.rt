@@ -8,6 +8,7 @@ ghost use Rattle.c_syntax.specs.Syntax.{Decls};
 ghost use Rattle.c_parser.specs.Parsed.{IsCounted};
 ghost use Rattle.c_syntax_laws.specs.Numbers.{FitsDecls};
 ghost use Rattle.c_types.specs.Answers.{IsSource as IsFit};
+ghost use Rattle.c_types.specs.Texts.{texts_among};
 ghost use Rattle.front_end.specs.Answers.{IsChecked, IsRead, IsSourceError, IsTyped};
 ghost use Rattle.front_end.specs.Sources.{IsSource};
 
@@ -15,8 +16,8 @@ use crate::code::code_of;
 use crate::error::SourceError;
 use annot_reader::{Iface, interface_of};
 use c_code_fused::FusedCode;
-use c_lexer::{Token, lex};
-use c_parser::{Parsed, parse_counted};
+use c_lexer::{Kind, Token, lex};
+use c_parser::{Parsed, build_counted, postfix};
 use c_syntax::Tree;
 use c_syntax_laws::numbers_fit;
 use c_types::{TypedSource, check_source as check_types, sources_stay_typed};
@@ -44,14 +45,31 @@ fn tokens_of(alloc: Global, bytes: &[u8]) -> Result<Vec<Token>, SourceError>
     }
 }
 
-// The tree of the source that has these tokens, with its number of nodes.
-fn tree_of(alloc: Global, tokens: &[Token]) -> Result<Parsed, SourceError>
-    ensures tree { IfOk result (λ p. IsCounted tokens.now p) }
-    ensures refused { (bytes cut : List ℕ) → IsTokens bytes tokens.now →
+// The strings among the tokens, in place of all tokens, whose memory is given back.
+fn strings_of(tokens: Vec<Token>) -> Vec<Token>
+    ensures { texts_among result.items ≡ texts_among tokens.items }
+{
+    let mut tokens = tokens;
+    tokens.retain(|token| matches!(token.kind, Kind::Text(_)));
+    tokens.shrink_to_fit();
+    tokens
+}
+
+// The tree of the source that has these tokens, with its number of nodes, and the strings among the tokens. The others are given back
+// before there is a tree.
+fn tree_of(alloc: Global, tokens: Vec<Token>) -> Result<(Parsed, Vec<Token>), SourceError>
+    ensures tree { IfOk result (λ found. IsCounted tokens.items found.0) }
+    ensures strings { IfOk result (λ found. texts_among found.1.items ≡ texts_among tokens.items) }
+    ensures refused { (bytes cut : List ℕ) → IsTokens bytes tokens.items →
         IfErr result (IsSourceError bytes cut) }
 {
-    match parse_counted(alloc, tokens) {
-        Ok(parsed) => Ok(parsed),
+    let actions = match postfix(alloc, &tokens) {
+        Ok(actions) => actions,
+        Err(error) => return Err(SourceError::from(error)),
+    };
+    let strings = strings_of(tokens);
+    match build_counted(alloc, actions) {
+        Ok(parsed) => Ok((parsed, strings)),
         Err(error) => Err(SourceError::from(error)),
     }
 }
@@ -112,10 +130,10 @@ pub fn check_source(alloc: Global, bytes: &[u8], cut: &[u8]) -> Result<CheckedSo
     ensures { IsChecked bytes.now cut.now result }
 {
     let tokens = tokens_of(alloc, bytes)?;
-    let parsed = tree_of(alloc, &tokens)?;
+    let (parsed, strings) = tree_of(alloc, tokens)?;
     numbers_fit();
-    let source = typed(alloc, &tokens, &parsed.tree)?;
-    drop(tokens);
+    let source = typed(alloc, &strings, &parsed.tree)?;
+    drop(strings);
     let (program, interface) = with_interface(alloc, source, &parsed.tree, cut)?;
     let code = code_of(alloc, &parsed, &program)?;
     Ok(CheckedSource {

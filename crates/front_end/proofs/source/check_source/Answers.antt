@@ -1,11 +1,10 @@
 use Rattle.std.proofs.Common.{◌≤◌, List, Err, length, ap, sym, ◌∙◌, subst, arith}
 use Rattle.c_lexer.specs.declared.token.Token.{Token}
 use Rattle.std.proofs.lemmas.Result.{err_from_is_err_and}
-use Rattle.c_lexer.specs.Lexing.{IsTokens}
-use Rattle.c_parser.specs.Parsed.{IsCounted}
 use Rattle.front_end.specs.Answers.{IsChecked, IsTyped}
 use Rattle.front_end.proofs.Accepting.{accepted, source_of}
 use Rattle.front_end.proofs.Few.{few_texts}
+use Rattle.front_end.proofs.Strings.{typed_by}
 use Rattle.front_end.proofs.Refusals.{by_size, read}
 use Rattle.front_end.proofs.source.check_source.Goals as goal
 
@@ -17,16 +16,16 @@ returns-in_err-tokens c =
 pub returns-in_err-parsed : goal.returns-in_err-parsed
 returns-in_err-parsed c =
     let e = err_from_is_err_and c.from_residual-in_err-parsed.result c.from_residual-in_err-parsed.ensures.1 in
-    let lexed = subst (IsTokens c.args.bytes.now) (sym c.deref.ensures.value) c.in_ok-tokens.ensures.tokens in
+    let lexed = c.in_ok-tokens.ensures.tokens in
     subst (IsChecked c.args.bytes.now c.args.cut.now) (sym (e.1 ∙ ap Err e.2)) (c.in_err-parsed.ensures.refused c.args.bytes.now c.args.cut.now lexed)
 
 pub returns-in_err-source : goal.returns-in_err-source
 returns-in_err-source c =
     let e = err_from_is_err_and c.from_residual-in_err-source.result c.from_residual-in_err-source.ensures.1 in
-    let lexed = subst (IsTokens c.args.bytes.now) (sym c.deref.ensures.value) c.in_ok-tokens.ensures.tokens in
+    let lexed = c.in_ok-tokens.ensures.tokens in
     let p = c.in_ok-parsed.ensures.tree in
     subst (IsChecked c.args.bytes.now c.args.cut.now) (sym (e.1 ∙ ap Err e.2))
-    (c.in_err-source.ensures.refused c.args.bytes.now c.args.cut.now p.0 p.3.0 (source_of c.args.bytes.now c.deref.result.now c.in_ok-parsed.parsed lexed p))
+    (c.in_err-source.ensures.refused c.args.bytes.now c.args.cut.now p.0 p.3.0 (source_of c.args.bytes.now c.in_ok-tokens.tokens.items c.in_ok-parsed.parsed lexed p))
 
 pub returns-in_err-program : goal.returns-in_err-program
 returns-in_err-program c =
@@ -35,10 +34,10 @@ returns-in_err-program c =
     let N = q.tree in
     let bytes = c.args.bytes.now in
     let lexed = c.in_ok-tokens.ensures.tokens in
-    let p = subst (λ (v : List Token). IsCounted v q) c.deref.ensures.value c.in_ok-parsed.ensures.tree in
+    let p = c.in_ok-parsed.ensures.tree in
     let source = source_of bytes ts q lexed p in
     let t =
-    subst (λ (v : List Token). IsTyped N v p.0 c.in_ok-source.source) c.deref-2.ensures.value (c.in_ok-source.ensures.typed p.0 p.3.0 (c.numbers_fit.ensures bytes ts p.0 lexed p.1))
+    typed_by c.in_ok-parsed.ensures.strings (subst (λ (v : List Token). IsTyped N v p.0 c.in_ok-source.source) c.deref.ensures.value (c.in_ok-source.ensures.typed p.0 p.3.0 (c.numbers_fit.ensures bytes ts p.0 lexed p.1)))
     in
     let e = err_from_is_err_and c.from_residual-in_err-program.result c.from_residual-in_err-program.ensures.1 in
     subst (IsChecked bytes c.args.cut.now) (sym (e.1 ∙ ap Err e.2)) (c.in_err-program.ensures bytes p.0 source t)
@@ -50,10 +49,10 @@ code_of-requires c =
     let N = q.tree in
     let bytes = c.args.bytes.now in
     let lexed = c.in_ok-tokens.ensures.tokens in
-    let p = subst (λ (v : List Token). IsCounted v q) c.deref.ensures.value c.in_ok-parsed.ensures.tree in
+    let p = c.in_ok-parsed.ensures.tree in
     let source = source_of bytes ts q lexed p in
     let t =
-    subst (λ (v : List Token). IsTyped N v p.0 c.in_ok-source.source) c.deref-2.ensures.value (c.in_ok-source.ensures.typed p.0 p.3.0 (c.numbers_fit.ensures bytes ts p.0 lexed p.1))
+    typed_by c.in_ok-parsed.ensures.strings (subst (λ (v : List Token). IsTyped N v p.0 c.in_ok-source.source) c.deref.ensures.value (c.in_ok-source.ensures.typed p.0 p.3.0 (c.numbers_fit.ensures bytes ts p.0 lexed p.1)))
     in
     let reads = c.in_ok-program.ensures bytes p.0 source t in
     let texts : length c.in_ok-program.program.texts ≤ length ts = omega (arith, ap length (reads.1 ∙ t.texts), few_texts ts) in
@@ -69,10 +68,10 @@ returns-in_err-code c =
     let N = q.tree in
     let bytes = c.args.bytes.now in
     let lexed = c.in_ok-tokens.ensures.tokens in
-    let p = subst (λ (v : List Token). IsCounted v q) c.deref.ensures.value c.in_ok-parsed.ensures.tree in
+    let p = c.in_ok-parsed.ensures.tree in
     let source = source_of bytes ts q lexed p in
     let t =
-    subst (λ (v : List Token). IsTyped N v p.0 c.in_ok-source.source) c.deref-2.ensures.value (c.in_ok-source.ensures.typed p.0 p.3.0 (c.numbers_fit.ensures bytes ts p.0 lexed p.1))
+    typed_by c.in_ok-parsed.ensures.strings (subst (λ (v : List Token). IsTyped N v p.0 c.in_ok-source.source) c.deref.ensures.value (c.in_ok-source.ensures.typed p.0 p.3.0 (c.numbers_fit.ensures bytes ts p.0 lexed p.1)))
     in
     let reads = c.in_ok-program.ensures bytes p.0 source t in
     let e = err_from_is_err_and c.from_residual-in_err-code.result c.from_residual-in_err-code.ensures.1 in
@@ -87,10 +86,10 @@ returns c =
     let N = q.tree in
     let bytes = c.args.bytes.now in
     let lexed = c.in_ok-tokens.ensures.tokens in
-    let p = subst (λ (v : List Token). IsCounted v q) c.deref.ensures.value c.in_ok-parsed.ensures.tree in
+    let p = c.in_ok-parsed.ensures.tree in
     let source = source_of bytes ts q lexed p in
     let t =
-    subst (λ (v : List Token). IsTyped N v p.0 c.in_ok-source.source) c.deref-2.ensures.value (c.in_ok-source.ensures.typed p.0 p.3.0 (c.numbers_fit.ensures bytes ts p.0 lexed p.1))
+    typed_by c.in_ok-parsed.ensures.strings (subst (λ (v : List Token). IsTyped N v p.0 c.in_ok-source.source) c.deref.ensures.value (c.in_ok-source.ensures.typed p.0 p.3.0 (c.numbers_fit.ensures bytes ts p.0 lexed p.1)))
     in
     let reads = c.in_ok-program.ensures bytes p.0 source t in
     accepted bytes c.args.cut.now N p.0 c.in_ok-source.source (record { program = c.in_ok-program.program; interface = c.in_ok-program.interface; code = c.in_ok-code.code }) source t
