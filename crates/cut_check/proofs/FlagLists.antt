@@ -25,6 +25,7 @@ use Rattle.cut_graph_rules.specs.Sources.{Mentioned, mentions_of}
 use Rattle.cut_graph_rules.specs.Findings.{Cut}
 use Rattle.isolation_check_findings.specs.Given.{IsCut}
 use Rattle.isolation_check_rows.specs.Rows.{flag}
+use Rattle.isolation_check.specs.Flags.{HasAllFlags}
 use Rattle.cut_check.specs.declared.flags.Flags as code
 use Rattle.cut_check.specs.Flags.{AreFlags, in_interface}
 use Rattle.front_end.specs.declared.source.CheckedSource.{CheckedSource}
@@ -51,6 +52,10 @@ pub one_more : (g : ℕ → Bool) (n : ℕ) (bs : List Bool) (b : Bool) → bs �
 one_more g n bs b h e =
     let here : 0 + n ≡ n = omega arith in
     ap (λ (cs : List Bool). cs ++ b ∷ []) h ∙ (ap (λ (x : Bool). map g (range_with_len 0 n) ++ x ∷ []) e ∙ sym (map-range_with_len_more g 0 n n here))
+
+-- there are so many flags
+pub as_many : (g : ℕ → Bool) (n : ℕ) (bs : List Bool) → bs ≡ map g (range_with_len 0 n) → length bs ≡ n
+as_many g n bs e = ap length e ∙ length-map-range_with_len g 0 n
 
 -- ---- functions that may run
 
@@ -139,3 +144,11 @@ as_slices d n s c above below_flags faces a b f are =
     subst (λ (bs : List Bool). IsCut d n bs below_flags faces c) (sym a)
     (subst (λ (bs : List Bool). IsCut d n s.above.items bs faces c) (sym b)
     (subst (λ (bs : List Bool). IsCut d n s.above.items s.below.items bs c) (sym f) are))
+
+pub all_lent : (d : Declared) (s : code.Flags) (above below_flags faces : List Bool) → above ≡ s.above.items → below_flags ≡ s.below.items → faces ≡ s.faces.items → HasAllFlags d s.above.items s.below.items s.faces.items →
+    HasAllFlags d above below_flags faces
+all_lent d s above below_flags faces a b f all = record {
+  each_above = ap length a ∙ all.each_above;
+  each_below = ap length b ∙ all.each_below;
+  each_face = ap length f ∙ all.each_face;
+}

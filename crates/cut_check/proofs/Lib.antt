@@ -1,8 +1,9 @@
 pub mod OneOrder
 pub mod Lines
 pub mod OneText
-mod Accepted
-mod MainPlace
+pub mod Accepted
+pub mod Said
+pub mod MainPlace
 mod Facts
 mod FlagLists
 mod GuardFlags

@@ -25,10 +25,10 @@ use Rattle.cut_check.proofs.OneOrder.{one_order}
 same_source : {bytes cut : List ℕ} {p q : Program} {a b : Annotated} → (s : Says bytes cut p a) (t : Says bytes cut q b) → s.right.ds ≡ t.right.ds
 same_source {bytes} s t = one_source bytes s.right.ds t.right.ds s.right.source t.right.source
 
-one_program : {bytes cut : List ℕ} {p q : Program} {a b : Annotated} → Says bytes cut p a → Says bytes cut q b → p ≡ q
+pub one_program : {bytes cut : List ℕ} {p q : Program} {a b : Annotated} → Says bytes cut p a → Says bytes cut q b → p ≡ q
 one_program {p = p} {q = q} s t = let both : Typed p ≡ Typed q = sym s.declares ∙ (ap outcome (same_source s t) ∙ t.declares) in cc
 
-one_annotated : {bytes cut : List ℕ} {p q : Program} {a b : Annotated} → Says bytes cut p a → Says bytes cut q b → a ≡ b
+pub one_annotated : {bytes cut : List ℕ} {p q : Program} {a b : Annotated} → Says bytes cut p a → Says bytes cut q b → a ≡ b
 one_annotated {p = p} {q = q} {a = a} {b = b} s t =
     same_Some a b (sym s.annotated ∙ (ap (λ (ds : Decls). found (annotations ds p)) (same_source s t) ∙
     (ap (λ (r : Program). found (annotations t.right.ds r)) (one_program s t) ∙ t.annotated)))

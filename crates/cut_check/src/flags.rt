@@ -7,6 +7,7 @@ ghost use Rattle.c_builtins.specs.Table.{first_source_function};
 ghost use Rattle.c_types_rules.specs.Sources.{Program};
 ghost use Rattle.cut_graph_modes.specs.Runs.{may};
 ghost use Rattle.cut_graph_rules.specs.Sources.{mentions_of};
+ghost use Rattle.isolation_check.specs.Flags.{HasAllFlags};
 ghost use Rattle.cut_check.specs.Sources.{IsOf, cut_of, is_named_main};
 ghost use Rattle.cut_check.specs.Flags.{AreFlags, in_interface};
 
@@ -82,7 +83,8 @@ pub(crate) fn flags_of(
     requires mentioned { length mentions.now.functions ≡ length source.now.program.functions }
     requires globals { length mentions.now.globals ≤ 2 ^ 30 }
     requires main { position_or_len is_named_main source.now.program.functions < length source.now.program.functions }
-    ensures { (cut : List ℕ) (p : Program) (a : Annotated) → IsOf cut p a source.now →
+    ensures each { IfOk result (λ s. HasAllFlags source.now.program s.above.items s.below.items s.faces.items) }
+    ensures flags { (cut : List ℕ) (p : Program) (a : Annotated) → IsOf cut p a source.now →
         mentions.now ≡ mentions_of p → IfOk result (λ s. AreFlags source.now.program mentions.now s (cut_of cut p a)) }
 {
     let functions = source.program.functions();

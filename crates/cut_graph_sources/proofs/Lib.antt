@@ -1,3 +1,3 @@
-mod Names
-mod Cuts
+pub mod Names
+pub mod Cuts
 mod Accepted

@@ -1,4 +1,5 @@
--- The annotations of a typed source, function by function: each function has its own, which keep the rules for its type.
+-- The annotations of a typed source, function by function: each function has its own, which keep the rules for its type. Those of `main`
+-- name no cut.
 use Rattle.std.proofs.Common.{◌≡◌, ◌≤◌, ◌<◌, ◌⊎◌, inl, inr, ℕ, zero, suc, ◌+◌, ◌-◌, Bool, true, false, cond, List, [], ◌∷◌, ◌++◌, length, length-append, map, Option, Some, None, refl, sym, ap, ◌∙◌, subst, arith, ⊎_elim}
 use Rattle.std.specs.Prelude.{slice_get, nat_lt}
 use Rattle.std.proofs.lemmas.Option.{same_Some}
@@ -17,19 +18,21 @@ use Rattle.annot_reader_rules.specs.Functions.{declared_later, function_notes, g
 use Rattle.annot_reader_rules.specs.Misplaced.{bare_decls}
 use Rattle.annot_reader_rules.specs.Notes.{Annotated, Notes}
 use Rattle.stub_meaning.specs.Rules.{KeepsRules}
-use Rattle.c_lower_laws.proofs.Held.{Holds, holds_then, holds_on, holds_after}
+use Rattle.c_lower_laws.proofs.Held.{Holds, holds_then, holds_on, holds_after, holds_both}
 use Rattle.front_end_laws.proofs.Found.{holds_at, value, value_then}
+use Rattle.front_end_laws.proofs.MainWords.{InNoCut, function_out}
 use Rattle.front_end_laws.proofs.Rules.{Enough, function_keeps, notes_say, prototype_of}
 use Rattle.front_end_laws.proofs.Declared.{Did, DidName, Grows, NoMembers, Same, again, first, object, struct, named_one, declaration_did, declarations_grow, types}
 
 -- ---- what holds on the way
 
--- what is said of the function at a place keeps the rules for its type
+-- what is said of the function at a place keeps the rules for its type, and names no cut if it is `main`
 pub record Keeps (F : Program) (k : ℕ) (n : Notes) : Type 0 where
   pub result : CType
   pub params : CTypes
   pub type : slice_get (types F) k ≡ Some (FunctionOf result params)
   pub rules : KeepsRules (prototype_of result params) (notes_say n)
+  pub alone : (g : Function) → function_at F.functions k ≡ Some g → InNoCut (kind_of g) n
 
 abbrev pub Kept : Program → List Notes → Type 0
 Kept F ns = (k : ℕ) (n : Notes) → slice_get ns k ≡ Some n → Keeps F k n
@@ -150,17 +153,25 @@ module _ (env : Environment) (F : Program) where
 
   -- a new one
   with_notes : (p q : Program) (from : ℕ) (an : Annots) (b : Base) (ps : Parts) (n : Option (List ℕ)) (r : Rest) (u : CType) (ts : CTypes) (a : Annotated) (g : Function) →
-      Follows F p a → Enough (own_parameters ps) ts → slice_get (types F) (length p.functions) ≡ Some (FunctionOf u ts) → length q.functions ≡ length p.functions + 1 →
-      length q.globals ≡ length p.globals → Holds (Follows F q) (noted_as env (Declare from an b ps n r) g (FunctionOf u ts) a)
-  with_notes p q from an b ps n r u ts a g f enough at more same =
-      holds_then (λ m. KeepsRules (prototype_of u ts) (notes_say m)) (Follows F q) (function_notes env (kind_of g) (Declare from an b ps n r) u ts) _
-      (function_keeps env (kind_of g) from an b ps n r u ts enough)
+      Follows F p a → Enough (own_parameters ps) ts → slice_get (types F) (length p.functions) ≡ Some (FunctionOf u ts) → function_at F.functions (length p.functions) ≡ Some g →
+      length q.functions ≡ length p.functions + 1 → length q.globals ≡ length p.globals → Holds (Follows F q) (noted_as env (Declare from an b ps n r) g (FunctionOf u ts) a)
+  with_notes p q from an b ps n r u ts a g f enough at here more same =
+      let keeps : Notes → Type 0 = λ m. KeepsRules (prototype_of u ts) (notes_say m) in
+      let notes = function_notes env (kind_of g) (Declare from an b ps n r) u ts in
+      holds_then (λ m. keeps m × InNoCut (kind_of g) m) (Follows F q) notes _
+      (holds_both keeps (InNoCut (kind_of g)) notes (function_keeps env (kind_of g) from an b ps n r u ts enough) (function_out (kind_of g) env (Declare from an b ps n r) u ts))
       (λ m h. record {
         count = (let longer = length-append a.functions (m ∷ []) in let c = f.count in omega (arith, longer, c, more));
         guards = f.guards ∙ sym same;
         kept = λ k x e. ⊎_elim
             (λ old. f.kept k x old)
-            (λ new. subst (Keeps F k) new.1 (record { result = u; params = ts; type = ap (slice_get (types F)) (new.0 ∙ f.count) ∙ at; rules = h }))
+            (λ new. subst (Keeps F k) new.1 (record {
+              result = u;
+              params = ts;
+              type = ap (slice_get (types F)) (new.0 ∙ f.count) ∙ at;
+              rules = h.0;
+              alone = λ y there. subst (λ (z : Function). InNoCut (kind_of z) m) (same_Some g y (sym here ∙ (ap (function_at F.functions) (sym (new.0 ∙ f.count)) ∙ there))) h.1;
+            }))
             (pushed a.functions m x k e);
       })
 
@@ -178,7 +189,7 @@ module _ (env : Environment) (F : Program) where
       let after : length a.functions ≤ k = let c = f.count in omega (arith, c, is) in
       let d : Decl = Declare from an b ps n r in
       subst (λ c. Holds (Follows F q) (Rattle.std.specs.Prelude.if◌then◌else◌ c (declared_later d >> Fine a) (noted_as env d g g.type a))) (sym (no_less k (length a.functions) after))
-      (subst (λ t. Holds (Follows F q) (noted_as env d g t a)) (sym type) (with_notes p q from an b ps n r u ts a g f enough at more same))
+      (subst (λ t. Holds (Follows F q) (noted_as env d g t a)) (sym type) (with_notes p q from an b ps n r u ts a g f enough at e more same))
 
   one_name : (p q : Program) (from : ℕ) (an : Annots) (b : Base) (ps : Parts) (n : Option (List ℕ)) (r : Rest) (a : Annotated) →
       Numbers p → Follows F p a → Grows q F → Grows p F → DidName p (declared_name n) (own_parameters ps) q →

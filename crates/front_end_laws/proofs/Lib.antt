@@ -1,4 +1,5 @@
 pub mod Found
+mod MainWords
 mod Rules
 mod Declared
 mod Followed

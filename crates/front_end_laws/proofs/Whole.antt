@@ -1,12 +1,12 @@
 -- The annotations of a typed source keep the rules for the types that its code knows.
 use Rattle.std.proofs.Common.{◌≡◌, ◌≤◌, ◌<◌, ℕ, zero, suc, ◌+◌, ◌-◌, nat_le, Bool, true, false, not, ◌&&◌, List, [], ◌∷◌, length, map, take, Option, Some, None, refl, sym, ap, ◌∙◌, subst, arith}
-use Rattle.std.specs.Prelude.{slice_get, Ok, if◌then◌else◌}
+use Rattle.std.specs.Prelude.{slice_get, codes, Ok, if◌then◌else◌}
 use Rattle.std.proofs.lemmas.Bool.{leb-true}
 use Rattle.std.proofs.lemmas.List.{take_all}
 use Rattle.std.proofs.lemmas.Option.{same_Some, slice_get_within}
 use Rattle.marks.specs.Places.{builtin_count}
 use Rattle.c_builtins.specs.Table.{first_source_function}
-use Rattle.c_scopes.specs.Scopes.{meaning_in}
+use Rattle.c_scopes.specs.Scopes.{meaning_in, same_name}
 use Rattle.c_syntax.specs.Syntax.{Decls}
 use Rattle.c_types_model.specs.Types.{CType, CTypes, FunctionOf, NoTypes, MoreTypes}
 use Rattle.c_types_table.specs.Tables.{type_at}
@@ -23,7 +23,7 @@ use Rattle.c_types_program.specs.declared.function.Function.{Function}
 use Rattle.c_types_program.specs.Declarations.{Declared, function_in}
 use Rattle.c_types_program.specs.Programs.{IsProgram}
 use Rattle.c_lower.specs.Lowered.{lowered}
-use Rattle.annot_reader_rules.specs.Cuts.{annotations}
+use Rattle.annot_reader_rules.specs.Cuts.{annotations, function_at}
 use Rattle.annot_reader_rules.specs.Notes.{Annotated, Notes, Parameter}
 use Rattle.annot_reader_words.specs.declared.notes.Annots.{Annots}
 use Rattle.annot_reader_words.specs.declared.notes.Param.{Param}
@@ -92,6 +92,18 @@ pub all_said : (ds : Decls) (p : Program) (a : Annotated) → outcome ds ≡ Typ
 all_said ds p a e here =
     let follows : Follows p p a = holds_at (Follows p p) (annotations ds p) a (follow ds p e) here in
     record { functions = follows.count; globals = follows.guards }
+
+-- what is said of `main` names no cut
+pub main_in_no_cut : (ds : Decls) (p : Program) (a : Annotated) → outcome ds ≡ Typed p → value (annotations ds p) ≡ Some a → (k : ℕ) (n : Notes) (f : Known) →
+    slice_get a.functions k ≡ Some n → slice_get p.functions k ≡ Some f → same_name f.name (codes "main") ≡ true → n.cuts ≡ []
+main_in_no_cut ds p a e here k n f said there is =
+    let follows : Follows p p a = holds_at (Follows p p) (annotations ds p) a (follow ds p e) here in
+    (follows.kept k n said).alone f (at_place p.functions k ∙ there) is
+  where
+    at_place : (fs : List Known) (k : ℕ) → function_at fs k ≡ slice_get fs k
+    at_place [] k = refl
+    at_place (g ∷ fs) zero = refl
+    at_place (g ∷ fs) (suc k) = at_place fs k
 
 pub read_of_all : (ds : Decls) (p : Program) → outcome ds ≡ Typed p → ReadOfAll p (annotations ds p)
 read_of_all ds p e = by (annotations ds p) (follow ds p e)
@@ -183,6 +195,25 @@ module _ (says_declared : SaysDeclared) (cut : List ℕ) (p : Program) (d : Decl
   types_are : types p ≡ map (λ (f : Known). f.type) (map (function_in d.table) d.functions)
   types_are = sym (ap (λ (q : Program). types q) is)
 
+  -- as little is said of parameters as there are
+  few_said : (k : ℕ) (g : Function) → slice_get d.functions k ≡ Some g → length (declared_at i (k + first_source_function)).params ≤ 256
+  few_said k g at =
+      let type : slice_get (types p) k ≡ Some (type_at d.table.types g.ty) = ap (λ ts. slice_get ts k) types_are ∙ type_there d.table d.functions k g at in
+      let inside : k < length (types p) = slice_get_within (types p) k (type_at d.table.types g.ty) type in
+      let counted = type_count p.functions in
+      let same = follows.count in
+      let (n, said) = there a.functions k (omega (arith, inside, counted, same)) in
+      let keeps : Keeps p k n = follows.kept k n said in
+      let v : Annots = declared_at i (k + first_source_function) in
+      let says : SaysOf n v = says_declared cut a i k n reads said in
+      let few_here : count keeps.params ≤ 8 = leb-true (count keeps.params) 8 (few_there p.functions k (FunctionOf keeps.result keeps.params) few keeps.type) in
+      let c1 = says_count (prototype_of keeps.result keeps.params) (shapes_of keeps.params) (map says_of n.params) keeps.rules.params in
+      let c2 = shape_count keeps.params in
+      let c3 = map_count n.params in
+      let c4 : length (parameters_in v.params) ≡ length n.params = ap length says.params in
+      let c5 = in_count v.params in
+      omega (arith, few_here, c1, c2, c3, c4, c5)
+
   one_keeps : (k : ℕ) (g : Function) → slice_get d.functions k ≡ Some g → KeepsRules (of_type (type_at d.table.types g.ty)) (call_says (declared_at i (k + first_source_function)))
   one_keeps k g at =
       let type : slice_get (types p) k ≡ Some (type_at d.table.types g.ty) = ap (λ ts. slice_get ts k) types_are ∙ type_there d.table d.functions k g at in
@@ -194,13 +225,7 @@ module _ (says_declared : SaysDeclared) (cut : List ℕ) (p : Program) (d : Decl
       let is_type : type_at d.table.types g.ty ≡ FunctionOf keeps.result keeps.params = same_Some (type_at d.table.types g.ty) (FunctionOf keeps.result keeps.params) (sym type ∙ keeps.type) in
       let v : Annots = declared_at i (k + first_source_function) in
       let says : SaysOf n v = says_declared cut a i k n reads said in
-      let few_here : count keeps.params ≤ 8 = leb-true (count keeps.params) 8 (few_there p.functions k (FunctionOf keeps.result keeps.params) few keeps.type) in
-      let c1 = says_count (prototype_of keeps.result keeps.params) (shapes_of keeps.params) (map says_of n.params) keeps.rules.params in
-      let c2 = shape_count keeps.params in
-      let c3 = map_count n.params in
-      let c4 : length (parameters_in v.params) ≡ length n.params = ap length says.params in
-      let c5 = in_count v.params in
-      let short : length v.params ≤ 256 = omega (arith, few_here, c1, c2, c3, c4, c5) in
+      let short : length v.params ≤ 256 = few_said k g at in
       subst (λ t. KeepsRules t (call_says v)) (sym (ap of_type is_type))
       (subst (KeepsRules (prototype_of keeps.result keeps.params)) (same_call n v says short) keeps.rules)
 
@@ -210,6 +235,12 @@ module _ (says_declared : SaysDeclared) (cut : List ℕ) (p : Program) (d : Decl
       let place : f - builtin_count + first_source_function ≡ f = omega (arith, source) in
       subst (λ t. KeepsRules t (call_says (declared_at i f))) (sym (ap (λ (x : FuncInfo). type_of (Some x)) here))
       (subst (λ m. KeepsRules (of_type (type_at d.table.types g.ty)) (call_says (declared_at i m))) place (one_keeps (f - builtin_count) g at))
+
+-- of the parameters of each function, as many bytes number what is said
+pub params_few : SaysDeclared → (ds : Decls) (p : Program) (d : Declared) (cut : List ℕ) (i : Interface) (a : Annotated) → outcome ds ≡ Typed p → IsProgram d p →
+    value (annotations ds p) ≡ Some a → IsRead cut a i → (k : ℕ) (g : Function) → slice_get d.functions k ≡ Some g → length (declared_at i (k + first_source_function)).params ≤ 256
+params_few says ds p d cut i a e is here reads =
+    few_said says cut p d i a is (few_decided p (program ds) e) reads (holds_at (Follows p p) (annotations ds p) a (follow ds p e) here)
 
 -- the annotations of a typed source keep their rules for the types that its code knows
 pub annotations_keep : SaysDeclared → (ds : Decls) (p : Program) (d : Declared) (cut : List ℕ) (i : Interface) → outcome ds ≡ Typed p → IsProgram d p →

@@ -11,12 +11,13 @@ use Rattle.isolation_check_rules.specs.declared.area.Area.{Area}
 use Rattle.isolation_check_rules.specs.Addresses.{addresses_from, first_ends, string_addresses}
 use Rattle.isolation_check_rules.specs.Places.{addresses_of, global_extents, inits, inits_of}
 use Rattle.isolation_check_laws.specs.Fits.{FitsAreas}
-use Rattle.isolation_check_images.specs.Given.{IsSource}
+use Rattle.isolation_check_images.specs.Given.{HasPlaces, IsSource}
 use Rattle.isolation_check.specs.Literals.{ended, strings_in}
 
 -- numbers are enough for its parts, and its strings and globals fit in their areas
 pub record CanBePlaced (p : Declared) : Type 0 where
   pub numbers : HasNumbers p
+  pub places : HasPlaces p
   pub fits : FitsAreas (program_in p []) (strings_in p.texts)
 
 abbrev pub extents_of : Declared → List Extent

@@ -44,7 +44,7 @@ fn refuse(found: Vec<Finding<'_>>) -> Result<(), PlaceError<'_>>
 /// that is wrong with the cut. In time linear in the program, what it mentions, these bytes and the findings, but for the order of the
 /// findings and for externals, which are looked at with each function.
 ///
-/// `sides` has a flag for each function. `Memory` where there is none, or where a value has more members than 32 bits can number.
+/// `sides` has a flag for each function. `Memory` only where there is none.
 pub fn place<'a>(
     alloc: Global,
     program: &'a TypedProgram,

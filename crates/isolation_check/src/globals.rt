@@ -6,7 +6,7 @@ ghost use Rattle.c_types_program.specs.Declarations.{global_in, initial_in};
 ghost use Rattle.c_semantics.specs.Context.{Source};
 ghost use Rattle.isolation_check_rules.specs.Images.{global_image};
 ghost use Rattle.isolation_check_rules.specs.Places.{addresses_of, inits, inits_of};
-ghost use Rattle.isolation_check_images.specs.Given.{IsSource};
+ghost use Rattle.isolation_check_images.specs.Given.{HasPlaces, IsSource};
 ghost use Rattle.isolation_check.specs.Rows.{AreGlobalsBelow};
 
 use c_types_model::Extent;
@@ -23,7 +23,8 @@ fn global_place(
     size: u64,
     global: &GlobalObject,
 ) -> Result<Place, AllocError>
-    requires { global.now.ty.0 < length images.index.now.table.types }
+    requires inside { global.now.ty.0 < length images.index.now.table.types }
+    requires places { HasPlaces images.index.now }
     ensures address { IfOk result (λ o. o.addr ≡ address) }
     ensures bytes { (s : Source) →
         IsSource images.entry.index.now images.entry.strings.now images.entry.globals.now s →
@@ -37,7 +38,7 @@ fn global_place(
     })
 }
 
-/// Globals of these sizes at their addresses, with their bytes. `AllocError` as `Addresses::global_image`.
+/// Globals of these sizes at their addresses, with their bytes. `AllocError` only where there is no memory.
 pub(crate) fn global_places(
     alloc: Global,
     images: Addresses<'_>,
@@ -45,6 +46,7 @@ pub(crate) fn global_places(
     globals: &[GlobalObject],
 ) -> Result<Vec<Place>, AllocError>
     requires inside { AreGlobalsBelow (length images.index.now.table.types) globals.now }
+    requires places { HasPlaces images.index.now }
     requires addresses { length images.globals.now ≡ length globals.now }
     requires extents { length extents.now ≡ length globals.now }
     ensures addresses { IfOk result (λ v. addresses_of v.items ≡ images.entry.globals.now) }

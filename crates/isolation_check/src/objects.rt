@@ -57,7 +57,7 @@ fn lay_out(alloc: Global, program: &TypedProgram, areas: &[Area]) -> Result<Layo
     })
 }
 
-/// Those of a program whose globals lie in these areas. `AllocError` as `Addresses::global_image`.
+/// Those of a program whose globals lie in these areas. `AllocError` only where there is no memory.
 pub(crate) fn place_objects(
     alloc: Global,
     program: &TypedProgram,

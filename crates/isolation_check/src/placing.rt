@@ -46,8 +46,7 @@ fn with_flags(alloc: Global, objects: Objects, sides: Sides<'_>) -> Result<Place
 /// Where the strings and globals of a cut lie, each with its bytes before a run, and the flags of its functions. In time linear
 /// in the program, what it mentions, and these bytes.
 ///
-/// `sides` has a flag for each function. `AllocError` where there is no memory, or where a value has more members than 32 bits can
-/// number.
+/// `sides` has a flag for each function. `AllocError` only where there is no memory.
 pub fn places_of(
     alloc: Global,
     program: &TypedProgram,

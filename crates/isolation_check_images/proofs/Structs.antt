@@ -1,5 +1,5 @@
 -- Sizes, and where members lie, hang on the structs of a source alone.
-use Rattle.std.proofs.Common.{◌≡◌, ℕ, zero, suc, ◌+◌, ◌<◌, ◌≤◌, List, [], ◌∷◌, length, map, Option, Some, None, refl, sym, ap, ◌∙◌, arith}
+use Rattle.std.proofs.Common.{◌≡◌, ℕ, zero, suc, ◌+◌, ◌-◌, ◌<◌, ◌≤◌, ◌^◌, List, [], ◌∷◌, length, map, Option, Some, None, refl, sym, ap, ◌∙◌, subst, arith}
 use Rattle.std.specs.Prelude.{slice_get, unwrap_or}
 use Rattle.std.specs.Option.{IfSome, option_map}
 use Rattle.std.specs.List.{All}
@@ -7,6 +7,7 @@ use Rattle.std.proofs.lemmas.List.Elements.{All-head, All-tail}
 use Rattle.c_types_model.specs.Types.{CType, Void, Integer, PointerTo, ArrayOf, StructOf, UndefinedStruct, FunctionOf}
 use Rattle.c_types_model.specs.Layouts.{offsets_from}
 use Rattle.c_types_model.specs.declared.extent.Extent.{Extent}
+use Rattle.c_types_table.specs.declared.ids.TypeId.{TypeId}
 use Rattle.c_types_table.specs.declared.ty.Ty.{Ty}
 use Rattle.c_types_table.specs.Tables.{IsBelow, type_at}
 use Rattle.c_types_structs.specs.Members.{Definitions, MemberList, members_at, read_members, type_of_member}
@@ -16,10 +17,10 @@ use Rattle.c_types_rules.specs.Operators.{size_in}
 use Rattle.c_types_rules.specs.Sources.{Program, extents_in}
 use Rattle.memory_map.specs.declared.placed.Place.{Place}
 use Rattle.c_semantics.specs.Context.{Source, address_of, member_offset, order_of, size_of}
-use Rattle.c_types_program.specs.Declarations.{Declared, IsMemberBelow, structs_from, structs_in}
+use Rattle.c_types_program.specs.Declarations.{Declared, IsMemberBelow, struct_in, structs_from, structs_in}
 use Rattle.c_lower_layout.specs.Indexed.{extents_at, member_ids}
 use Rattle.isolation_check_rules.specs.Places.{addresses_of}
-use Rattle.isolation_check_images.specs.Given.{IsSource}
+use Rattle.isolation_check_images.specs.Given.{HasPlaces, IsSource}
 use Rattle.c_lower_layout.specs.Sources.{source_in}
 use Rattle.c_lower_layout.proofs.Placing.{extents_mapped, members_below}
 
@@ -94,6 +95,39 @@ type_inside n (m ∷ ms) (suc place) h = type_inside n ms place (All-tail (IsBel
 
 pub member_inside : (n : ℕ) (mss : List MemberList) (number place : ℕ) → All (All (IsMemberBelow n)) mss → IfSome (type_of_member (members_at mss number) place) (IsBelow n)
 member_inside n mss number place h = type_inside n (members_at mss number) place (members_below n number mss h)
+
+-- ---- the places of members
+
+struct_there : (types : List Ty) (mss : List MemberList) (first number : ℕ) (es : List Extent) → number < length es →
+    (e : Extent) × (slice_get (structs_from types mss first es) number ≡ Some (struct_in types mss (first + number) e))
+struct_there types mss first number [] lt = absurd (omega arith)
+struct_there types mss first zero (e ∷ es) lt = let n : first ≡ first + 0 = omega arith in (e, ap (λ (k : ℕ). Some (struct_in types mss k e)) n)
+struct_there types mss first (suc number) (e ∷ es) lt =
+    let (x, is) = struct_there types mss (suc first) number es (omega (arith, lt)) in
+    let n : suc first + number ≡ first + suc number = omega arith in
+    (x, is ∙ ap (λ (k : ℕ). Some (struct_in types mss k x)) n)
+
+read_many : (types : List Ty) (ms : MemberList) → length (read_members (type_at types) ms) ≡ length ms
+read_many types [] = refl
+read_many types (m ∷ ms) = ap suc (read_many types ms)
+
+member_within : (n : ℕ) (ms : MemberList) (place : ℕ) → length ms ≤ n → IfSome (type_of_member ms place) (λ ty. place < n)
+member_within n [] place few = tt
+member_within n (m ∷ ms) zero few = omega (arith, few)
+member_within n (m ∷ ms) (suc place) few = by (type_of_member ms place) (member_within (n - 1) ms place (omega (arith, few)))
+  where
+    by : (o : Option TypeId) → IfSome o (λ ty. place < n - 1) → IfSome o (λ ty. suc place < n)
+    by None h = tt
+    by (Some ty) h = omega (arith, h)
+
+-- 32 bits are enough for the place of a member
+pub place_small : (p : Declared) → HasPlaces p → (number place : ℕ) → number < length p.structs.extents → IfSome (type_of_member (members_at p.structs.members number) place) (λ ty. place < 2 ^ 32)
+place_small p few number place lt =
+    let (e, is) = struct_there p.table.types p.structs.members 0 number p.structs.extents lt in
+    let same : 0 + number ≡ number = omega arith in
+    let many = read_many p.table.types (members_at p.structs.members (0 + number)) in
+    let here : length (members_at p.structs.members (0 + number)) ≤ 2 ^ 32 = (let most = few number _ is in omega (arith, most, many)) in
+    member_within (2 ^ 32) (members_at p.structs.members number) place (subst (λ (k : ℕ). length (members_at p.structs.members k) ≤ 2 ^ 32) same here)
 
 -- ---- what is computed of the program holds of each source that has its structs and strings
 

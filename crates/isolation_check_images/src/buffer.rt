@@ -1,6 +1,6 @@
 //! Bytes that grow at their end.
 
-ghost use Rattle.std.specs.Prelude.{◌≡◌, [], ◌∷◌, ℕ, List, Some, None, IfOk, length, replicate, take};
+ghost use Rattle.std.specs.Prelude.{◌≡◌, [], ◌∷◌, ℕ, List, Some, IfOk, length, replicate, take};
 ghost use Rattle.marks.specs.Ranges.{bytes_of_number};
 ghost use Rattle.stub_operations.specs.Growing.{IsAdded};
 ghost use Rattle.isolation_check_rules.specs.Images.{padded};
@@ -39,13 +39,6 @@ impl ByteBuffer {
         ensures { (bytes : List ℕ) → self.now ≡ Some bytes → result ≡ length bytes }
     {
         self.bytes.len() as u64
-    }
-
-    /// Adds nothing more, as if memory had run out.
-    pub(crate) fn run_out(&mut self)
-        ensures { self.new ≡ None }
-    {
-        self.is_full = true;
     }
 
     /// Adds the bytes.

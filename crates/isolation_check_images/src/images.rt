@@ -7,7 +7,7 @@ ghost use Rattle.c_types_rules.specs.Initials.{types_in};
 ghost use Rattle.c_types_program.specs.Declarations.{initial_in, initials_in};
 ghost use Rattle.c_semantics.specs.Context.{Source, size_of};
 ghost use Rattle.isolation_check_rules.specs.Images.{elements, global_image, image, members};
-ghost use Rattle.isolation_check_images.specs.Given.{Adds, IsSource};
+ghost use Rattle.isolation_check_images.specs.Given.{Adds, HasPlaces, IsSource};
 ghost use Rattle.isolation_check_images.specs.Listed.{listed};
 
 use crate::addresses::Addresses;
@@ -20,7 +20,8 @@ impl Addresses<'_> {
     // Adds the bytes of a value of a type.
     #[cycle(images)]
     fn image(self, out: &mut ByteBuffer, value: &Initial, ty: TypeId)
-        requires { ty.0 < length self.index.now.table.types }
+        requires inside { ty.0 < length self.index.now.table.types }
+        requires places { HasPlaces self.index.now }
         ensures { Adds self.entry.index.now self.entry.strings.now self.entry.globals.now
             (λ s. image s (initial_in value.now) (type_at self.entry.index.now.table.types ty))
             out.old out.new }
@@ -44,7 +45,8 @@ impl Addresses<'_> {
     // Adds the first elements or members of an object of a type.
     #[cycle(images)]
     fn listed(self, out: &mut ByteBuffer, values: &[Initial], ty: TypeId)
-        requires { ty.0 < length self.index.now.table.types }
+        requires inside { ty.0 < length self.index.now.table.types }
+        requires places { HasPlaces self.index.now }
         ensures { Adds self.entry.index.now self.entry.strings.now self.entry.globals.now
             (λ s. listed s (initials_in values.now) (type_at self.entry.index.now.table.types ty))
             out.old out.new }
@@ -60,7 +62,8 @@ impl Addresses<'_> {
     // Adds elements, one after another.
     #[cycle(images)]
     fn elements(self, out: &mut ByteBuffer, values: &[Initial], element: TypeId)
-        requires { element.0 < length self.index.now.table.types }
+        requires inside { element.0 < length self.index.now.table.types }
+        requires places { HasPlaces self.index.now }
         ensures { Adds self.entry.index.now self.entry.strings.now self.entry.globals.now
             (λ s. elements s (initials_in values.now) (type_at self.entry.index.now.table.types element))
             out.old out.new }
@@ -74,6 +77,7 @@ impl Addresses<'_> {
     #[cycle(images)]
     fn members(self, out: &mut ByteBuffer, values: &[Initial], number: StructId, ty: TypeId)
         requires inside { ty.0 < length self.index.now.table.types }
+        requires places { HasPlaces self.index.now }
         requires is_struct { type_at self.index.now.table.types ty ≡ StructOf number.0 }
         ensures { Adds self.entry.index.now self.entry.strings.now self.entry.globals.now
             (λ s. members s (initials_in values.now) number.0 (types_in s.program.structs number.0) 0 0)
@@ -84,11 +88,7 @@ impl Addresses<'_> {
             let Some(member) = self.member_type(number, i) else {
                 return;
             };
-            let Ok(place) = u32::try_from(i) else {
-                out.run_out();
-                return;
-            };
-            let offset = self.index.member_offset(ty, place);
+            let offset = self.index.member_offset(ty, i as u32);
             after = self.member(out, &values[i], member, offset, after);
         }
     }
@@ -104,7 +104,8 @@ impl Addresses<'_> {
         offset: u64,
         after: u64,
     ) -> u64
-        requires { ty.0 < length self.index.now.table.types }
+        requires inside { ty.0 < length self.index.now.table.types }
+        requires places { HasPlaces self.index.now }
         ensures bytes { Adds self.entry.index.now self.entry.strings.now self.entry.globals.now
             (λ s. replicate (offset - after) 0 ++ image s (initial_in value.now)
             (type_at self.entry.index.now.table.types ty)) out.old out.new }
@@ -119,7 +120,7 @@ impl Addresses<'_> {
 
     /// The bytes of a global of this size before a run, where it has this value.
     ///
-    /// `AllocError` where there is no memory, or where the place of a member in a value exceeds 32 bits.
+    /// `AllocError` only where there is no memory.
     pub fn global_image(
         self,
         alloc: Global,
@@ -127,7 +128,8 @@ impl Addresses<'_> {
         value: &Option<Initial>,
         ty: TypeId,
     ) -> Result<Vec<u8>, AllocError>
-        requires { ty.0 < length self.index.now.table.types }
+        requires inside { ty.0 < length self.index.now.table.types }
+        requires places { HasPlaces self.index.now }
         ensures { (s : Source) →
             IsSource self.entry.index.now self.entry.strings.now self.entry.globals.now s →
             IfOk result (λ v. v.items ≡ global_image s size (option_map initial_in value.now)

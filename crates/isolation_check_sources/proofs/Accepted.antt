@@ -1,6 +1,7 @@
 -- What an accepted source says of its strings and globals.
-use Rattle.std.proofs.Common.{◌≡◌, ℕ, ◌<◌, ◌≤◌, ◌^◌, List, [], ◌∷◌, length, refl, sym, ap, ◌∙◌, subst, arith}
+use Rattle.std.proofs.Common.{◌≡◌, ℕ, ◌<◌, ◌≤◌, ◌^◌, List, [], ◌∷◌, length, Some, refl, sym, ap, ◌∙◌, subst, arith}
 use Rattle.std.specs.List.{All}
+use Rattle.std.specs.Prelude.{slice_get}
 use Rattle.c_lexer.specs.declared.token.Kind.{Kind}
 use Rattle.c_lexer.specs.declared.token.Kind.TheVariants as kinds
 use Rattle.c_lexer.specs.declared.token.Token.{Token}
@@ -21,8 +22,10 @@ use Rattle.front_end.specs.declared.source.CheckedSource.{CheckedSource}
 use Rattle.front_end.specs.Answers.{IsAccepted, SaysOf}
 use Rattle.isolation_check_rules.specs.Places.{global_extents}
 use Rattle.isolation_check_laws.specs.Fits.{Divides, FitsAreas}
+use Rattle.isolation_check_images.specs.Given.{HasPlaces}
 use Rattle.isolation_check.specs.Literals.{strings_in}
 use Rattle.isolation_check.specs.Objects.{CanBePlaced}
+use Rattle.isolation_check_sources.proofs.Members.{typed_has_few}
 
 -- ---- the strings of a program are those among its tokens
 
@@ -56,6 +59,13 @@ typed_as cut ds ts c (limits.Typed p) e says = record { program = p; typed = e; 
 typed_as cut ds ts c (limits.Rule from rule) e says = absurd says
 typed_as cut ds ts c (limits.Limit w) e says = absurd says
 
+-- 32 bits are enough for the places of members
+enough : (ds : Decls) (p : Program) (d : Declared) → outcome ds ≡ Typed p → IsProgram d p → HasPlaces d
+enough ds p d typed is k s e =
+    let here : slice_get p.structs k ≡ Some s = ap (λ (r : Program). slice_get r.structs k) (sym is) ∙ e in
+    let few = typed_has_few ds p typed k s here in
+    omega (arith, few)
+
 module _ (spells : (source : List ℕ) (ts : List Token) → IsTokens source ts → spelled (strings_among ts) ≤ length source)
     (fit : (ds : Decls) (p : Program) (d : Declared) → outcome ds ≡ Typed p → IsProgram d p → IsFit d)
     (small : (ds : Decls) (p : Program) → outcome ds ≡ Typed p → globals_end p ≤ greatest_object)
@@ -72,5 +82,6 @@ module _ (spells : (source : List ℕ) (ts : List Token) → IsTokens source ts 
       subst (λ (p : Program). FitsAreas p (strings_in c.program.texts)) (sym t.is) (record { short = short; small = small ds t.program t.typed; aligned = aligned ds t.program t.typed }) in
       record {
         numbers = numbers c.program (fit ds t.program c.program t.typed t.is) texts;
+        places = enough ds t.program c.program t.typed t.is;
         fits = record { short = short; small = here.small; aligned = here.aligned };
       }

@@ -5,3 +5,4 @@ pub mod Hex
 pub mod Digits
 pub mod Names
 pub mod Steps
+mod Ranges

@@ -8,3 +8,4 @@ pub mod Answers
 pub mod Lines
 pub mod Scripts
 pub mod Says
+pub mod Fits

@@ -6,6 +6,7 @@ mod cut;
 mod error;
 mod externals;
 mod item;
+mod laws;
 mod number;
 mod piece;
 mod said;
@@ -14,4 +15,5 @@ mod turns;
 
 pub use error::ScriptError;
 pub use externals::{External, Externals};
+pub use laws::read_files_are_fit;
 pub use script::read_lines;

@@ -55,7 +55,7 @@ returns-then-is_none c = λ bytes cut h.
     let source = c.args.source.now in
     let k = known bytes cut source h in
     let mine = cut_of cut k.program k.annotated in
-    let flags = c.in_ok-flags.ensures cut k.program k.annotated k.is (c.in_ok-mentions.ensures k.program k.is.program) in
+    let flags = c.in_ok-flags.ensures.flags cut k.program k.annotated k.is (c.in_ok-mentions.ensures k.program k.is.program) in
     let given = as_slices source.program c.in_ok-mentions.mentions c.in_ok-flags.flags mine c.as_slice.result.now c.as_slice-2.result.now c.as_slice-3.result.now c.as_slice.ensures.value c.as_slice-2.ensures.value c.as_slice-3.ensures.value flags in
     IfOk-weaker c.guards_text.result _ _
     (λ text found. guards_text_is bytes cut source k c.in_ok-mentions.mentions c.as_slice.result.now c.as_slice-2.result.now c.as_slice-3.result.now c.in_ok-found.found.items text.items given
@@ -67,7 +67,7 @@ returns c = λ bytes cut h.
     let source = c.args.source.now in
     let k = known bytes cut source h in
     let mine = cut_of cut k.program k.annotated in
-    let flags = c.in_ok-flags.ensures cut k.program k.annotated k.is (c.in_ok-mentions.ensures k.program k.is.program) in
+    let flags = c.in_ok-flags.ensures.flags cut k.program k.annotated k.is (c.in_ok-mentions.ensures k.program k.is.program) in
     let given = as_slices source.program c.in_ok-mentions.mentions c.in_ok-flags.flags mine c.as_slice.result.now c.as_slice-2.result.now c.as_slice-3.result.now c.as_slice.ensures.value c.as_slice-2.ensures.value c.as_slice-3.ensures.value flags in
     IfOk-weaker c.cut_text.result _ _
     (λ text e. cut_text_is bytes cut source k c.in_ok-found.found.items text.items (c.in_ok-found.ensures.findings mine given) c.in_ok-found.ensures.lines

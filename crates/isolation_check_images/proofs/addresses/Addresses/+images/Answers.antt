@@ -85,11 +85,10 @@ members-loop-i-preserved t c = λ s h.
     let ty = type_at p.table.types c.in-Some.member in
     let inv = c.loop-i.invariant s h in
     let there : slice_get types c.loop-i.i ≡ Some ty = sym (c.in-Some.ensures.types s h) in
-    let place : c.in-Ok.place ≡ c.loop-i.i = c.in-Ok.ensures.1 in
     let at : c.member_offset-offset.result ≡ member_offset s (StructOf number) c.loop-i.i =
     c.member_offset-offset.ensures
-    ∙ (offset_here p c.args.self.strings.now c.args.self.globals.now s (type_at p.table.types c.args.ty) c.in-Ok.place h
-    ∙ (ap (λ u. member_offset s u c.in-Ok.place) c.requires.is_struct ∙ ap (member_offset s (StructOf number)) place)) in (
+    ∙ (offset_here p c.args.self.strings.now c.args.self.globals.now s (type_at p.table.types c.args.ty) c.loop-i.i h
+    ∙ ap (λ u. member_offset s u c.loop-i.i) c.requires.is_struct) in (
       c.member_offset-offset.result + size_of s ty,
       c.member-after.ensures.end s h,
       λ q g. inv.2 q (members_step s c.args.values.now c.loop-i.i c.index-values-i.result number types ty c.member_offset-offset.result c.loop-i.after inv.0
