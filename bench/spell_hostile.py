@@ -9,6 +9,8 @@ END = "int main(void) { return 0; }\n"
 FUNCTIONS = 990
 # A branch, and what takes and gives a mutex, are 19 of the 131,072 nodes that a source may have.
 BRANCHES = 6_800
+# Branches with nothing in them are fewer nodes.
+EMPTY_BRANCHES = 16_000
 
 
 def names(budget, spell):
@@ -66,6 +68,51 @@ def mutexes_held_by_bodies(size):
         f"[guarded_by(0)] int n;\n[{lists}] int {declared};\n{bodies}\n[cut(top)] int outside(void);\n"
         f"int main(void) {{ {named} return 0; }}\n"
     )
+
+
+def held_by_callers(mutexes, body):
+    """A function whose callers hold these mutexes, as they are listed, in a source with a guard."""
+    lists = ",".join(f"holds({mutex})" for mutex in mutexes)
+    return (
+        f"[guarded_by(0)] int n;\nint c;\n[cut(top)] int outside(void);\n[{lists}] int f(void);\n"
+        f"int f(void) {{ {body} return n; }}\nint main(void) {{ sizeof(f()); return 0; }}\n"
+    )
+
+
+def held_mutexes_in_descending_order(size):
+    """Mutexes that a function's callers hold, the greatest first."""
+    return held_by_callers(reversed(range(size // 14)), "")
+
+
+def held_mutexes_and_branches(size):
+    """Mutexes that a function's callers hold, and as many branches in it."""
+    count = min(EMPTY_BRANCHES, size // 21)
+    return held_by_callers(range(count), "if(c);" * count)
+
+
+def more_held_mutexes_than_branches(size):
+    """The same with more than twice as many mutexes as branches."""
+    branches = min(EMPTY_BRANCHES, size // 40)
+    return held_by_callers(range((size - 6 * branches) // 15), "if(c);" * branches)
+
+
+def held_mutexes_given_back(size):
+    """Mutexes that a function's callers hold, and as many branches, each of which gives one back and takes it again."""
+    count = min(BRANCHES, size // 60)
+    body = "".join(f"if(c){{r2_unlock({mutex});r2_lock({mutex});}}" for mutex in range(count))
+    return held_by_callers(range((size - 45 * count) // 15), body)
+
+
+def held_mutexes_and_ways_out(size):
+    """Mutexes that a function's callers hold, and ways out of the function."""
+    ways = min(EMPTY_BRANCHES, size // 60)
+    return held_by_callers(range((size - 14 * ways) // 15), "if(c)return 0;" * ways)
+
+
+def held_mutexes_and_calls(size):
+    """Mutexes that a function's callers hold, and calls in it of the function itself."""
+    calls = min(2 * EMPTY_BRANCHES, size // 30)
+    return held_by_callers(range((size - 4 * calls) // 15), "f();" * calls)
 
 
 def mutexes_and_branches(size):
@@ -130,6 +177,12 @@ KINDS = [
     sizes_before_globals,
     mutexes_before_functions,
     mutexes_held_by_bodies,
+    held_mutexes_in_descending_order,
+    held_mutexes_and_branches,
+    more_held_mutexes_than_branches,
+    held_mutexes_given_back,
+    held_mutexes_and_ways_out,
+    held_mutexes_and_calls,
     mutexes_and_branches,
     cuts_before_functions,
     long_tag_of_globals,

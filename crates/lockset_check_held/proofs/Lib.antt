@@ -1,4 +1,9 @@
+pub mod Bits
+pub mod Members
 pub mod Places
+pub mod Ranks
+pub mod Sets
 pub mod Sharing
 pub mod Stacks
 pub mod Starts
+pub mod Tables

@@ -19,10 +19,10 @@ use Rattle.lockset_check_held.specs.Ascending.{Ascends, IsPlace, StartsBelow, is
 
 -- ---- numbers
 
-below_differs : (x k : ℤ) → int_lt x k ≡ true → int_eq x k ≡ false
+pub below_differs : (x k : ℤ) → int_lt x k ≡ true → int_eq x k ≡ false
 below_differs x k h = ap (λ b. is_eq (cond b Less (cond (int_lt k x) Greater Equal))) h
 
-above_is : (x k : ℤ) → int_lt x k ≡ false → int_eq x k ≡ false → int_lt k x ≡ true
+pub above_is : (x k : ℤ) → int_lt x k ≡ false → int_eq x k ≡ false → int_lt k x ≡ true
 above_is x k h e = by (int_lt k x) refl
   where
     by : (b : Bool) → int_lt k x ≡ b → int_lt k x ≡ true
@@ -31,7 +31,7 @@ above_is x k h e = by (int_lt k x) refl
         let same : int_eq x k ≡ true = (λ t. is_eq (cond (h t) Less (cond (f t) Greater Equal))) in
         absurd cc
 
-differs_above : (x k : ℤ) → int_lt k x ≡ true → int_lt x k ≡ false → int_eq x k ≡ false
+pub differs_above : (x k : ℤ) → int_lt k x ≡ true → int_lt x k ≡ false → int_eq x k ≡ false
 differs_above x k h e = λ t. is_eq (cond (e t) Less (cond (h t) Greater Equal))
 
 -- what is above a number that isn't below k
@@ -49,14 +49,14 @@ under x y z h e = by (int_lt x z) refl
     by true f = f
     by false f = absurd (omega (arith, ints))
 
-not_back : (x y : ℤ) → int_lt x y ≡ true → int_lt y x ≡ false
+pub not_back : (x y : ℤ) → int_lt x y ≡ true → int_lt y x ≡ false
 not_back x y h = by (int_lt y x) refl
   where
     by : (b : Bool) → int_lt y x ≡ b → int_lt y x ≡ false
     by false f = f
     by true f = absurd (omega (arith, ints))
 
-itself : (n : ℤ) → int_lt n n ≡ false
+pub itself : (n : ℤ) → int_lt n n ≡ false
 itself n = by (int_lt n n) refl
   where
     by : (b : Bool) → int_lt n n ≡ b → int_lt n n ≡ false
@@ -96,12 +96,12 @@ module _ {X : Type 0} (p : X → Bool) where
   in_parts i xs = ap (filter p) (sym (take-append-drop i xs)) ∙ filter-append p (take i xs) (drop i xs)
 
 module _ {X : Type 0} (P : X → Type 0) where
-  in_take : (i : ℕ) (xs : List X) → i ≤ length xs → AllWithin P xs 0 i → All P (take i xs)
+  pub in_take : (i : ℕ) (xs : List X) → i ≤ length xs → AllWithin P xs 0 i → All P (take i xs)
   in_take i xs le h j d lt =
       let long = length-take i xs in
       subst P (sym (get_or-take i xs j d (omega arith))) (h j d (omega arith) (omega arith))
 
-  in_drop : (i : ℕ) (xs : List X) → i ≤ length xs → AllWithin P xs i (length xs) → All P (drop i xs)
+  pub in_drop : (i : ℕ) (xs : List X) → i ≤ length xs → AllWithin P xs i (length xs) → All P (drop i xs)
   in_drop i xs le h j d lt =
       let long = length-drop i xs in
       subst P (sym (get_or-drop i xs j d)) (h (i + j) d (omega arith) (omega arith))

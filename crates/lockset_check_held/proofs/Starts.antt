@@ -1,5 +1,5 @@
 -- Sets that are made of lists.
-use Rattle.std.proofs.Common.{◌≡◌, ℕ, ℤ, ◌+◌, ◌<◌, ◌≤◌, Bool, true, false, cond, ◌&&◌, List, [], ◌∷◌, length, drop, refl, sym, ap, ◌∙◌}
+use Rattle.std.proofs.Common.{◌≡◌, ℕ, ℤ, ◌+◌, ◌<◌, ◌≤◌, Bool, true, false, cond, ◌&&◌, ◌||◌, List, [], ◌∷◌, length, drop, refl, sym, ap, ◌∙◌}
 use Rattle.std.specs.Prelude.{filter, get_or, int_lt}
 use Rattle.std.specs.List.{list_all}
 use Rattle.std.specs.Ordering.{int_eq, is_eq}
@@ -7,6 +7,12 @@ use Rattle.std.specs.declared.cmp.Ordering.TheVariants.{Less, Equal, Greater}
 use Rattle.std.proofs.lemmas.Bool.Decides.{Decides-int_eq}
 use Rattle.std.proofs.lemmas.List.{drop_all, drop_more}
 use Rattle.std.proofs.lemmas.List.Folds.{list_all-append}
+use Rattle.std.specs.List.Sorted.{IsPermutation}
+use Rattle.std.proofs.lemmas.List.Folds.{Any-from_list_any, list_any-from_Any}
+use Rattle.std.proofs.lemmas.List.Sorted.{Contains-permutation, IsPermutation-sym}
+use Rattle.lockset_check_held.specs.Ascending.{Ascends}
+use Rattle.lockset_check_held.proofs.Members.{held_with, same_members}
+use Rattle.lockset_check_held.proofs.Places.{nothing_ascends, with_ascends}
 use Rattle.lockset_check_rules.specs.Mutexes.{Locks, are_held, is_held, locks_of, with_lock, with_locks}
 
 pub same_start : (start : Locks) (listed mutexes : List ℤ) → start ≡ locks_of listed → mutexes ≡ listed → start ≡ locks_of mutexes
@@ -93,3 +99,38 @@ all_put_in p (k ∷ ks) t =
 
 pub all_held : (ks : List ℤ) (s : Locks) → are_held (locks_of ks) s ≡ are_held ks s
 all_held ks s = all_put_in (λ k. is_held k s) ks [] ∙ always (are_held ks s)
+
+-- ---- the order of a list is nothing to its set
+
+with_locks_ascends : (ks : List ℤ) (s : Locks) → Ascends s → Ascends (with_locks ks s)
+with_locks_ascends [] s up = up
+with_locks_ascends (k ∷ ks) s up = with_locks_ascends ks (with_lock k s) (with_ascends k s up)
+
+either : (a b c : Bool) → (a || (b || c)) ≡ ((b || a) || c)
+either true true c = refl
+either true false c = refl
+either false true c = refl
+either false false c = refl
+
+held_with_locks : (m : ℤ) (ks : List ℤ) (s : Locks) → is_held m (with_locks ks s) ≡ (is_held m ks || is_held m s)
+held_with_locks m [] s = refl
+held_with_locks m (k ∷ ks) s =
+    held_with_locks m ks (with_lock k s)
+    ∙ (ap (λ (b : Bool). is_held m ks || b) (held_with k m s) ∙ either (is_held m ks) (int_eq k m) (is_held m s))
+
+moved : (m : ℤ) (ks js : List ℤ) → IsPermutation ks js → is_held m ks ≡ true → is_held m js ≡ true
+moved m ks js p h =
+    let a = Any-from_list_any (λ n. int_eq n m) ks h in
+    let c = Contains-permutation ks js a.1 p (a.0, a.2, a.3) in
+    list_any-from_Any (λ n. int_eq n m) js (c.0, a.1, c.1, c.2, a.4)
+
+both_ways : (a b : Bool) → (a ≡ true → b ≡ true) → (b ≡ true → a ≡ true) → a ≡ b
+both_ways true b f g = sym (f refl)
+both_ways false true f g = g refl
+both_ways false false f g = refl
+
+pub same_set : (ks js : List ℤ) → IsPermutation ks js → locks_of js ≡ locks_of ks
+same_set ks js p = same_members (locks_of js) (locks_of ks) (with_locks_ascends js [] nothing_ascends) (with_locks_ascends ks [] nothing_ascends)
+    (λ m. held_with_locks m js []
+    ∙ (ap (λ (b : Bool). b || false) (both_ways (is_held m js) (is_held m ks) (moved m js ks (IsPermutation-sym ks js p)) (moved m ks js p))
+    ∙ sym (held_with_locks m ks [])))

@@ -2,7 +2,9 @@
 #![tactic(auto)]
 
 mod held;
+mod known;
 mod locks;
+mod row;
 mod stack;
 
 pub use held::Held;

@@ -39,8 +39,8 @@ fn is_at(numbers: &[i128], place: usize, one: i128) -> bool
     }
 }
 
-// The number at a place.
-fn number_at(numbers: &[i128], place: usize) -> i128
+/// The number at a place.
+pub(crate) fn number_at(numbers: &[i128], place: usize) -> i128
     requires { place < length numbers.now }
     ensures { result ≡ get_or numbers.now place result }
 {
@@ -105,6 +105,16 @@ fn put(numbers: &mut Vec<i128>, one: i128) -> Result<(), AllocError>
     Ok(())
 }
 
+/// The mutexes of a list in ascending order, so that a set is made of them by putting each at its end.
+#[tactic(auto, using(crate::proofs::Starts::same_set))]
+pub(crate) fn sorted(alloc: Global, mutexes: &[i64]) -> Result<Vec<i64>, AllocError>
+    ensures { IfOk result (λ sorted. locks_of sorted.items ≡ locks_of mutexes.now) }
+{
+    let mut sorted = Vec::from_slice(alloc, mutexes)?;
+    sorted.sort_unstable();
+    Ok(sorted)
+}
+
 /// A set of mutexes. Contracts see the list of its members, the least first.
 #[derive(Drop)]
 pub struct Locks {
@@ -138,9 +148,18 @@ impl Locks {
     pub fn of(alloc: Global, mutexes: &[i64]) -> Result<Locks, AllocError>
         ensures { IfOk result (λ l. l ≡ locks_of mutexes.now) }
     {
+        let sorted = sorted(alloc, mutexes)?;
         let mut locks = Locks::new(alloc);
-        locks.add_all(mutexes)?;
+        locks.add_all(sorted.as_slice())?;
         Ok(locks)
+    }
+
+    /// Its members, the least first.
+    pub(crate) fn members(&self) -> &[i128]
+        ensures members { result.now ≡ self.now }
+        ensures ascend { Ascends result.now }
+    {
+        self.members.as_slice()
     }
 
     // These mutexes more.

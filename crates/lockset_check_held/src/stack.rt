@@ -1,64 +1,64 @@
-//! Sets that are kept for later.
+//! Rows that are kept for later.
 
-ghost use Rattle.std.specs.Prelude.{◌≡◌, ◌∷◌, [], drop, OnOk};
+ghost use Rattle.std.specs.Prelude.{◌≡◌, ◌∷◌, [], drop, OnErr, OnOk};
 ghost use Rattle.std.specs.Option.{option_copied};
-ghost use Rattle.lockset_check_held.specs.HeldSets.{head};
+ghost use Rattle.lockset_check_held.specs.Rows.{first_row};
 
-use crate::locks::Locks;
+use crate::row::Row;
 use std::alloc::{AllocError, Global};
 use std::marker::Model;
 
-/// Sets of mutexes, of which the last one that was put in comes out first. Contracts see it first.
+/// Rows, of which the last one that was put in comes out first. Contracts see it first.
 #[derive(Drop)]
 pub struct Stack {
-    sets: Vec<Locks>,
+    rows: Vec<Row>,
 }
 
 impl Model for Stack {
-    ghost use Rattle.std.specs.Prelude.{List, reverse};
-    ghost use Rattle.lockset_check_rules.specs.Mutexes.{Locks as Set};
+    ghost use Rattle.std.specs.Prelude.{List, ℕ, reverse};
 
-    ghost Value = { List Set };
+    ghost Value = { List (List ℕ) };
 
-    ghost view = { λ s. reverse s.sets.items };
+    ghost view = { λ s. reverse s.rows.items };
 }
 
 impl Stack {
-    /// No sets.
+    /// No rows.
     pub(crate) fn new(alloc: Global) -> Stack
         ensures { result ≡ [] }
     {
         Stack {
-            sets: Vec::new(alloc),
+            rows: Vec::new(alloc),
         }
     }
 
-    /// One set more. `AllocError` where there is no memory for it.
+    /// One row more. `AllocError` where there is no memory for it.
     #[tactic(auto, using(crate::proofs::Stacks::pushed))]
-    pub(crate) fn push(&mut self, set: Locks) -> Result<(), AllocError>
-        ensures { OnOk result (self.new ≡ set ∷ self.old) }
+    pub(crate) fn push(&mut self, row: Row) -> Result<(), AllocError>
+        ensures done { OnOk result (self.new ≡ row ∷ self.old) }
+        ensures kept { OnErr result (self.new ≡ self.old) }
     {
-        self.sets.push(set)?;
+        self.rows.push(row)?;
         Ok(())
     }
 
-    /// Takes the first set, if there is one.
+    /// Takes the first row, if there is one.
     #[tactic(auto, using(crate::proofs::Stacks::popped))]
-    pub(crate) fn pop(&mut self) -> Option<Locks>
-        ensures top { result ≡ head self.old }
+    pub(crate) fn pop(&mut self) -> Option<Row>
+        ensures top { result ≡ first_row self.old }
         ensures rest { self.new ≡ drop 1 self.old }
     {
-        match self.sets.pop() {
-            Some(set) => Some(set),
+        match self.rows.pop() {
+            Some(row) => Some(row),
             None => None,
         }
     }
 
-    /// The first set, if there is one.
+    /// The first row, if there is one.
     #[tactic(auto, using(crate::proofs::Stacks::popped))]
-    pub(crate) fn top(&self) -> Option<&Locks>
-        ensures { option_copied result ≡ head self.now }
+    pub(crate) fn top(&self) -> Option<&Row>
+        ensures { option_copied result ≡ first_row self.now }
     {
-        self.sets.last()
+        self.rows.last()
     }
 }

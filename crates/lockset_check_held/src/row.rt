@@ -1,0 +1,137 @@
+//! Rows of bits.
+
+ghost use Rattle.std.specs.Prelude.{◌≡◌, ℕ, ◌≤◌, false, true, get_or, length, IfOk, OnOk, [], bit_and};
+ghost use Rattle.lockset_check_held.specs.Rows.{is_on, TurnsOff, TurnsOn, IsShared, AreAlike};
+ghost use mathlib.Core.Logic.{◌≢◌};
+
+use std::alloc::{AllocError, Global};
+use std::marker::Model;
+
+// The word at a place, 0 past the last one.
+fn word_at(words: &[u64], at: usize) -> u64
+    ensures { result ≡ get_or words.now at 0 }
+{
+    match words.get(at) {
+        Some(word) => *word,
+        None => 0,
+    }
+}
+
+// At least as many words, those that are more all 0.
+#[tactic(auto, using(crate::proofs::Bits::zero_more))]
+fn lengthen(words: &mut Vec<u64>, count: usize) -> Result<(), AllocError>
+    ensures long { OnOk result (count ≤ length words.new.items) }
+    ensures same { (i : ℕ) → get_or words.new.items i 0 ≡ get_or words.old.items i 0 }
+{
+    while words.len() < count {
+        words.push(0)?;
+    }
+    Ok(())
+}
+
+// The bits that others have too.
+#[tactic(auto, using(crate::proofs::Bits::none_shared, crate::proofs::Bits::one_shared, crate::proofs::Bits::all_shared))]
+fn share_words(words: &mut Vec<u64>, others: &[u64])
+    ensures { IsShared words.old.items others.now words.new.items }
+{
+    for i in 0..words.len() {
+        words[i] &= word_at(others, i);
+    }
+}
+
+// Whether both have the same bits.
+#[tactic(auto, using(crate::proofs::Bits::none_differ, crate::proofs::Bits::one_same, crate::proofs::Bits::all_same, crate::proofs::Bits::same_words))]
+fn are_same(words: &[u64], others: &[u64]) -> bool
+    ensures same { result ≡ true → AreAlike words.now others.now }
+    ensures others { result ≡ false → ¬ (AreAlike words.now others.now) }
+{
+    for i in 0..words.len().max(others.len()) {
+        if word_at(words, i) != word_at(others, i) {
+            return false;
+        }
+    }
+    true
+}
+
+/// A set of places, one bit for each. Contracts see its words.
+#[derive(Drop)]
+pub struct Row {
+    alloc: Global,
+    words: Vec<u64>,
+}
+
+impl Model for Row {
+    ghost use Rattle.std.specs.Prelude.{List, ℕ};
+
+    ghost Value = { List ℕ };
+
+    ghost view = { λ r. r.words.items };
+}
+
+impl Row {
+    /// No places.
+    pub(crate) fn new(alloc: Global) -> Row
+        ensures { result ≡ [] }
+    {
+        Row {
+            alloc,
+            words: Vec::new(alloc),
+        }
+    }
+
+    /// Whether a place is among them.
+    #[tactic(auto, using(crate::proofs::Bits::tested))]
+    pub(crate) fn has(&self, place: usize) -> bool
+        ensures { result ≡ is_on self.now place }
+    {
+        word_at(self.words.as_slice(), place / 64) >> (place % 64) & 1 == 1
+    }
+
+    /// One place more. `AllocError` where there is no memory for it.
+    #[tactic(auto, using(crate::proofs::Bits::turned_on, crate::proofs::Bits::alike))]
+    pub(crate) fn add(&mut self, place: usize) -> Result<(), AllocError>
+        ensures on { OnOk result (TurnsOn place self.old self.new) }
+        ensures others { (p : ℕ) → p ≢ place → is_on self.new p ≡ is_on self.old p }
+    {
+        let at = place / 64;
+        lengthen(&mut self.words, at + 1)?;
+        self.words[at] |= 1u64 << (place % 64);
+        Ok(())
+    }
+
+    /// Without the place.
+    pub(crate) fn remove(&mut self, place: usize)
+        ensures { TurnsOff place self.old self.new }
+    {
+        let at = place / 64;
+        if at < self.words.len() {
+            self.words[at] &= !(1u64 << (place % 64));
+        }
+    }
+
+    /// Those that are in the other row too.
+    pub(crate) fn share(&mut self, other: &Row)
+        ensures { IsShared self.old other.now self.new }
+    {
+        share_words(&mut self.words, other.words.as_slice());
+    }
+
+    /// Whether both rows have the same places.
+    pub(crate) fn is_same(&self, other: &Row) -> bool
+        ensures same { result ≡ true → AreAlike self.now other.now }
+        ensures others { result ≡ false → ¬ (AreAlike self.now other.now) }
+    {
+        are_same(self.words.as_slice(), other.words.as_slice())
+    }
+
+    /// The same row.
+    pub(crate) fn copy(&self) -> Result<Row, AllocError>
+        ensures { IfOk result (λ copy. copy ≡ self.now) }
+    {
+        let words = Vec::from_slice(self.alloc, self.words.as_slice())?;
+        Ok(Row {
+            alloc: self.alloc,
+            words,
+        })
+    }
+}
