@@ -1,17 +1,22 @@
 -- Small programs, and lists of marks.
 use Rattle.std.specs.Prelude.{ℕ, Bool, true, false, List, [], ◌∷◌, ◌++◌, codes, replicate, Some, None}
 use Rattle.marks.specs.declared.side.Side.TheVariants.{Replay, System}
-use Rattle.marks.specs.Marks.{Mark, Act, EventKind, Load, Store, Enter, Leave, Turn, Made, NoRegion}
+use Rattle.marks.specs.declared.fault.FaultKind.{FaultKind}
+use Rattle.marks.specs.Marks.{Mark, Act, EventKind, Load, Store, Enter, Leave, Turn, Fault, Made, Nowhere, NoRegion}
 use Rattle.marks.specs.Marks as marks
+use Rattle.marks.specs.Places.{function_address}
 use Rattle.marks.specs.Ranges.{bytes_of_number}
 use Rattle.memory_map.specs.declared.placed.Place.{Place}
 use Rattle.c_lexer.specs.declared.token.Sign.TheVariants as signs
-use Rattle.c_syntax.specs.Syntax.{Array, Assign, Block, Body, Call, Decl, Entries, Expr, Expression, For, ExprFirst, Index, MoreDecls, MoreEntries, MoreExprs, NoDecls, NoEntries, NoExprs, NoParts, NoRest, OneExpr, Params, Continue, Postfix, Return, Stmt, StmtEntry, Initial, Plain}
+use Rattle.c_syntax.specs.Syntax.{Array, Assign, Block, Body, Call, Decl, Decls, Entries, Expr, Exprs, Expression, For, ExprFirst, Index, MoreDecls, MoreEntries, MoreExprs, NoDecls, NoEntries, NoExprs, NoParts, NoRest, OneExpr, Params, Pointer, Continue, Postfix, Return, Stmt, StmtEntry, Initial, Plain}
+use Rattle.c_syntax.specs.declared.declaration.Base.TheVariants as bases
+use Rattle.c_types_model.specs.Types.{CType, FunctionOf, MoreTypes, NoTypes, PointerTo, Void}
+use Rattle.c_types_rules.specs.TypedTree.{int}
 use Rattle.c_types_rules.specs.Limits.{Outcome, outcome}
 use Rattle.c_types_rules.specs.Limits as limits
 use Rattle.c_types_rules.specs.Sources.{Program}
 use Rattle.c_semantics.specs.Context.{Source}
-use Rattle.c_types_examples.specs.Small.{declaring, int_base, main_giving, name, num, source, two}
+use Rattle.c_types_examples.specs.Small.{call as calling, declaring, int_base, main_giving, name, num, source, two}
 
 -- ---- programs
 
@@ -95,6 +100,60 @@ crossing = laid (declaring int_base (Params 8 (MoreDecls (int_named (codes "n"))
     main_giving (Call 30 (name (codes "more")) (MoreExprs (num 4) NoExprs)) ∷ []) [] (replicate 16 false ++
     true ∷ false ∷ [])
 
+-- int N(PS) { return X; }
+abbrev giving : List ℕ → Decls → Expr → Decl
+giving n ps x = declaring int_base (Params 8 ps NoParts) n (Body (Block 20 (entries (give x ∷ []))))
+
+-- a name in a list of parameters, or a list of arguments, that has no other
+abbrev only_param : Decl → Decls
+only_param d = MoreDecls d NoDecls
+
+abbrev only_argument : Expr → Exprs
+only_argument x = MoreExprs x NoExprs
+
+-- int level; int read(void) { return level; } int main(void) { return read(); }, with `read` in the
+-- interface, and `level` in the memory below the cut
+abbrev pub polling : Source
+polling = laid (int_named (codes "level") ∷ giving (codes "read") NoDecls (name (codes "level")) ∷
+    main_giving (calling (codes "read") NoExprs) ∷ []) (0x50000000 ∷ []) (replicate 16 false ++ true ∷
+    false ∷ [])
+
+-- int twice(int n) { return n + n; } int apply(int (*f)(int n)) { return f(3); }
+-- int main(void) { return apply(twice); }, with `apply` in the interface
+abbrev pub applying : Source
+applying = laid (giving (codes "twice") (only_param (int_named (codes "n")))
+    (two signs.Plus (name (codes "n")) (name (codes "n"))) ∷
+    giving (codes "apply") (only_param (declaring int_base
+    (Params 8 (only_param (int_named (codes "n"))) (Pointer 9 NoParts)) (codes "f") NoRest))
+    (calling (codes "f") (only_argument (num 3))) ∷
+    main_giving (calling (codes "apply") (only_argument (name (codes "twice")))) ∷ []) [] (replicate 16
+    false ++ false ∷ true ∷ false ∷ [])
+
+-- int (*f)(void); int same(int n) { return n; } int main(void) { return f(); }
+abbrev pub pointing : Source
+pointing = laid (declaring int_base (Params 8 NoDecls (Pointer 9 NoParts)) (codes "f") NoRest ∷
+    giving (codes "same") (only_param (int_named (codes "n"))) (name (codes "n")) ∷
+    main_giving (calling (codes "f") NoExprs) ∷ []) (0x10000000 ∷ []) []
+
+-- int d; int main(void) { return 6 / d; }
+abbrev pub dividing : Source
+dividing = laid (int_named (codes "d") ∷ main_giving (two signs.Slash (num 6) (name (codes "d"))) ∷ [])
+    (0x10000000 ∷ []) []
+
+-- int main(void) { r2_free(r2_malloc(4)); return 1; }
+abbrev pub freeing : Source
+freeing = laid (main_of (evaluate (calling (codes "r2_free") (only_argument (calling (codes "r2_malloc")
+    (only_argument (num 4))))) ∷ give (num 1) ∷ []) ∷ []) [] []
+
+-- int work(void *p) { return 5; } int main(void) { return 0; }
+abbrev pub working : Source
+working = laid (giving (codes "work") (only_param (declaring bases.Void (Pointer 9 NoParts) (codes "p")
+    NoRest)) (num 5) ∷ main_giving (num 0) ∷ []) [] []
+
+-- int (void *)
+abbrev pub thread_type : CType
+thread_type = FunctionOf int (MoreTypes (PointerTo Void) NoTypes)
+
 -- ---- marks
 
 abbrev pub mark : Act → Mark
@@ -127,17 +186,70 @@ call f = event (marks.Call f [] [] [] [])
 abbrev pub ret : (func result : ℕ) → Mark
 ret f v = event (marks.Ret f [] v false [] NoRegion)
 
+abbrev pub fault : FaultKind → Mark
+fault kind = mark (Fault kind false [] [] Nowhere)
+
 -- below the cut
-abbrev below : Act → Mark
+abbrev pub below : Act → Mark
 below act = record { thread = 0; side = System; index = 0; act = act }
 
-abbrev frame_below : ℕ
+abbrev pub frame_below : ℕ
 frame_below = 0x60000000
+
+abbrev inner_below : ℕ
+inner_below = 0x60000010
+
+-- a frame below the cut without parameters, and the end of one
+abbrev pub enter_below : ℕ → Mark
+enter_below f = below (Enter f [] frame_below (replicate 16 0))
+
+abbrev pub leave_below : Mark
+leave_below = below (Leave frame_below 16)
 
 -- `main` calls `more`, whose body runs below the cut; its return has these arguments
 abbrev pub crossed : (args : List ℕ) → (result : ℕ) → List Mark
 crossed args v =
     enter 17 ∷ event (marks.Call 16 (4 ∷ []) [] [] [])
     ∷ below (Enter 16 (4 ∷ []) frame_below (bytes_of_number 16 4)) ∷
-    below (Load None frame_below (bytes_of_number 4 4)) ∷ below (Leave frame_below 16)
+    below (Load None frame_below (bytes_of_number 4 4)) ∷ leave_below
     ∷ event (marks.Ret 16 args v false [] NoRegion) ∷ leave ∷ []
+
+-- `read` runs below the cut
+abbrev pub reads : (level : ℕ) → List Mark
+reads v =
+    below (Enter 16 [] inner_below (replicate 16 0)) ∷
+    below (Load (Some 0) 0x50000000 (bytes_of_number 4 v)) ∷ below (Leave inner_below 16) ∷ []
+
+-- `twice` of a number runs on one of the sides
+abbrev doubles : (Act → Mark) → (at value : ℕ) → List Mark
+doubles on at v =
+    on (Enter 16 (v ∷ []) at (bytes_of_number 16 v)) ∷ on (Load None at (bytes_of_number 4 v)) ∷
+    on (Load None at (bytes_of_number 4 v)) ∷ on (Leave at 16) ∷ []
+
+abbrev pub doubles_below : (value : ℕ) → List Mark
+doubles_below v = doubles below inner_below v
+
+-- it is called back, with a result
+abbrev pub called_back : (value result : ℕ) → List Mark
+called_back v r =
+    event (marks.Up 16 (v ∷ [])) ∷ (doubles mark 0x20000010 v ++ event (marks.UpRet 16 r) ∷ [])
+
+-- `main` calls `apply`, which makes these marks where it calls `twice` through its pointer
+abbrev pub applied : List Mark → List Mark
+applied ms =
+    enter 18 ∷ event (marks.Call 17 (function_address 16 ∷ []) [] [] []) ∷
+    below (Enter 17 (function_address 16 ∷ []) frame_below (bytes_of_number 16 (function_address 16))) ∷
+    below (Load None frame_below (bytes_of_number 8 (function_address 16))) ∷
+    (ms ++ leave_below ∷ event (marks.Ret 17 (function_address 16 ∷ []) 6 false [] NoRegion) ∷ leave ∷ [])
+
+-- `main` loads the pointer, and then makes these marks
+abbrev pub jumped : (pointer : ℕ) → List Mark → List Mark
+jumped p ms = enter 17 ∷ mark (Load (Some 0) 0x10000000 (bytes_of_number 8 p)) ∷ ms
+
+-- a builtin or external is met below the cut
+abbrev pub step : (func : ℕ) → (args : List ℕ) → (result : ℕ) → Mark
+step f args v = below (marks.Step f args v [] [] [])
+
+-- `work` runs above the cut
+abbrev pub works : List Mark
+works = mark (Enter 16 (0 ∷ []) frame (replicate 16 0)) ∷ leave ∷ []

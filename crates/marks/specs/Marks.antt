@@ -73,8 +73,14 @@ pub record Mark : Type 0 where
   pub act : Act
 
 abbrev pub is_event : Act → Bool
+is_event Turn = false
+is_event (Load origin at bytes) = false
+is_event (Store origin at bytes) = false
+is_event (Enter func args at bytes) = false
+is_event (Leave at size) = false
+is_event (Step func args result ins pieces freed) = false
+is_event (Fault kind crosses ins outs access) = false
 is_event (Made e) = true
-is_event _ = false
 
 -- the pieces that a commit writes, and those that a log has of it
 abbrev pub released : Commit → List Piece
@@ -89,5 +95,11 @@ logged (Released k p) = p.bytes ∷ []
 
 -- an event stands above the cut, wherever the code stands that makes it
 abbrev pub side_of : Side → Act → Side
+side_of side Turn = side
+side_of side (Load origin at bytes) = side
+side_of side (Store origin at bytes) = side
+side_of side (Enter func args at bytes) = side
+side_of side (Leave at size) = side
+side_of side (Step func args result ins pieces freed) = side
+side_of side (Fault kind crosses ins outs access) = side
 side_of side (Made e) = Replay
-side_of side _ = side

@@ -41,8 +41,14 @@ calls_after (Free at size) cs = cs
 calls_after (Stop fault) cs = cs
 
 abbrev pub act_calls : Act → List OpenCall → List OpenCall
+act_calls Turn cs = cs
+act_calls (Load origin at bytes) cs = cs
+act_calls (Store origin at bytes) cs = cs
+act_calls (Enter func args at bytes) cs = cs
+act_calls (Leave at size) cs = cs
+act_calls (Step func args result ins pieces freed) cs = cs
+act_calls (Fault kind crosses ins outs access) cs = cs
 act_calls (Made e) cs = calls_after e.kind cs
-act_calls _ cs = cs
 
 -- its open Calls
 abbrev pub open_calls : List Mark → List OpenCall
@@ -59,8 +65,14 @@ ups_after (Free at size) fs = fs
 ups_after (Stop fault) fs = fs
 
 abbrev pub act_ups : Act → List ℕ → List ℕ
+act_ups Turn fs = fs
+act_ups (Load origin at bytes) fs = fs
+act_ups (Store origin at bytes) fs = fs
+act_ups (Enter func args at bytes) fs = fs
+act_ups (Leave at size) fs = fs
+act_ups (Step func args result ins pieces freed) fs = fs
+act_ups (Fault kind crosses ins outs access) fs = fs
 act_ups (Made e) fs = ups_after e.kind fs
-act_ups _ fs = fs
 
 -- the functions of its open Ups
 abbrev pub open_ups : List Mark → List ℕ
@@ -68,9 +80,20 @@ open_ups [] = []
 open_ups (m ∷ mine) = act_ups m.act (open_ups mine)
 
 abbrev pub is_stop_event : EventKind → Bool
+is_stop_event (Call func args ins outs prepared) = false
+is_stop_event (Ret func args result same outs commit) = false
+is_stop_event (Up func args) = false
+is_stop_event (UpRet func result) = false
+is_stop_event (Alloc at size) = false
+is_stop_event (Free at size) = false
 is_stop_event (Stop fault) = true
-is_stop_event _ = false
 
 abbrev pub is_stop : Act → Bool
+is_stop Turn = false
+is_stop (Load origin at bytes) = false
+is_stop (Store origin at bytes) = false
+is_stop (Enter func args at bytes) = false
+is_stop (Leave at size) = false
+is_stop (Step func args result ins pieces freed) = false
+is_stop (Fault kind crosses ins outs access) = false
 is_stop (Made e) = is_stop_event e.kind
-is_stop _ = false

@@ -5,7 +5,8 @@ use Rattle.marks.specs.Ranges.{range, are_bytes, number_of_bytes}
 use Rattle.marks.specs.declared.fault.FaultKind.{FaultKind}
 use Rattle.marks.specs.declared.fault.FaultKind.TheVariants.{NotLive, ReadOnly, StackFull}
 use Rattle.marks.specs.Kinds.{fault_number}
-use Rattle.marks.specs.Marks.{Access, Nowhere, Reading, Writing, Freeing, EventKind, Call, Ret, Up, UpRet, Alloc, Free, Act, Turn, Load, Store, Enter, Leave, Step, Fault, Made}
+use Rattle.marks.specs.Cases.{if_call, if_ret, if_up, if_up_ret, if_alloc, if_free, if_turn, if_load, if_store, if_enter, if_leave, if_step}
+use Rattle.marks.specs.Marks.{Access, Nowhere, Reading, Writing, Freeing, EventKind, Act, Turn, Load, Store, Enter, Leave, Step, Fault, Made}
 
 -- indirect: the function comes from a pointer's value, so that its mode is tested
 pub data Want : Type 0 where
@@ -41,38 +42,63 @@ pub data Answer : Type 0 where
 abbrev pub same_numbers : List ℕ → List ℕ → Bool
 same_numbers [] [] = true
 same_numbers (x ∷ xs) (y ∷ ys) = x == y && same_numbers xs ys
-same_numbers _ _ = false
+same_numbers [] (y ∷ ys) = false
+same_numbers (x ∷ xs) [] = false
 
 abbrev pub same_origin : Option ℕ → Option ℕ → Bool
 same_origin None None = true
 same_origin (Some x) (Some y) = x == y
-same_origin _ _ = false
+same_origin None (Some y) = false
+same_origin (Some x) None = false
 
 abbrev pub same_kind : FaultKind → FaultKind → Bool
 same_kind k l = fault_number k == fault_number l
 
 abbrev pub no_ranges : List Range → Bool
 no_ranges [] = true
-no_ranges _ = false
+no_ranges (r ∷ rs) = false
 
 abbrev pub same_access : Access → Access → Bool
 same_access Nowhere Nowhere = true
+same_access Nowhere (Reading q) = false
+same_access Nowhere (Writing q) = false
+same_access Nowhere (Freeing x) = false
+same_access (Reading r) Nowhere = false
 same_access (Reading r) (Reading q) = r.addr == q.addr && r.len == q.len
+same_access (Reading r) (Writing q) = false
+same_access (Reading r) (Freeing x) = false
+same_access (Writing r) Nowhere = false
+same_access (Writing r) (Reading q) = false
 same_access (Writing r) (Writing q) = r.addr == q.addr && r.len == q.len
+same_access (Writing r) (Freeing x) = false
+same_access (Freeing at) Nowhere = false
+same_access (Freeing at) (Reading q) = false
+same_access (Freeing at) (Writing q) = false
 same_access (Freeing at) (Freeing x) = at == x
-same_access _ _ = false
 
 -- the fault that stops one access, or none, of code that crosses nothing
 abbrev pub is_fault_of : FaultKind → Access → Act → Bool
+is_fault_of kind access Turn = false
+is_fault_of kind access (Load origin at bytes) = false
+is_fault_of kind access (Store origin at bytes) = false
+is_fault_of kind access (Enter func args at bytes) = false
+is_fault_of kind access (Leave at size) = false
+is_fault_of kind access (Step func args result ins pieces freed) = false
 is_fault_of kind access (Fault k crosses ins outs a) = same_kind k kind &&
     (not crosses && (no_ranges ins && (no_ranges outs && same_access a access)))
-is_fault_of kind access _ = false
+is_fault_of kind access (Made e) = false
 
 -- a fault at a byte, of code that makes a Call or runs an external
 abbrev pub is_fault_at_byte : Bool → Act → Bool
+is_fault_at_byte crossing Turn = false
+is_fault_at_byte crossing (Load origin at bytes) = false
+is_fault_at_byte crossing (Store origin at bytes) = false
+is_fault_at_byte crossing (Enter func args at bytes) = false
+is_fault_at_byte crossing (Leave at size) = false
+is_fault_at_byte crossing (Step func args result ins pieces freed) = false
 is_fault_at_byte crossing (Fault k crosses ins outs a) = (same_kind k NotLive || same_kind k ReadOnly) &&
     (crosses || not crossing)
-is_fault_at_byte crossing _ = false
+is_fault_at_byte crossing (Made e) = false
 
 abbrev pub answer_if : Bool → Answer → Option Answer
 answer_if b a = if b then Some a else None
@@ -80,49 +106,74 @@ answer_if b a = if b then Some a else None
 abbrev pub stopped_if : Bool → Option Answer
 stopped_if b = answer_if b Stopped
 
+-- what an event answers; none where it doesn't answer what is wanted
 abbrev pub event_answer : Want → EventKind → Option Answer
-event_answer Outside (Up g bs) = Some (CalledBack g bs)
-event_answer (Allocs n) (Alloc at size) = answer_if (size == n) (Value at)
-event_answer (Frees at) (Free x size) = answer_if (x == at) Go
-event_answer (Calls i f args) (Call g bs ins outs prepared) = answer_if (g == f && same_numbers bs args) Go
-event_answer (Below f args) (Ret g bs v same outs commit) =
-    answer_if (g == f && same_numbers bs args) (Value v)
-event_answer (Below f args) (Up g bs) = Some (CalledBack g bs)
-event_answer (Gives f args) (Ret g bs v same outs commit) =
-    answer_if (g == f && same_numbers bs args) (Value v)
-event_answer (Returns f args v) (Ret g bs w same outs commit) =
-    answer_if (g == f && (same_numbers bs args && w == v)) Go
-event_answer (CallsBack f args bytes) (Up g bs) =
-    answer_if (g == f && same_numbers bs args) (CalledBack f args)
-event_answer (UpReturns f v) (UpRet g w) = answer_if (g == f && w == v) Go
-event_answer _ _ = None
+event_answer Outside kind = if_up (λ g bs. Some (CalledBack g bs)) None kind
+event_answer Turns kind = None
+event_answer (Loads origin at width) kind = None
+event_answer (Stores origin at bytes) kind = None
+event_answer (Enters indirect func args bytes) kind = None
+event_answer (Leaves at size) kind = None
+event_answer (Allocs size) kind = if_alloc (λ at n. answer_if (n == size) (Value at)) None kind
+event_answer (Frees at) kind = if_free (λ x size. answer_if (x == at) Go) None kind
+event_answer (Calls indirect func args) kind =
+    if_call (λ g bs. answer_if (g == func && same_numbers bs args) Go) None kind
+event_answer (Below func args) kind =
+    if_ret (λ g bs v. answer_if (g == func && same_numbers bs args) (Value v))
+    (if_up (λ g bs. Some (CalledBack g bs)) None kind) kind
+event_answer (Gives func args) kind =
+    if_ret (λ g bs v. answer_if (g == func && same_numbers bs args) (Value v)) None kind
+event_answer (Returns func args result) kind =
+    if_ret (λ g bs v. answer_if (g == func && (same_numbers bs args && v == result)) Go) None kind
+event_answer (CallsBack func args bytes) kind =
+    if_up (λ g bs. answer_if (g == func && same_numbers bs args) (CalledBack func args)) None kind
+event_answer (UpReturns func result) kind =
+    if_up_ret (λ g v. answer_if (g == func && v == result) Go) None kind
+event_answer (Steps indirect func args) kind = None
+event_answer (Fails fault) kind = None
+
+-- what a mark answers that is no event: what is wanted was done, or a fault came in its place
+abbrev pub plain_answer : Want → Act → Option Answer
+plain_answer Outside act = None
+plain_answer Turns act = if_turn (Some Go) None act
+plain_answer (Loads origin at width) act =
+    if_load (λ o x bytes. answer_if ((same_origin o origin && x == at) &&
+    (length bytes == width && are_bytes bytes)) (Value (number_of_bytes bytes)))
+    (stopped_if (is_fault_of NotLive (Reading (range at width)) act)) act
+plain_answer (Stores origin at bytes) act =
+    if_store (λ o x bs. answer_if (same_origin o origin && (x == at && same_numbers bs bytes)) Go)
+    (stopped_if (is_fault_of NotLive (Writing (range at (length bytes))) act ||
+    is_fault_of ReadOnly (Writing (range at (length bytes))) act)) act
+plain_answer (Enters indirect func args bytes) act =
+    if_enter (λ g bs x b. answer_if (g == func && (same_numbers bs args && same_numbers b bytes)) (Frame x))
+    (stopped_if (is_fault_of StackFull Nowhere act)) act
+plain_answer (Leaves at size) act = if_leave (λ x n. answer_if (x == at && n == size) Go) None act
+plain_answer (Allocs size) act = None
+plain_answer (Frees at) act = stopped_if (not (at == 0) && is_fault_of NotLive (Freeing at) act)
+plain_answer (Calls indirect func args) act = stopped_if (is_fault_at_byte true act)
+plain_answer (Below func args) act = None
+plain_answer (Gives func args) act = None
+plain_answer (Returns func args result) act = None
+plain_answer (CallsBack func args bytes) act =
+    if_enter (λ g bs x b. answer_if (g == func && (same_numbers bs args && same_numbers b bytes)) (Frame x))
+    (stopped_if (is_fault_of StackFull Nowhere act)) act
+plain_answer (UpReturns func result) act = None
+plain_answer (Steps indirect func args) act =
+    if_step (λ g bs v. answer_if (g == func && same_numbers bs args) (Value v))
+    (stopped_if (is_fault_at_byte false act)) act
+plain_answer (Fails kind) act = stopped_if (is_fault_of kind Nowhere act)
 
 -- what the mark answers; none where it doesn't answer what is wanted
 unfoldable pub answer_to : Want → Act → Option Answer
+answer_to want Turn = plain_answer want Turn
+answer_to want (Load origin at bytes) = plain_answer want (Load origin at bytes)
+answer_to want (Store origin at bytes) = plain_answer want (Store origin at bytes)
+answer_to want (Enter func args at bytes) = plain_answer want (Enter func args at bytes)
+answer_to want (Leave at size) = plain_answer want (Leave at size)
+answer_to want (Step func args result ins pieces freed) =
+    plain_answer want (Step func args result ins pieces freed)
+answer_to want (Fault kind crosses ins outs access) = plain_answer want (Fault kind crosses ins outs access)
 answer_to want (Made e) = event_answer want e.kind
-answer_to Turns Turn = Some Go
-answer_to (Loads o at n) (Load p x bytes) = answer_if ((same_origin p o && x == at) &&
-    (length bytes == n && are_bytes bytes)) (Value (number_of_bytes bytes))
-answer_to (Loads o at n) act = stopped_if (is_fault_of NotLive (Reading (range at n)) act)
-answer_to (Stores o at bytes) (Store p x bs) =
-    answer_if (same_origin p o && (x == at && same_numbers bs bytes)) Go
-answer_to (Stores o at bytes) act = stopped_if
-    (is_fault_of NotLive (Writing (range at (length bytes))) act ||
-    is_fault_of ReadOnly (Writing (range at (length bytes))) act)
-answer_to (Enters i f args bytes) (Enter g bs at b) =
-    answer_if (g == f && (same_numbers bs args && same_numbers b bytes)) (Frame at)
-answer_to (Enters i f args bytes) act = stopped_if (is_fault_of StackFull Nowhere act)
-answer_to (Leaves at n) (Leave x size) = answer_if (x == at && size == n) Go
-answer_to (Frees at) act = stopped_if (not (at == 0) && is_fault_of NotLive (Freeing at) act)
-answer_to (Calls i f args) act = stopped_if (is_fault_at_byte true act)
-answer_to (CallsBack f args bytes) (Enter g bs at b) =
-    answer_if (g == f && (same_numbers bs args && same_numbers b bytes)) (Frame at)
-answer_to (CallsBack f args bytes) act = stopped_if (is_fault_of StackFull Nowhere act)
-answer_to (Steps i f args) (Step g bs v ins pieces freed) =
-    answer_if (g == f && same_numbers bs args) (Value v)
-answer_to (Steps i f args) act = stopped_if (is_fault_at_byte false act)
-answer_to (Fails kind) act = stopped_if (is_fault_of kind Nowhere act)
-answer_to _ _ = None
 
 -- what code above the cut may want. It comes to a Step through a pointer to an external that isn't of the
 -- interface, and

@@ -6,11 +6,11 @@ use Rattle.run_events.specs.declared.key.Class.TheVariants.{Mutex, User, Callbac
 use Rattle.run_events.specs.declared.key.Key.{Key}
 use Rattle.marks.specs.declared.side.Side.TheVariants.{Replay, System}
 use Rattle.marks.specs.declared.fault.FaultKind.{FaultKind}
-use Rattle.marks.specs.declared.fault.FaultKind.TheVariants.{NotLive, ReadOnly}
+use Rattle.marks.specs.declared.fault.FaultKind.TheVariants.{Divide, Shift, NotLive, ReadOnly, StackFull, BadCall}
 use Rattle.marks.specs.Places.{thread_count, replay_pool, is_constant, is_system}
 use Rattle.marks.specs.declared.range.Range.{Range}
 use Rattle.marks.specs.Ranges.{Piece, Prepared, covers, any_range, are_bytes, piece_ranges, piece_bytes, prepared_ranges}
-use Rattle.marks.specs.Marks.{EventKind, Call, Ret, Up, UpRet, Alloc, Free, Stop, Act, Turn, Load, Store, Enter, Leave, Step, Fault, Made, Mark, Access, Reading, Writing, Commit, NoRegion, Withheld, Released, logged}
+use Rattle.marks.specs.Marks.{EventKind, Call, Ret, Up, UpRet, Alloc, Free, Stop, Act, Turn, Load, Store, Enter, Leave, Step, Fault, Made, Mark, Access, Nowhere, Reading, Writing, Freeing, Commit, NoRegion, Withheld, Released, logged}
 use Rattle.marks.specs.Bytes.{writes, touches}
 use Rattle.marks.specs.Wants.{Want, Outside, Turns, Loads, Stores, Enters, Leaves, Allocs, Frees, Calls, Below, Gives, Returns, CallsBack, UpReturns, Steps, Fails, answer_to, is_above, is_below}
 use Rattle.replay_runs.specs.Runs.{Link, OfThread, OfKey, Start, Rules}
@@ -72,7 +72,8 @@ IsUsed n p = (length p.bytes ≡ n) × (n ≤ p.range.len) × (are_bytes p.bytes
 abbrev pub AreUsed : List ℕ → List Piece → Type 0
 AreUsed [] [] = Unit {0}
 AreUsed (n ∷ ns) (p ∷ ps) = IsUsed n p × AreUsed ns ps
-AreUsed _ _ = ⊥
+AreUsed [] (p ∷ ps) = ⊥
+AreUsed (n ∷ ns) [] = ⊥
 
 -- the region of a NULL pointer has no bytes
 abbrev pub CommitsUsed : ℕ → Option ℕ → Commit → Type 0
@@ -131,34 +132,76 @@ pub data StopsCall (ins outs : List Range) : FaultKind → List Range → List R
   AtConstant : (before after : List Range) (r : Range) → outs ≡ before ++ (r ∷ after) →
       Apart (r ∷ before) → SomeConstant r → StopsCall ins outs ReadOnly ins before (Writing r)
 
--- what a mark carries besides what the code wants: frames lie at the least free place, a fault comes where
--- it must
-abbrev pub Carries : Interface → Start → ℕ → List Mark → Want → Act → Type 0
-Carries i s t mine want (Made e) = EventCarries i s t mine e.kind
-Carries i s t mine Outside act = Unit {0}
-Carries i s t mine Turns act = Unit {0}
-Carries i s t mine (Loads origin at width) act = Unit {0}
-Carries i s t mine (Stores origin at bytes) (Fault ReadOnly crosses ins outs (Writing r)) = SomeConstant r
-Carries i s t mine (Stores origin at bytes) act = Unit {0}
-Carries i s t mine (Enters indirect func args bytes) (Enter f vs at b) = (at ≡ frame_place t mine) ×
+-- where the code enters a function, its frame lies at the least free place, and has room there
+abbrev pub EnterCarries : ℕ → List Mark → Want → ℕ → Type 0
+EnterCarries t mine Outside place = Unit {0}
+EnterCarries t mine Turns place = Unit {0}
+EnterCarries t mine (Loads origin at width) place = Unit {0}
+EnterCarries t mine (Stores origin at bytes) place = Unit {0}
+EnterCarries t mine (Enters indirect func args bytes) place = (place ≡ frame_place t mine) ×
     HasRoom t mine (length bytes)
-Carries i s t mine (Enters indirect func args bytes) (Fault kind crosses ins outs access) =
+EnterCarries t mine (Leaves at size) place = Unit {0}
+EnterCarries t mine (Allocs size) place = Unit {0}
+EnterCarries t mine (Frees at) place = Unit {0}
+EnterCarries t mine (Calls indirect func args) place = Unit {0}
+EnterCarries t mine (Below func args) place = Unit {0}
+EnterCarries t mine (Gives func args) place = Unit {0}
+EnterCarries t mine (Returns func args result) place = Unit {0}
+EnterCarries t mine (CallsBack func args bytes) place = Unit {0}
+EnterCarries t mine (UpReturns func result) place = Unit {0}
+EnterCarries t mine (Steps indirect func args) place = Unit {0}
+EnterCarries t mine (Fails kind) place = Unit {0}
+
+-- a write is one of a constant
+abbrev pub WritesConstant : Access → Type 0
+WritesConstant Nowhere = Unit {0}
+WritesConstant (Reading r) = Unit {0}
+WritesConstant (Writing r) = SomeConstant r
+WritesConstant (Freeing at) = Unit {0}
+
+-- a store meets a fault that says that what it writes is read only at a constant alone
+abbrev pub StoreFails : FaultKind → Access → Type 0
+StoreFails Divide access = Unit {0}
+StoreFails Shift access = Unit {0}
+StoreFails NotLive access = Unit {0}
+StoreFails ReadOnly access = WritesConstant access
+StoreFails StackFull access = Unit {0}
+StoreFails BadCall access = Unit {0}
+
+-- a fault comes where it must: in place of a store, of a frame that has no room, or of a Call
+abbrev pub FaultCarries : Interface → ℕ → List Mark → Want → FaultKind → List Range → List Range → Access →
+    Type 0
+FaultCarries i t mine Outside kind ins outs access = Unit {0}
+FaultCarries i t mine Turns kind ins outs access = Unit {0}
+FaultCarries i t mine (Loads origin at width) kind ins outs access = Unit {0}
+FaultCarries i t mine (Stores origin at bytes) kind ins outs access = StoreFails kind access
+FaultCarries i t mine (Enters indirect func args bytes) kind ins outs access =
     HasRoom t mine (length bytes) → ⊥
-Carries i s t mine (Enters indirect func args bytes) act = Unit {0}
-Carries i s t mine (Leaves at size) act = Unit {0}
-Carries i s t mine (Allocs size) act = Unit {0}
-Carries i s t mine (Frees at) act = Unit {0}
-Carries i s t mine (Calls indirect func args) (Fault kind crosses ins outs access) =
+FaultCarries i t mine (Leaves at size) kind ins outs access = Unit {0}
+FaultCarries i t mine (Allocs size) kind ins outs access = Unit {0}
+FaultCarries i t mine (Frees at) kind ins outs access = Unit {0}
+FaultCarries i t mine (Calls indirect func args) kind ins outs access =
     StopsCall (i.ins func args) (i.outs func args ++ prepared_ranges (i.prepares func args)) kind ins outs
     access
-Carries i s t mine (Calls indirect func args) act = Unit {0}
-Carries i s t mine (Below func args) act = Unit {0}
-Carries i s t mine (Gives func args) act = Unit {0}
-Carries i s t mine (Returns func args result) act = Unit {0}
-Carries i s t mine (CallsBack func args bytes) act = Unit {0}
-Carries i s t mine (UpReturns func result) act = Unit {0}
-Carries i s t mine (Steps indirect func args) act = Unit {0}
-Carries i s t mine (Fails kind) act = Unit {0}
+FaultCarries i t mine (Below func args) kind ins outs access = Unit {0}
+FaultCarries i t mine (Gives func args) kind ins outs access = Unit {0}
+FaultCarries i t mine (Returns func args result) kind ins outs access = Unit {0}
+FaultCarries i t mine (CallsBack func args bytes) kind ins outs access = Unit {0}
+FaultCarries i t mine (UpReturns func result) kind ins outs access = Unit {0}
+FaultCarries i t mine (Steps indirect func args) kind ins outs access = Unit {0}
+FaultCarries i t mine (Fails wanted) kind ins outs access = Unit {0}
+
+-- what a mark carries besides what the code wants
+abbrev pub Carries : Interface → Start → ℕ → List Mark → Want → Act → Type 0
+Carries i s t mine want Turn = Unit {0}
+Carries i s t mine want (Load origin at bytes) = Unit {0}
+Carries i s t mine want (Store origin at bytes) = Unit {0}
+Carries i s t mine want (Enter func args at bytes) = EnterCarries t mine want at
+Carries i s t mine want (Leave at size) = Unit {0}
+Carries i s t mine want (Step func args result ins pieces freed) = Unit {0}
+Carries i s t mine want (Fault kind crosses ins outs access) =
+    FaultCarries i t mine want kind ins outs access
+Carries i s t mine want (Made e) = EventCarries i s t mine e.kind
 
 -- the keys of an event, each once and in order
 abbrev pub HasKeys : Interface → ℕ → List Mark → Act → Type 0

@@ -5,7 +5,7 @@ use Rattle.marks.specs.declared.side.Side.TheVariants.{Replay}
 use Rattle.marks.specs.Places.{thread_count, stack, stack_size, replay_stacks, replay_pool, replay_end, pool_size}
 use Rattle.marks.specs.declared.range.Range.{Range}
 use Rattle.marks.specs.Ranges.{range, covers, any_range}
-use Rattle.marks.specs.Marks.{EventKind, Ret, Alloc, Act, Enter, Leave, Made, Mark}
+use Rattle.marks.specs.Marks.{EventKind, Call, Ret, Up, UpRet, Alloc, Free, Stop, Act, Turn, Load, Store, Enter, Leave, Step, Fault, Made, Mark}
 use Rattle.marks.specs.Bytes.{Byte, Dead, IsHeld, touches, place}
 use Rattle.marks.specs.Wants.{Leaves}
 use Rattle.replay_runs.specs.Runs.{Link, OfThread, OfKey, In, Start, Allowed, Run, RaceFree, fault_count, marks_of, byte}
@@ -62,9 +62,15 @@ pub record BytesAreKnown (s : Start) (past : List Mark) (x : ℕ) : Type 0 where
 
 -- a thread leaves its innermost frame
 abbrev pub LeavesFirst : Act → List Range → Type 0
+LeavesFirst Turn fs = Unit {0}
+LeavesFirst (Load origin at bytes) fs = Unit {0}
+LeavesFirst (Store origin at bytes) fs = Unit {0}
+LeavesFirst (Enter func args at bytes) fs = Unit {0}
 LeavesFirst (Leave at size) [] = ⊥
 LeavesFirst (Leave at size) (f ∷ fs) = (at ≡ f.addr) × (size ≡ f.len)
-LeavesFirst _ fs = Unit {0}
+LeavesFirst (Step func args result ins pieces freed) fs = Unit {0}
+LeavesFirst (Fault kind crosses ins outs access) fs = Unit {0}
+LeavesFirst (Made e) fs = Unit {0}
 
 abbrev pub FramesEndInOrder : Start → List Mark → Type 0
 FramesEndInOrder s [] = Unit {0}
@@ -147,15 +153,24 @@ abbrev pub UnseenBytesAreKnown : Program → Start → Type 0
 UnseenBytesAreKnown program s = (run : List Mark) → Calm program s run → (x : ℕ) → BytesAreKnown s run x
 
 abbrev pub IsNewOrBack : EventKind → Type 0
-IsNewOrBack (Alloc at size) = Unit {0}
+IsNewOrBack (Call func args ins outs prepared) = ⊥
 IsNewOrBack (Ret func args result same outs commit) = Unit {0}
-IsNewOrBack _ = ⊥
+IsNewOrBack (Up func args) = ⊥
+IsNewOrBack (UpRet func result) = ⊥
+IsNewOrBack (Alloc at size) = Unit {0}
+IsNewOrBack (Free at size) = ⊥
+IsNewOrBack (Stop fault) = ⊥
 
 -- it enters a frame, has a new block, or gives back what a call holds
 abbrev pub TakesUnseen : Act → Type 0
+TakesUnseen Turn = ⊥
+TakesUnseen (Load origin at bytes) = ⊥
+TakesUnseen (Store origin at bytes) = ⊥
 TakesUnseen (Enter func args at bytes) = Unit {0}
+TakesUnseen (Leave at size) = ⊥
+TakesUnseen (Step func args result ins pieces freed) = ⊥
+TakesUnseen (Fault kind crosses ins outs access) = ⊥
 TakesUnseen (Made e) = IsNewOrBack e.kind
-TakesUnseen _ = ⊥
 
 -- so a frame, a new block and a return race with nothing, by the rules alone
 abbrev pub UnseenBytesRaceWithNothing : Program → Start → Type 0
