@@ -19,3 +19,4 @@ pub mod KnownExpressions
 pub mod KnownBodies
 pub mod KnownPrograms
 pub mod Pushed
+pub mod Under
