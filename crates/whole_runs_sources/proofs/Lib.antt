@@ -20,3 +20,4 @@ pub mod KnownBodies
 pub mod KnownPrograms
 pub mod Pushed
 pub mod Under
+pub mod Few
