@@ -1,19 +1,17 @@
 -- A system file that is read for an accepted source fits it.
-use Rattle.std.proofs.Common.{◌≡◌, ◌≤◌, ◌<◌, ◌^◌, ℕ, zero, suc, ◌+◌, ◌-◌, Bool, true, false, cond, ◌&&◌, List, [], ◌∷◌, ◌++◌, length, map, Option, Some, None, Ok, refl, sym, ap, ◌∙◌, subst, arith}
-use Rattle.std.specs.Prelude.{if◌then◌else◌, is_none, is_some, leb, ltb, slice_get}
-use Rattle.std.specs.List.{All, AllByRecursion, Contains}
+use Rattle.std.proofs.Common.{◌≡◌, ◌≤◌, ◌<◌, ℕ, zero, suc, ◌+◌, ◌-◌, Bool, true, false, cond, ◌&&◌, List, [], ◌∷◌, ◌++◌, length, Option, Some, None, refl, sym, ap, ◌∙◌, subst, arith}
+use Rattle.std.specs.Prelude.{is_none, is_some, ltb, slice_get}
+use Rattle.std.specs.List.{AllByRecursion}
 use Rattle.std.specs.Option.{option_and_then, option_map, option_map_or}
 use Rattle.std.specs.Str.{bytes_eq}
 use Rattle.std.proofs.lemmas.Bool.{le-leb, le-ltb, lt-ltb}
 use Rattle.std.proofs.lemmas.List.Elements.{All-contains, All-from_recursion}
 use Rattle.std.proofs.lemmas.Option.{same_Some, slice_get_within}
-use Rattle.marks.specs.Places.{builtin_count}
 use Rattle.marks.specs.declared.side.Side.TheVariants.{System}
-use Rattle.memory_map.specs.declared.placed.Placed.{Placed}
 use Rattle.c_builtins.specs.Table.{first_source_function}
 use Rattle.c_code.specs.declared.code.FuncInfo.{FuncInfo}
-use Rattle.c_code.specs.Machine.{Flat, Laid, func_of}
-use Rattle.c_code.specs.MarkLists.{result_of, result_shape}
+use Rattle.c_code.specs.Machine.{Flat, func_of}
+use Rattle.c_code.specs.MarkLists.{result_shape}
 use Rattle.c_code.specs.Values.{is_value}
 use Rattle.c_types_table.specs.declared.ty.Ty.{Ty}
 use Rattle.c_types_table.specs.Tables.{type_at}
@@ -30,7 +28,6 @@ use Rattle.annot_reader.specs.Builtins.{annots_of}
 use Rattle.annot_reader.specs.Interface.{Interface}
 use Rattle.annot_reader.specs.Interfaces.{IsRead as IsInterfaceOf, SaysOf, annots_at, declared_at, face_of, notes_at}
 use Rattle.system_side.specs.declared.file.Scripted.{Scripted}
-use Rattle.system_side.specs.declared.file.SysFile.{SysFile}
 use Rattle.sys_script_lines.specs.declared.externals.External.{External}
 use Rattle.sys_script_lines.specs.Externals.{external_named}
 use Rattle.sys_script_lines.specs.Fits as lines
@@ -44,7 +41,7 @@ use Rattle.stub_operations.specs.Stubs.{Stubs, added_at, below_at, or_none}
 use Rattle.stub_meaning.specs.Calls.{Called, done}
 use Rattle.stub_meaning.specs.Meaning.{called, first_of}
 use Rattle.call_operations.specs.Said.{call_says}
-use Rattle.call_operations.specs.Sets.{AreStubs, below_of, builtin_at, has_no_body, is_external, is_function, operations_in, stubs_of}
+use Rattle.call_operations.specs.Sets.{AreStubs, builtin_at, has_no_body, is_external, is_function, operations_in, stubs_of}
 use Rattle.front_end.specs.declared.source.CheckedSource.{CheckedSource}
 use Rattle.front_end_laws.proofs.Whole.{params_few}
 use Rattle.whole_runs.specs.World.{World, interface_on, stubs_below}

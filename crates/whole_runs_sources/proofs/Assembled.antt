@@ -1,6 +1,5 @@
 -- The world of an accepted source is fit, part by part.
 use Rattle.std.proofs.Common.{◌≡◌, ℕ, List, sym, subst}
-use Rattle.memory_map.specs.declared.placed.Placed.{Placed}
 use Rattle.c_code.specs.Machine.{Flat, Laid, is_face}
 use Rattle.stub_operations.specs.declared.purpose.Purpose.TheVariants.{Record}
 use Rattle.stub_meaning.specs.Fits as stubs

@@ -1,5 +1,5 @@
 -- What the code of an accepted source calls by name, the source mentions.
-use Rattle.std.proofs.Common.{◌≡◌, ◌≤◌, ◌<◌, ℕ, zero, suc, ◌+◌, ◌-◌, Bool, true, false, cond, List, [], ◌∷◌, ◌++◌, length, map, Option, Some, None, refl, sym, ap, ◌∙◌, subst, arith}
+use Rattle.std.proofs.Common.{◌≡◌, ◌≤◌, ◌<◌, ℕ, zero, suc, ◌+◌, ◌-◌, Bool, false, cond, List, [], ◌∷◌, length, map, Option, Some, None, refl, sym, ap, ◌∙◌, subst, arith}
 use Rattle.std.specs.Prelude.{nat_lt, slice_get}
 use Rattle.std.specs.List.{AllByRecursion, Contains}
 use Rattle.std.specs.Option.{option_map}
@@ -8,14 +8,13 @@ use Rattle.std.proofs.lemmas.List.Elements.{All-contains, All-contains_itself, A
 use Rattle.std.proofs.lemmas.Option.{same_Some, slice_get-map}
 use Rattle.memory_map.specs.declared.placed.Placed.{Placed}
 use Rattle.c_builtins.specs.Table.{first_source_function}
-use Rattle.c_code.specs.declared.code.FuncInfo.{FuncInfo}
 use Rattle.c_code.specs.declared.instr.Instr.{Instr}
 use Rattle.c_code.specs.declared.instr.Instr.TheVariants as instr
 use Rattle.c_code.specs.Machine.{Laid, entry, entry_of, func_of}
 use Rattle.c_types_rules.specs.TypedTree as typed
 use Rattle.c_types_rules.specs.Sources as sources
 use Rattle.c_types_rules.specs.Sources.{Program}
-use Rattle.c_semantics.specs.Context.{Source, body_of, local_offsets}
+use Rattle.c_semantics.specs.Context.{body_of, local_offsets}
 use Rattle.c_lower_rules.specs.Code.{Lies, body_code, statement_code}
 use Rattle.c_types_program.specs.declared.function.Body.{Body}
 use Rattle.c_types_program.specs.declared.function.Function.{Function}
@@ -25,7 +24,7 @@ use Rattle.c_lower_layout.specs.Sources.{source_in}
 use Rattle.c_lower_bodies.specs.Making.{making, setting}
 use Rattle.c_lower.specs.Lowered.{code_of, codes_of, entry_at, info_of, locals_of, lowered}
 use Rattle.c_lower.specs.Named.{Among, FunctionName, Name, instr_names, statement_names}
-use Rattle.c_lower.proofs.Emitted.{Found, body_found, known, others, source}
+use Rattle.c_lower.proofs.Emitted.{body_found, known, others, source}
 use Rattle.c_lower.proofs.Laid.{lies_at, start}
 use Rattle.c_lower.proofs.Naming.{Fine, all_get, body_fine}
 use Rattle.cut_graph_rules.specs.declared.mention.Mention.{Mention}

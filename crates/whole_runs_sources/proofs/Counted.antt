@@ -1,9 +1,8 @@
 -- How many regions and releases operations have, whatever a call's arguments.
-use Rattle.std.proofs.Common.{◌≡◌, ◌≤◌, ℕ, zero, suc, ◌+◌, Bool, true, false, cond, List, [], ◌∷◌, ◌++◌, length, length-append, map, take, Option, Some, None, refl, sym, ap, ◌∙◌, arith}
+use Rattle.std.proofs.Common.{◌≡◌, ◌≤◌, ℕ, ◌+◌, Bool, true, false, cond, List, [], ◌∷◌, ◌++◌, length, length-append, map, Option, Some, None, refl, ap, ◌∙◌, arith}
 use Rattle.std.specs.Prelude.{count_by, is_some}
 use Rattle.std.proofs.lemmas.List.{take_all}
 use Rattle.std.proofs.lemmas.List.Recursion.{is_count_by}
-use Rattle.marks.specs.declared.range.Range.{Range}
 use Rattle.run_events.specs.declared.key.Class.{Class}
 use Rattle.run_events.specs.declared.key.Class.TheVariants.{User, Async}
 use Rattle.c_code.specs.Machine.{Flat}

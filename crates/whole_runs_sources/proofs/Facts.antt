@@ -1,5 +1,5 @@
 -- What is known of an accepted source whose objects are placed.
-use Rattle.std.proofs.Common.{◌≡◌, ◌≤◌, ℕ, zero, suc, Bool, true, false, List, [], ◌∷◌, length, map, Option, Some, None, refl, sym, ap, ◌∙◌, subst, arith}
+use Rattle.std.proofs.Common.{◌≡◌, ◌≤◌, ℕ, zero, suc, Bool, true, false, List, [], ◌∷◌, map, Option, Some, None, refl, sym, ap, ◌∙◌}
 use Rattle.std.specs.Prelude.{if◌then◌else◌, nat_lt, slice_get}
 use Rattle.std.specs.Option.{option_map}
 use Rattle.std.proofs.lemmas.Bool.{ltb-false}
@@ -7,16 +7,14 @@ use Rattle.std.proofs.lemmas.Option.{same_Some}
 use Rattle.memory_map.specs.declared.placed.Placed.{Placed}
 use Rattle.c_lexer.specs.declared.token.Token.{Token}
 use Rattle.c_syntax.specs.Syntax.{Decls}
-use Rattle.c_lower.specs.Depths.{first_wide, functions_in, most_nodes}
+use Rattle.c_lower.specs.Depths.{first_wide, most_nodes}
 use Rattle.c_types_rules.specs.Checked.{Checked, Fine, Noted, Broken}
 use Rattle.c_types_rules.specs.Limits as typing
 use Rattle.c_types_rules.specs.Limits.{Outcome, Typed, outcome}
-use Rattle.c_types_rules.specs.Sources as sources
 use Rattle.c_types_rules.specs.Sources.{Program}
 use Rattle.annot_reader_rules.specs.Cuts.{annotations, is_named}
 use Rattle.annot_reader_rules.specs.Notes.{Annotated}
 use Rattle.front_end.specs.declared.source.CheckedSource.{CheckedSource}
-use Rattle.front_end.specs.declared.error.SourceError.{SourceError}
 use Rattle.front_end.specs.declared.error.SourceError.TheVariants.{Limit}
 use Rattle.front_end.specs.declared.error.SourceLimit.TheVariants.{Nodes, Values}
 use Rattle.front_end.specs.Answers.{IsCode, SaysOf}

@@ -1,5 +1,5 @@
 -- The code of an accepted source is fit.
-use Rattle.std.proofs.Common.{◌≡◌, ◌≤◌, ◌<◌, ◌*◌, ◌^◌, ℕ, List, [], length, map, Option, Some, None, refl, sym, ap, ◌∙◌, subst, arith}
+use Rattle.std.proofs.Common.{◌≡◌, ◌≤◌, ◌<◌, ◌*◌, ◌^◌, ℕ, List, [], length, map, None, refl, sym, ap, ◌∙◌, subst, arith}
 use Rattle.memory_map.specs.declared.placed.Placed.{Placed}
 use Rattle.c_syntax.specs.Syntax.{Decls}
 use Rattle.c_code.specs.Machine.{Flat}
@@ -21,7 +21,7 @@ use Rattle.c_lower_layout.specs.Sources.{source_in}
 use Rattle.c_lower_sizes.specs.Sizes.{body_size, functions_size, most_per_node}
 use Rattle.c_lower_laws.specs.Fits.{IsFit}
 use Rattle.c_lower.specs.Depths.{first_wide, functions_in}
-use Rattle.c_lower.specs.Lowered.{builtin_info, codes_of, infos_from, lowered}
+use Rattle.c_lower.specs.Lowered.{builtin_info, codes_of, infos_from}
 use Rattle.c_lower.proofs.Short.{codes_short}
 use Rattle.c_lower.proofs.Valid.{valid_made}
 use Rattle.front_end.specs.declared.source.CheckedSource.{CheckedSource}

@@ -1,5 +1,5 @@
 -- Each function that code calls by name has flags.
-use Rattle.std.proofs.Common.{◌≡◌, ◌≤◌, ◌<◌, ℕ, ◌+◌, ◌-◌, ◌^◌, Bool, true, false, cond, List, length, map, Option, Some, None, refl, sym, ap, ◌∙◌, subst, arith}
+use Rattle.std.proofs.Common.{◌≡◌, ◌≤◌, ◌<◌, ℕ, ◌+◌, ◌-◌, Bool, true, false, cond, List, length, Some, refl, ap, ◌∙◌, arith}
 use Rattle.std.specs.Prelude.{ltb, slice_get}
 use Rattle.std.proofs.lemmas.Bool.{ltb-false, ltb-true}
 use Rattle.std.proofs.lemmas.Option.{slice_get_within}
@@ -9,9 +9,6 @@ use Rattle.c_code.specs.declared.code.FuncInfo.{FuncInfo}
 use Rattle.c_code.specs.declared.instr.Instr.TheVariants as instr
 use Rattle.c_code.specs.Machine.{Flat, func_of}
 use Rattle.c_code.specs.Valid.{IsValid}
-use Rattle.c_types_program.specs.Declarations.{Declared}
-use Rattle.c_types_rules.specs.Sources.{Program}
-use Rattle.c_lower.specs.Lowered.{lowered}
 use Rattle.c_lower.proofs.Laid.{infos_counted}
 use Rattle.cut_check.proofs.MainPlace.{function_count}
 use Rattle.front_end.specs.declared.source.CheckedSource.{CheckedSource}

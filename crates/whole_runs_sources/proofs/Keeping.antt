@@ -3,28 +3,23 @@ use Rattle.std.proofs.Common.{◌≡◌, ◌≤◌, ◌<◌, ℕ, zero, suc, ◌
 use Rattle.std.specs.Prelude.{is_some, nat_lt, slice_get}
 use Rattle.std.specs.List.{Contains}
 use Rattle.std.specs.Option.{option_map}
-use Rattle.std.proofs.lemmas.Bool.{le-ltb, ltb-false}
+use Rattle.std.proofs.lemmas.Bool.{ltb-false}
 use Rattle.std.proofs.lemmas.List.{length-map}
-use Rattle.std.proofs.lemmas.Option.{slice_get-map, slice_get_within}
+use Rattle.std.proofs.lemmas.Option.{slice_get-map}
 use Rattle.marks.specs.declared.side.Side.{Side}
 use Rattle.marks.specs.declared.side.Side.TheVariants.{Replay, System}
-use Rattle.marks.specs.Places.{builtin_count}
 use Rattle.memory_map.specs.declared.placed.Placed.{Placed}
-use Rattle.c_builtins.specs.Table.{first_source_function, number_of, in_interface}
-use Rattle.c_code.specs.Machine.{Flat, Laid, entry, entry_of, is_face, is_true}
+use Rattle.c_builtins.specs.Table.{first_source_function, number_of}
+use Rattle.c_code.specs.Machine.{Flat, entry, entry_of, is_true}
 use Rattle.c_code.specs.MarkLists.{has_entry}
 use Rattle.c_code.specs.Valid.{IsValid}
-use Rattle.c_semantics.specs.Context as context
 use Rattle.c_types_rules.specs.Sources as sources
 use Rattle.c_types_rules.specs.Sources.{Program}
 use Rattle.c_types_rules.specs.TypedTree as typed
-use Rattle.c_types_program.specs.Declarations.{Declared, body_in, function_in}
-use Rattle.c_types_program.specs.declared.function.Body.{Body}
-use Rattle.c_lower.specs.Lowered.{entry_at, lowered}
+use Rattle.c_types_program.specs.Declarations.{Declared, function_in}
+use Rattle.c_lower.specs.Lowered.{lowered}
 use Rattle.c_lower.proofs.Emitted.{known}
 use Rattle.c_lower.proofs.Laid.{start}
-use Rattle.annot_reader_rules.specs.Notes.{Annotated}
-use Rattle.annot_reader.specs.Interfaces as interfaces
 use Rattle.cut_graph_rules.specs.declared.mention.Mention.{Mention}
 use Rattle.cut_graph_rules.specs.Findings as cuts
 use Rattle.cut_graph_rules.specs.Findings.{AreFindings, Cut, Finding, IsFinding, May, is_above}
@@ -48,7 +43,7 @@ use Rattle.whole_runs_sources.proofs.Functions.{called_below}
 use Rattle.whole_runs_sources.proofs.Main.{flag_true, has_body, main_below}
 use Rattle.whole_runs_sources.proofs.MainOutside.{main_outside}
 
-none_accepted : (c : Cut) → AreFindings c [] → cuts.IsAccepted c
+pub none_accepted : (c : Cut) → AreFindings c [] → cuts.IsAccepted c
 none_accepted c are x f = let none = (are.exact x).1 f in absurd (omega (arith, none.1))
 
 flagged : (p : Program) (P : ℕ → Type 0) (flags : List Bool) → AreFlags p P flags → (f : ℕ) → is_true (slice_get flags f) ≡ true → P f
@@ -168,8 +163,8 @@ module _ (bytes cut : List ℕ) (c : CheckedSource) (q : Placed) (h : IsPlacedAs
   not_found f g m n source outside x at None e =
       let caller = names_something p g f n in
       absurd (accepted _ (is_above {e = f} {f = g} {name = x.name} {caller = caller.function.name}
-          (record { function = x; of_source = source; declared = at; named = refl; without_body = e }) outside m n
-          (record { function = caller.function; of_source = caller.of_source; declared = caller.declared; named = refl })))
+      (record { function = x; of_source = source; declared = at; named = refl; without_body = e }) outside m n
+      (record { function = caller.function; of_source = caller.of_source; declared = caller.declared; named = refl })))
 
   body_above : (f : ℕ) → May mine Replay f → first_source_function ≤ f → HasBody f
   body_above f m source = by Replay f m refl source

@@ -14,7 +14,6 @@ use Rattle.c_types_rules.specs.TypedTree.{Value, MaybeValue, NoValue, OneValue, 
 use Rattle.c_types_rules.specs.TypedTree as typed
 use Rattle.c_types_rules.specs.Statements.{Declared, Surroundings, condition_in, entries, entry, evaluated, first, first_value, inside, local, locals_of, looping, maybe_condition, maybe_in, outside, returned, statement, value_in}
 use Rattle.c_types_rules.specs.Sources.{block_of, body_of, listed, nearest, parameter, parameters, params_of, result_of, block_body}
-
 use Rattle.c_lower_laws.proofs.Held.{Holds, holds_heard, holds_then, holds_on, holds_after, holds_kept}
 use Rattle.c_lower.specs.Named.{maybe_names, statement_names, statements_names}
 use Rattle.whole_runs_sources.proofs.Strings.{HasDecl, HasDecls, HasEntries, HasEntry, HasExpr, HasFirst, HasMaybe, HasRest, HasStmt}

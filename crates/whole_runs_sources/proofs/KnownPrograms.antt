@@ -1,11 +1,10 @@
 -- The functions of a typed source name globals that it declares and strings that stand in it.
-use Rattle.std.proofs.Common.{◌≡◌, ◌⊎◌, inl, inr, ℕ, zero, suc, ◌+◌, ◌-◌, ◌<◌, ◌≤◌, Bool, true, false, cond, List, [], ◌∷◌, ◌++◌, length, length-append, Option, Some, None, refl, sym, ap, ◌∙◌, subst, arith, ⊎_elim}
+use Rattle.std.proofs.Common.{◌≡◌, ◌⊎◌, inl, inr, ℕ, zero, suc, ◌+◌, ◌-◌, ◌<◌, Bool, true, false, cond, List, [], ◌∷◌, ◌++◌, length, length-append, Option, Some, None, sym, ap, ◌∙◌, subst, arith, ⊎_elim}
 use Rattle.std.specs.Prelude.{slice_get, nat_le, not, is_some}
-use Rattle.std.specs.List.{AllByRecursion}
 use Rattle.std.proofs.lemmas.Option.{same_Some}
 use Rattle.c_syntax.specs.declared.declaration.Base.{Base}
 use Rattle.c_syntax.specs.declared.declaration.Base.TheVariants as bases
-use Rattle.c_syntax.specs.Syntax.{Decl, Decls, Annots, Parts, Rest, Stmt, Declare, NoDecls, MoreDecls, NoRest, Initial, Body, Members}
+use Rattle.c_syntax.specs.Syntax.{Decl, Decls, Annots, Parts, Rest, Declare, NoDecls, MoreDecls, NoRest, Initial, Body, Members}
 use Rattle.c_builtins.specs.Table.{first_source_function}
 use Rattle.c_scopes.specs.Scopes.{same_name, meaning_in}
 use Rattle.c_types_model.specs.Layouts.{struct_of}
@@ -14,14 +13,14 @@ use Rattle.c_types_model.specs.Types.{CType, Void, Integer, PointerTo, ArrayOf, 
 use Rattle.c_types_model.specs.declared.extent.Extent.{Extent}
 use Rattle.c_types_rules.specs.Checked.{Checked, Fine as Right, Noted, Broken, heard, keep, small, ◌>>=◌, ◌>>◌}
 use Rattle.c_types_rules.specs.Expressions.{annotation_types, complete, declared_name, declared_type}
-use Rattle.c_types_rules.specs.Environment.{Struct, Meaning, FunctionNamed, GlobalNamed, LocalNamed, declarable, extents, is_reserved, place_in}
+use Rattle.c_types_rules.specs.Environment.{Meaning, FunctionNamed, GlobalNamed, LocalNamed, declarable, extents, is_reserved, place_in}
 use Rattle.c_types_rules.specs.Limits.{Which, Typed, decided, first_limit, outcome, unless}
-use Rattle.c_types_rules.specs.Sources.{Function, Global, Program, at_file, body_at, body_of, declaration, declarations, declared_again, extents_of, function, function_declared, function_defined, function_or_global, function_rest, global, global_value, has_main, is_main, is_next, members_from, nothing, program, struct_defined, tags_of, with_body}
+use Rattle.c_types_rules.specs.Sources.{Function, Global, Program, at_file, body_at, body_of, declaration, declarations, declared_again, extents_of, function, function_declared, function_or_global, function_rest, global, global_value, has_main, is_main, is_next, members_from, nothing, program, struct_defined, tags_of, with_body}
 use Rattle.c_types_rules.specs.TypedTree as typed
 use Rattle.c_types_rules.specs.TypeTests.{same_type}
 use Rattle.c_lower_laws.proofs.Held.{Holds, holds_then, holds_on, holds_after}
-use Rattle.c_lower.specs.Named.{Name, statement_names}
-use Rattle.whole_runs_sources.proofs.Strings.{HasDecl, HasDecls, HasRest, HasStmt}
+use Rattle.c_lower.specs.Named.{statement_names}
+use Rattle.whole_runs_sources.proofs.Strings.{HasDecl, HasDecls, HasRest}
 use Rattle.whole_runs_sources.proofs.KnownExpressions.{AreKnown, NamesAre, more_known}
 use Rattle.whole_runs_sources.proofs.KnownBodies.{body_known, or_none}
 

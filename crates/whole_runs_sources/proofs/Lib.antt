@@ -19,3 +19,5 @@ pub mod KnownExpressions
 pub mod KnownBodies
 pub mod KnownPrograms
 pub mod Pushed
+pub mod Under
+pub mod Few

@@ -1,17 +1,14 @@
 -- Where a run of the code of an accepted source begins.
-use Rattle.std.proofs.Common.{◌≡◌, ◌≤◌, ◌<◌, ℕ, zero, suc, ◌+◌, ◌-◌, Bool, true, false, ◌&&◌, cond, List, [], ◌∷◌, length, map, Option, Some, None, refl, sym, ap, ◌∙◌, subst, arith}
+use Rattle.std.proofs.Common.{◌≡◌, ◌≤◌, ◌<◌, ℕ, zero, suc, ◌+◌, Bool, true, false, ◌&&◌, cond, List, [], ◌∷◌, length, map, Option, Some, None, refl, sym, ap, ◌∙◌, arith}
 use Rattle.std.specs.Prelude.{◌↔◌, codes, is_some, nat_lt, not, position, slice_get, unwrap_or}
 use Rattle.std.specs.List.{position_or_len}
 use Rattle.std.specs.Option.{option_map}
 use Rattle.std.proofs.lemmas.Bool.{lt-ltb}
 use Rattle.std.proofs.lemmas.Option.{same_Some, slice_get_within}
-use Rattle.std.proofs.lemmas.List.{length-map}
 use Rattle.std.proofs.lemmas.Slice.Eq.{bytes_eq-Decides}
-use Rattle.marks.specs.declared.side.Side.TheVariants.{Replay, System}
+use Rattle.marks.specs.declared.side.Side.TheVariants.{Replay}
 use Rattle.marks.specs.Wants.{same_numbers}
 use Rattle.memory_map.specs.declared.placed.Placed.{Placed}
-use Rattle.c_code.specs.Builtins.{int}
-use Rattle.c_code.specs.declared.code.FuncInfo.{FuncInfo}
 use Rattle.c_code.specs.Machine.{Laid, func_of, is_true}
 use Rattle.c_code.specs.MarkLists.{has_entry}
 use Rattle.c_scopes.specs.Scopes.{same_name}
@@ -29,8 +26,8 @@ use Rattle.c_semantics.specs.Context.{shape_of, shapes_of}
 use Rattle.c_lower.specs.Lowered.{code_of, entry_at, info_of, infos_from, lowered}
 use Rattle.c_lower.proofs.Emitted.{known}
 use Rattle.c_lower.proofs.Laid.{infos_counted, start}
-use Rattle.cut_graph_rules.specs.Findings.{Cut, May}
-use Rattle.cut_graph_rules.specs.MayRun.{MayRun, begins}
+use Rattle.cut_graph_rules.specs.Findings.{May}
+use Rattle.cut_graph_rules.specs.MayRun.{begins}
 use Rattle.isolation_check_rules.specs.Places.{AreFlags}
 use Rattle.front_end.specs.declared.source.CheckedSource.{CheckedSource}
 use Rattle.cut_check.specs.Sources.{cut_of, is_main, is_named_main, main_of}

@@ -5,7 +5,7 @@ use Rattle.std.proofs.lemmas.Option.{same_Some}
 use Rattle.std.proofs.lemmas.Slice.Eq.{bytes_eq-Decides}
 use Rattle.c_syntax.specs.declared.declaration.Base.TheVariants as bases
 use Rattle.c_syntax.specs.declared.declaration.Base.{Base}
-use Rattle.c_syntax.specs.Syntax.{Annots, Decl, Decls, Parts, Rest, Stmt, Declare, NoDecls, MoreDecls, NoRest, Initial, Body, Members}
+use Rattle.c_syntax.specs.Syntax.{Annots, Decl, Decls, Parts, Rest, Declare, NoDecls, MoreDecls, NoRest, Initial, Body, Members}
 use Rattle.c_builtins.specs.Table.{first_source_function}
 use Rattle.c_scopes.specs.Scopes.{Scope, meaning_in, same_name}
 use Rattle.c_types_model.specs.Types.{CType, Void, Integer, PointerTo, ArrayOf, StructOf, UndefinedStruct, FunctionOf}

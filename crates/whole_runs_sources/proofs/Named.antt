@@ -1,12 +1,12 @@
 -- What a function names in code, its source mentions.
-use Rattle.std.proofs.Common.{ℕ, Bool, true, false, List, [], ◌∷◌, ◌++◌, Option, Some, None}
+use Rattle.std.proofs.Common.{ℕ, Bool, true, false, List, ◌++◌}
 use Rattle.std.specs.List.{AllByRecursion, Contains}
 use Rattle.std.proofs.lemmas.List.Elements.{All-contains_itself, recursion_from_All}
 use Rattle.c_types_rules.specs.TypedTree.{Object, Value, Values, Callee, GlobalObject, LocalObject, TextObject, Pointed, Element, MemberOf, Constant, FunctionAddress, ReadOf, AddressOf, Convert, Negate, Complement, Arithmetic, PointerSum, PointerDifference, PointerComparison, Not, Both, Either, Choice, Sequence, Assigned, Changed, Moved, Stepped, CallOf, NoValues, MoreValues, SourceFunction, BuiltinFunction, Through, MaybeValue, NoValue, OneValue, Statement, Statements, Block, Evaluate, Initialise, If, IfElse, While, Do, For, Break, Continue, Return, NoStatements, MoreStatements}
 use Rattle.c_lower.specs.Named.{Name, FunctionName, GlobalName, TextName, callee_names, maybe_names, object_names, statement_names, statements_names, value_names, values_names}
 use Rattle.c_lower.proofs.Naming.{both_all, first_all, second_all}
 use Rattle.cut_graph_rules.specs.declared.mention.Mention.{Mention}
-use Rattle.cut_graph_rules.specs.declared.mention.Mention.TheVariants.{Function, Global, Written}
+use Rattle.cut_graph_rules.specs.declared.mention.Mention.TheVariants.{Function, Global}
 use Rattle.cut_graph_rules.specs.Mentions.{callee_mentions, maybe_mentions, object_mentions, root_written, statement_mentions, statements_mentions, value_mentions, values_mentions, written_at, written_under}
 
 -- a name of a function is among these mentions, as is one of a global; of strings nothing is said

@@ -1,15 +1,15 @@
 -- What a system file may answer is a value of the result's type.
-use Rattle.std.proofs.Common.{◌≡◌, ◌⊎◌, inl, inr, ⊎_elim, ℕ, ◌+◌, ◌-◌, ◌*◌, ◌/◌, ◌%◌, ◌^◌, ◌<◌, ◌≤◌, Bool, true, ℤ, pos, negsuc, ◌+ℤ◌, ◌-ℤ◌, ◌≤ℤ◌, eqb, refl, sym, ap, ◌∙◌, subst, arith, mul-le-mul_left}
+use Rattle.std.proofs.Common.{◌≡◌, ℕ, ◌+◌, ◌-◌, ◌*◌, ◌/◌, ◌%◌, ◌^◌, ◌<◌, ◌≤◌, true, ℤ, pos, negsuc, ◌+ℤ◌, ◌-ℤ◌, ◌≤ℤ◌, eqb, refl, sym, ap, ◌∙◌, arith, mul-le-mul_left}
 use Rattle.std.specs.Prelude.{unsigned_abs}
 use Rattle.std.specs.Int.{int_rem_euclid}
 use Rattle.std.proofs.lemmas.Bool.{eq-eqb, lt-ltb}
 use Rattle.std.proofs.lemmas.Int.{ints, int_rem_euclid_is}
 use Rattle.std.proofs.lemmas.Nat.{pow_pos}
-use Rattle.std.proofs.Math.Nat.{div-add-mod, mul_assoc, mod-lt, mod-eq_of_lt}
+use Rattle.std.proofs.Math.Nat.{div-add-mod, mul_assoc, mod-eq_of_lt}
 use borrow.Author.Differences.{up, down}
 use Rattle.r2_num.specs.declared.kinds.IntKind.{IntKind}
 use Rattle.r2_num.specs.declared.kinds.IntKind.TheVariants.{I8, U8, I16, U16, I32, U32, I64, U64}
-use Rattle.r2_num.specs.Kinds.{width_of, least, greatest, IsValue}
+use Rattle.r2_num.specs.Kinds.{width_of, least, IsValue}
 use Rattle.r2_num.specs.Conversions.{wrapped}
 use Rattle.c_code.specs.Values.{converted, is_value, read, written}
 use Rattle.c_types_model.specs.Types.{CType, Void, Integer, PointerTo, ArrayOf, StructOf, UndefinedStruct, FunctionOf}

@@ -1,14 +1,21 @@
 //! Flat code.
 
-ghost use Rattle.std.specs.Prelude.{ℕ, List};
+ghost use Rattle.std.specs.Prelude.{◌≤◌, ℕ, List, length};
 ghost use Rattle.memory_map.specs.declared.placed.Placed.{Placed};
 ghost use Rattle.front_end.specs.declared.source.CheckedSource.{CheckedSource};
+ghost use Rattle.front_end.specs.Answers.{IsAccepted};
 ghost use Rattle.whole_runs.specs.Fits.{IsFitCode};
 ghost use Rattle.whole_runs_sources.specs.Laws.{IsPlacedAs, laid_at};
 
 use c_lower_laws::typed_programs_fit;
 use c_lower_rules::emitted_code_is_steady;
 use c_lower_sizes::{code_is_no_longer, code_is_small};
+
+/// A law: an accepted source declares few functions, as the calls ask that make its stubs and read its system file.
+pub fn accepted_sources_have_few_functions()
+    ensures { (bytes cut : List ℕ) (c : CheckedSource) → IsAccepted bytes cut c →
+        length c.program.functions ≤ 1000 }
+{}
 
 /// A law: the flat code of an accepted source is valid, hands over values of their types alone, and has a `main` that begins a run above
 /// the cut.

@@ -1,5 +1,3 @@
-use Rattle.std.proofs.Common.{ap, sym, subst}
-use Rattle.c_code.specs.Machine.{Laid}
 use Rattle.stub_operations.specs.declared.purpose.Purpose.TheVariants.{Record}
 use Rattle.whole_runs_sources.proofs.Assembled.{fit_world}
 use Rattle.whole_runs_sources.proofs.worlds.accepted_sources_fit.Goals as goal
