@@ -42,6 +42,14 @@ over x y k h e = by (int_lt k y) refl
     by true f = f
     by false f = absurd (omega (arith, ints))
 
+-- what is not above x is below what is above x
+pub up_to : (x y n : ℤ) → int_lt x n ≡ false → int_lt x y ≡ true → int_lt n y ≡ true
+up_to x y n h e = by (int_lt n y) refl
+  where
+    by : (b : Bool) → int_lt n y ≡ b → int_lt n y ≡ true
+    by true f = f
+    by false f = absurd (omega (arith, ints))
+
 pub under : (x y z : ℤ) → int_lt x y ≡ true → int_lt y z ≡ true → int_lt x z ≡ true
 under x y z h e = by (int_lt x z) refl
   where

@@ -1,17 +1,21 @@
 -- Ranks of mutexes among those that are known.
-use Rattle.std.proofs.Common.{◌≡◌, ℕ, ℤ, ◌+◌, ◌<◌, ◌≤◌, Bool, true, false, ◌&&◌, List, [], ◌∷◌, ◌++◌, length, take, drop, Some, refl, sym, ap, ◌∙◌, arith}
-use Rattle.std.specs.Prelude.{get_or, int_lt}
+use Rattle.std.proofs.Common.{◌≡◌, ℕ, ℤ, ◌+◌, ◌<◌, ◌≤◌, Bool, true, false, cond, ◌&&◌, List, [], ◌∷◌, ◌++◌, length, take, drop, Option, None, Some, refl, sym, ap, ◌∙◌, arith}
+use Rattle.std.specs.Prelude.{get_or, int_lt, slice_get}
 use Rattle.std.specs.List.{AllWithin}
 use Rattle.std.specs.List.Sorted.{IsPartitionedBy}
-use Rattle.std.proofs.lemmas.List.{drop_more, get_or-map, length-map, take-append-drop, take_all, take_more}
+use Rattle.std.specs.Ordering.{int_eq}
+use Rattle.std.proofs.lemmas.Bool.{cases_eq}
+use Rattle.std.proofs.lemmas.Option.{get_or_from_slice_get, slice_get_within}
+use Rattle.std.proofs.lemmas.List.{drop_more, get_or-map, get_or_default, length-map, take-append-drop, take_all, take_more}
 use Rattle.std.proofs.lemmas.List.Folds.{list_all-append}
-use mathlib.Core.Logic.{◌≢◌}
+use mathlib.Core.Logic.{◌≢◌, ⊎_elim}
 use Rattle.lockset_check_rules.specs.Mutexes.{Locks, are_held, is_held, with_lock}
-use Rattle.lockset_check_held.specs.Ascending.{Ascends, IsPlace, StartsBelow}
-use Rattle.lockset_check_held.specs.Rows.{IsTable, IsWithin, Learns, TurnsOn, is_on, mutexes, place_in, set_of}
+use Rattle.lockset_check_held.specs.Ascending.{Ascends, IsPlace, IsUpTo, StartsBelow}
+use Rattle.lockset_check_held.specs.Rows.{IsTable, IsWithin, Learns, TurnsOn, found, is_on, mutexes, place_in, set_of}
 use Rattle.lockset_check_held.specs.declared.known.Known.{Known}
-use Rattle.lockset_check_held.proofs.Places.{one_further, parted, stopped_at, stopped_at_end}
-use Rattle.lockset_check_held.proofs.Sharing.{StartsBelowAll, at_first, begins, goes_on}
+use Rattle.lockset_check_held.proofs.Members.{same_number}
+use Rattle.lockset_check_held.proofs.Places.{itself, not_back, one_further, parted, stopped_at, stopped_at_end}
+use Rattle.lockset_check_held.proofs.Sharing.{StartsBelowAll, at_first, begins, goes_past}
 use Rattle.lockset_check_held.proofs.Tables.{added, ascending, bounded, within_on}
 
 as_many : (known : List Known) → length (mutexes known) ≡ length known
@@ -44,6 +48,40 @@ module _ (m : ℤ) (known : List Known) (i : ℕ) (below : StartsBelow m (mutexe
   pub stops_at_end : length known ≤ i → IsPlace m (mutexes known) i
   stops_at_end le = let many = as_many known in stopped_at_end m (mutexes known) i below (omega arith)
 
+-- what is known at a rank
+read_at : (m : ℤ) (known : List Known) (i p : ℕ) → found m (slice_get known i) ≡ Some p → (i < length known) × (int_eq (get_or (mutexes known) i m) m ≡ true)
+read_at m known i p h = by (slice_get known i) refl
+  where
+    by : (o : Option Known) → slice_get known i ≡ o → (i < length known) × (int_eq (get_or (mutexes known) i m) m ≡ true)
+    by None e = absurd (let no : None ≡ Some p = sym (ap (found m) e) ∙ h in cc)
+    by (Some k) e =
+        let lt = slice_get_within known i k e in
+        (lt, ap (λ n. int_eq n m) (mutex_of known i k m lt ∙ ap (λ (o : Known). o.mutex) (get_or_from_slice_get known i k k e)) ∙ is_it (int_eq k.mutex m) refl)
+      where
+        is_it : (b : Bool) → int_eq k.mutex m ≡ b → int_eq k.mutex m ≡ true
+        is_it true f = f
+        is_it false f = absurd (let no : None ≡ Some p = sym (ap (found m) e ∙ ap (λ (b : Bool). cond b (Some k.place) None) f) ∙ h in cc)
+
+pub stops_here : (m : ℤ) (known : List Known) (i p : ℕ) → IsTable known → StartsBelow m (mutexes known) i → found m (slice_get known i) ≡ Some p → IsPlace m (mutexes known) i
+stops_here m known i p t below h =
+    let r = read_at m known i p h in
+    let is : get_or (mutexes known) i m ≡ m = same_number (get_or (mutexes known) i m) m r.1 in
+    stops m known i below m t r.0 (sym is) (itself m)
+
+pub past_here : (m : ℤ) (known : List Known) (i p : ℕ) → IsPlace m (mutexes known) i → found m (slice_get known i) ≡ Some p → IsUpTo m (mutexes known) (i + 1)
+past_here m known i p place h =
+    let r = read_at m known i p h in
+    let many = as_many known in (
+      omega (arith, r.0),
+      λ j d from lt. ⊎_elim
+          (λ (here : j ≡ i).
+          ap (λ n. int_lt m (get_or (mutexes known) n d)) here
+          ∙ (ap (int_lt m) (get_or_default (mutexes known) i d m (omega (arith, r.0)) ∙ same_number (get_or (mutexes known) i m) m r.1)
+          ∙ itself m))
+          (λ apart. not_back (get_or (mutexes known) j d) m (place.0.1 j d from (omega (arith, apart))))
+          (cases_eq j i),
+    )
+
 -- ---- whether a set has all of xs
 
 abbrev pub AreIn : (xs : Locks) (known : List Known) (s : Locks) (i rank : ℕ) → Type 0
@@ -59,9 +97,9 @@ module _ (xs : Locks) (known : List Known) (s : Locks) (i rank : ℕ) (x : ℤ) 
   pub starts : StartsBelow x (mutexes known) rank
   starts = begins xs (mutexes known) i rank x h.0 lt is
 
-  pub one_in : (further : ℕ) → Ascends xs → IsPlace x (mutexes known) further → is_held x s ≡ true → AreIn xs known s (i + 1) further
+  pub one_in : (further : ℕ) → Ascends xs → IsUpTo x (mutexes known) further → is_held x s ≡ true → AreIn xs known s (i + 1) further
   one_in further up p held = (
-    goes_on xs (mutexes known) i further x up lt is p,
+    goes_past xs (mutexes known) i further x up lt is p,
     ap (λ (l : Locks). are_held l s) (take_more xs i x lt ∙ ap (λ (z : ℤ). take i xs ++ z ∷ []) (sym is))
         ∙ (list_all-append (λ k. is_held k s) (take i xs) (x ∷ []) ∙ both_true (are_held (take i xs) s) (is_held x s) h.1 held),
   )

@@ -6,8 +6,8 @@ use Rattle.std.proofs.lemmas.List.{drop_more, get_or-drop, get_or_default, take-
 use Rattle.std.proofs.lemmas.List.Folds.{list_all-append}
 use Rattle.std.proofs.lemmas.List.Filters.{FiltersInPlace, FiltersInPlace-more_no, FiltersInPlace-more_set}
 use Rattle.lockset_check_rules.specs.Mutexes.{Locks, are_held, is_held}
-use Rattle.lockset_check_held.specs.Ascending.{Ascends, IsPlace, StartsBelow, is_at}
-use Rattle.lockset_check_held.proofs.Places.{held_at, under}
+use Rattle.lockset_check_held.specs.Ascending.{Ascends, IsPlace, IsUpTo, StartsBelow, is_at}
+use Rattle.lockset_check_held.proofs.Places.{held_at, under, up_to}
 
 -- the first members of s are below all of xs from a place on
 abbrev pub StartsBelowAll : (xs : Locks) (from : ℕ) (s : Locks) (place : ℕ) → Type 0
@@ -34,6 +34,14 @@ goes_on xs s i place x up lt is p = (
   p.0.0,
   λ j d from inside k e low high.
       under (get_or s k e) x (get_or xs j d) (p.0.1 k e low high)
+      (ap (λ z. int_lt z (get_or xs j d)) (is ∙ get_or_default xs i x d lt) ∙ up i j d (omega arith) inside),
+)
+
+pub goes_past : (xs s : Locks) (i place : ℕ) (x : ℤ) → Ascends xs → i < length xs → x ≡ get_or xs i x → IsUpTo x s place → StartsBelowAll xs (i + 1) s place
+goes_past xs s i place x up lt is p = (
+  p.0,
+  λ j d from inside k e low high.
+      up_to x (get_or xs j d) (get_or s k e) (p.1 k e low high)
       (ap (λ z. int_lt z (get_or xs j d)) (is ∙ get_or_default xs i x d lt) ∙ up i j d (omega arith) inside),
 )
 

@@ -16,6 +16,10 @@ StartsBelow k s count = (count ≤ length s) × AllWithin (λ m. int_lt m k ≡ 
 abbrev pub IsPlace : ℤ → Locks → (count : ℕ) → Type 0
 IsPlace k s count = StartsBelow k s count × AllWithin (λ m. int_lt m k ≡ false) s count (length s)
 
+-- the first members of a set are not above a number
+abbrev pub IsUpTo : ℤ → Locks → (count : ℕ) → Type 0
+IsUpTo k s count = (count ≤ length s) × AllWithin (λ m. int_lt k m ≡ false) s 0 count
+
 -- a number is what stands at a place
 abbrev pub is_at : ℤ → Option ℤ → Bool
 is_at k (Some m) = int_eq m k

@@ -1,8 +1,9 @@
 //! The mutexes that are known.
 
 ghost use Rattle.std.specs.Prelude.{◌≡◌, ◌<◌, length, get_or, slice_get, IfOk, OnOk, Some};
+ghost use Rattle.std.specs.Option.{IfSome, is_some};
 ghost use Rattle.lockset_check_rules.specs.Mutexes.{are_held, is_held, with_lock, with_locks};
-ghost use Rattle.lockset_check_held.specs.Ascending.{Ascends, IsPlace, StartsBelow};
+ghost use Rattle.lockset_check_held.specs.Ascending.{Ascends, IsPlace, IsUpTo, StartsBelow};
 ghost use Rattle.lockset_check_held.specs.Rows.{IsTable, IsWithin, Learns, found, mutexes, place_in, set_of};
 
 use crate::locks::number_at;
@@ -35,6 +36,17 @@ fn mutex_at(known: &[Known], rank: usize) -> i128
     known[rank].mutex
 }
 
+// The place of a mutex, if it is what is known at a rank.
+fn place_at(known: &[Known], rank: usize, mutex: i128) -> Option<usize>
+    ensures { result ≡ found mutex (slice_get known.now rank) }
+{
+    let one = known.get(rank)?;
+    if one.mutex == mutex {
+        return Some(one.place);
+    }
+    None
+}
+
 // The rank of a mutex where the first of those that are known are below it.
 #[tactic(auto, using(crate::proofs::Ranks::one_more, crate::proofs::Ranks::stops, crate::proofs::Ranks::stops_at_end))]
 fn rank_from(known: &[Known], first: usize, mutex: i128) -> usize
@@ -53,15 +65,17 @@ fn rank_from(known: &[Known], first: usize, mutex: i128) -> usize
     rank
 }
 
-// The place of a mutex, if it is what is known at a rank.
-fn place_at(known: &[Known], rank: usize, mutex: i128) -> Option<usize>
-    ensures { result ≡ found mutex (slice_get known.now rank) }
+// The rank of a mutex where the first of those that are known are below it. Mostly these are all.
+#[tactic(auto, using(crate::proofs::Ranks::stops_here))]
+fn next_rank(known: &[Known], first: usize, mutex: i128) -> usize
+    requires known { IsTable known.now }
+    requires first { StartsBelow mutex (mutexes known.now) first }
+    ensures { IsPlace mutex (mutexes known.now) result }
 {
-    let one = known.get(rank)?;
-    if one.mutex == mutex {
-        return Some(one.place);
+    match place_at(known, first, mutex) {
+        Some(_) => first,
+        None => rank_from(known, first, mutex),
     }
-    None
 }
 
 /// The place of a mutex, if it is known.
@@ -111,6 +125,22 @@ pub fn has(known: &[Known], mutex: i128, row: &Row) -> bool
     has_at(known, rank_of(known, mutex), mutex, row)
 }
 
+// How many of those that are known are not above a mutex, if a row has it, where the first of them are below it.
+#[tactic(auto, using(crate::proofs::Tables::found_at, crate::proofs::Tables::held_some, crate::proofs::Tables::held_none, crate::proofs::Ranks::past_here))]
+fn rank_past(known: &[Known], first: usize, mutex: i128, row: &Row) -> Option<usize>
+    requires known { IsTable known.now }
+    requires first { StartsBelow mutex (mutexes known.now) first }
+    ensures some { IfSome result (λ rank. IsUpTo mutex (mutexes known.now) rank) }
+    ensures held { is_some result ≡ is_held mutex (set_of known.now row.now) }
+{
+    let rank = next_rank(known, first, mutex);
+    let place = place_at(known, rank, mutex)?;
+    if row.has(place) {
+        return Some(rank + 1);
+    }
+    None
+}
+
 /// Whether a row has all of some mutexes.
 #[tactic(auto, using(crate::proofs::Ranks::none_yet, crate::proofs::Ranks::starts, crate::proofs::Ranks::one_in, crate::proofs::Ranks::one_out, crate::proofs::Ranks::all_in))]
 pub fn has_all(known: &[Known], mutexes: &[i128], row: &Row) -> bool
@@ -121,9 +151,9 @@ pub fn has_all(known: &[Known], mutexes: &[i128], row: &Row) -> bool
     let mut rank = 0;
     for i in 0..mutexes.len() {
         let mutex = number_at(mutexes, i);
-        rank = rank_from(known, rank, mutex);
-        if !has_at(known, rank, mutex, row) {
-            return false;
+        match rank_past(known, rank, mutex, row) {
+            Some(next) => rank = next,
+            None => return false,
         }
     }
     true
