@@ -10,5 +10,7 @@ pub mod Turning
 pub mod Happening
 pub mod Freeing
 pub mod Returning
+pub mod Growing
 pub mod Calling
+pub mod Preparing
 pub mod Called

@@ -8,10 +8,12 @@ mod events;
 mod frames;
 mod laws;
 mod loads;
+mod parts;
 mod refusal;
 mod returns;
 mod stores;
 
 pub use above::MemoryAbove;
 pub use laws::{threads_have_calls, threads_have_stacks, turns_are_made};
+pub use parts::CallRegions;
 pub use refusal::StepRefusal;
