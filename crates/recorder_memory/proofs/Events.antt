@@ -48,7 +48,7 @@ module _ (w : World) (past : List Mark) (t : ℕ) (keys : List Key) (kind : Even
   pub allowed : Allowed (replay_rules (program_of w) (begin w)) (begin w) (seen past) m
   allowed = seen_step.allowed w h.fit past h.follows (threads_known w h.fit.code past h.follows) (calm_run w h.fit past h.follows) h.step m h.made stands_above
 
-  abbrev made_mark : Mark
+  abbrev pub made_mark : Mark
   made_mark = above.next_event (placed w) (seen past) t kind h.event.steps h.event.keys h.event.clock
 
   -- it is the event that memory above the cut is told

@@ -18,3 +18,4 @@ pub mod Counts
 pub mod Returning
 pub mod Filled
 pub mod Answering
+pub mod Calling

@@ -6,3 +6,4 @@ pub mod Laws
 pub mod Events
 pub mod Returns
 pub mod Answers
+pub mod Calls

@@ -5,6 +5,7 @@
 mod above;
 mod answers;
 mod below;
+mod calls;
 mod events_above;
 mod externals;
 mod frames_above;
