@@ -14,3 +14,4 @@ mod Told
 mod Changes
 mod Values
 mod Gives
+mod Made

@@ -1,6 +1,6 @@
 //! What systems have to do with marks and with code, as contracts of functions that do nothing.
 
-ghost use Rattle.recorder_system.specs.Laws.{ArgumentsAreInts, CallsAreFree, PickedThreadsCanStep, PlainMarksKeepTheSystem, ThreadsGoOn};
+ghost use Rattle.recorder_system.specs.Laws.{ArgumentsAreInts, CallsAreFree, PickedThreadsCanStep, PlainMarksKeepTheSystem, StepsAreOutcomes, ThreadsGoOn};
 
 /// A mark in which no call comes to its result leaves the system standing, but that it may end its thread.
 pub fn plain_marks_keep_the_system()
@@ -20,6 +20,12 @@ pub fn picked_threads_can_step()
 /// A thread that can step needn't wait for what it calls.
 pub fn calls_are_free()
     ensures { CallsAreFree }
+{}
+
+/// A step of a run in which a call comes to its result is one that a system is told of by `note`, where code returns from the
+/// bodies of functions of the source alone.
+pub fn steps_are_outcomes()
+    ensures { StepsAreOutcomes }
 {}
 
 /// What code hands to a builtin that takes an int is one, where it hands over values of their types.
