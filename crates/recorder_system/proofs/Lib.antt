@@ -15,3 +15,4 @@ mod Changes
 mod Values
 mod Gives
 mod Made
+mod Fit

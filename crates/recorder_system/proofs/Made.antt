@@ -1,5 +1,5 @@
 -- The mark of a step in which a call comes to its result.
-use Rattle.std.proofs.Common.{◌≡◌, ◌⊎◌, inl, inr, ⊎_elim, ℕ, ◌≤◌, Bool, true, false, cond, ◌&&◌, not, eqb, leb, List, [], ◌∷◌, ◌++◌, Option, Some, None, refl, sym, ap, ◌∙◌, subst, arith, eqb-true}
+use Rattle.std.proofs.Common.{◌≡◌, ℕ, ◌≤◌, Bool, true, false, cond, ◌&&◌, not, eqb, leb, List, [], ◌++◌, Option, Some, None, refl, sym, ap, ◌∙◌, subst, arith, eqb-true}
 use Rattle.std.specs.Prelude.{is_some}
 use Rattle.std.proofs.lemmas.Bool.{and_parts, true≢false}
 use Rattle.std.proofs.lemmas.Option.{slice_get_past}
@@ -16,10 +16,9 @@ use Rattle.whole_runs.specs.World.{World}
 use Rattle.whole_runs.specs.Outcomes.{Outcome, act_outcome, builtin_of, event_outcome, minus_one, outcome, started}
 use Rattle.whole_runs.specs.Threads.{comes}
 use Rattle.whole_runs.specs.Picks.{Asked, asked, can_step, is_free}
-use Rattle.whole_runs.specs.Below.{Given, Says, given, given_by}
-use Rattle.whole_runs.specs.Steps.{Picked, IsMade, Agrees, EventAgrees, BringsGiven, GivesStep, IsStep, StepOf}
+use Rattle.whole_runs.specs.Below.{Says, given, given_by}
+use Rattle.whole_runs.specs.Steps.{Picked, Agrees, EventAgrees, BringsGiven, GivesStep, IsStep, StepOf}
 use Rattle.recorder_system.specs.Stands.{asked_by, call_of, next_asked}
-use Rattle.recorder_system.specs.Calls.{IsOutcome}
 use Rattle.recorder_system.specs.Laws.{ReturnsFromSource, StepsAreOutcomes}
 use Rattle.recorder_system.proofs.Lists.{found_passes}
 use Rattle.recorder_system.proofs.Standing.{can_by, can_started, may_by}
