@@ -14,3 +14,5 @@ mod Told
 mod Changes
 mod Values
 mod Gives
+mod Made
+mod Fit
