@@ -1,5 +1,5 @@
 -- The thread that is told of a mark of a run is where its code is after it.
-use Rattle.std.proofs.Common.{◌≡◌, ◌≢◌, ℕ, ◌<◌, ◌≤◌, List, [], ◌∷◌, ◌++◌, length, Some, inl, refl, sym, ap, ◌∙◌, subst, arith}
+use Rattle.std.proofs.Common.{◌+◌, ◌≡◌, ◌≢◌, ℕ, ◌<◌, ◌≤◌, List, [], ◌∷◌, ◌++◌, length, Some, inl, refl, sym, ap, ◌∙◌, subst, arith}
 use Rattle.std.specs.Prelude.{reverse}
 use Rattle.std.proofs.lemmas.List.{reverse-append}
 use Rattle.marks.specs.declared.side.Side.{Side}
@@ -29,7 +29,7 @@ use Rattle.whole_runs_seen.proofs.Answered.{AllGoOn, said_all}
 use Rattle.whole_runs_seen.proofs.Here.{lose_none}
 use Rattle.whole_runs_seen.proofs.Threads.{AreThreads, begins_so, threads_known}
 use Rattle.recorder_threads.specs.Threads.{most_open, place_of, thread_of}
-use Rattle.recorder_threads.specs.Laws.{ActivationsAreFew, EachStepIsFollowed, IsFollowed}
+use Rattle.recorder_threads.specs.Laws.{ActivationsAreFew, ActivationsHaveFrames, EachStepIsFollowed, IsFollowed}
 use Rattle.whole_runs_threads.proofs.Own.{beginning_stays, own_more, started_on, thread_started}
 use Rattle.whole_runs_threads.proofs.Framing.{frames_few}
 use Rattle.recorder_threads.proofs.Opened.{open_few, settled_open}
@@ -64,14 +64,16 @@ module _ (w : World) (fit : IsFit w) (past : List Mark) (f : Follows w past) (t 
   frames_are Replay = refl
   frames_are System = refl
 
-  pub few_open : (side : Side) → open_on side (place_of w past t) ≤ most_open
-  few_open side =
+  pub framed : (side : Side) → open_on side (place_of w past t) ≤ length (sides.frames_on w side t past) + 1
+  framed side =
       let opened : opens_in fit.code.valid.height (place_of w past t) ≡ opens_by (own w t past) =
       marks_are_open Split w.laid fit.code.valid (beginning w past t) (own w t past) (begins w past t) (all_answer w.laid (beginning w past t) (own w t past) (known.go_on t lt)) (not_lost w.laid (place_of w past t) here) in
       let count : length (frames_on side (opens_in fit.code.valid.height (place_of w past t))) ≡ length (sides.frames_on w side t past) = ap (λ o. length (frames_on side o)) opened ∙ ap length (frames_are side) in
-      let few = frames_few w fit past f t side in
       let le = open_few fit.code.valid.height side (place_of w past t) in
-      omega (arith, count, few, le)
+      omega (arith, count, le)
+
+  pub few_open : (side : Side) → open_on side (place_of w past t) ≤ most_open
+  few_open side = let few = frames_few w fit past f t side in let le = framed side in omega (arith, few, le)
 
 -- ---- one mark on
 
@@ -171,6 +173,9 @@ module _ (w : World) (fit : IsFit w) (past : List Mark) (m : Mark) (f : Follows 
 
 pub each_followed : (w : World) → EachStepIsFollowed w
 each_followed w fit past m f x e = followed w fit past m f x e
+
+pub framed_activations : (w : World) → ActivationsHaveFrames w
+framed_activations w fit past f t lt side = framed w fit past f t lt side
 
 pub few_activations : (w : World) → ActivationsAreFew w
 few_activations w fit past f t lt side = few_open w fit past f t lt side

@@ -1,9 +1,14 @@
 //! What marks of a run leave of its threads, as contracts of functions that do nothing.
 
 ghost use Rattle.whole_runs.specs.World.{World};
-ghost use Rattle.recorder_threads.specs.Laws.{ActivationsAreFew, EachStepIsFollowed, FaultsLeaveThreads};
+ghost use Rattle.recorder_threads.specs.Laws.{ActivationsAreFew, ActivationsHaveFrames, EachStepIsFollowed, FaultsLeaveThreads};
 
-/// No thread has more activations open on a side than there may be frames, and one more.
+/// No thread has more activations open on a side than frames there, and one that waits for its frame.
+pub fn activations_have_frames()
+    ensures { (w : World) → ActivationsHaveFrames w }
+{}
+
+/// So none has more than there may be frames, and one.
 pub fn activations_are_few()
     ensures { (w : World) → ActivationsAreFew w }
 {}

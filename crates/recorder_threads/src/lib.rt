@@ -7,6 +7,8 @@ mod telling;
 mod threads;
 mod wants;
 
-pub use laws::{activations_are_few, each_step_is_followed, faults_leave_threads};
+pub use laws::{
+    activations_are_few, activations_have_frames, each_step_is_followed, faults_leave_threads,
+};
 pub use threads::Threads;
 pub use wants::{Next, Want};
