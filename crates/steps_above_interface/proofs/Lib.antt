@@ -1,0 +1,6 @@
+pub mod Registered
+pub mod Returned
+pub mod Showing
+pub mod Same
+pub mod Blank
+pub mod Standing

@@ -1,0 +1,4 @@
+pub mod State
+pub mod Returns
+pub mod Stands
+pub mod Laws
