@@ -11,8 +11,8 @@ use Rattle.whole_runs.specs.Outcomes.{Outcome, act_outcome, args_of, outcomes, i
 use Rattle.whole_runs.specs.Threads.{beginning}
 use Rattle.whole_runs.specs.Ends.{Follows}
 use Rattle.whole_runs.specs.Fits.{IsFitCode}
-use Rattle.whole_runs_threads.specs.Laws.{BeginningsStay, OtherMarksStay}
-use Rattle.whole_runs_seen.proofs.Outcomes.{Numbered, start_of, same_start, new_start, more_starts, one_more_start}
+use Rattle.whole_runs_threads.specs.Laws.{BeginningsStay, OtherMarksStartNone, OtherMarksStay, StartsAreNumbered}
+use Rattle.whole_runs_seen.proofs.Outcomes.{Numbered, start_of, same_start, new_start, more_starts, no_more_start, one_more_start}
 use Rattle.whole_runs_seen.proofs.Threads.{threads_known, picked_started}
 
 abbrev cons_all : Option Outcome → List Outcome → List Outcome
@@ -36,7 +36,7 @@ own_more w past m t e = ap (λ b. cond b (m ∷ own w t past) (own w t past)) (e
 outcomes_now : (past : List Mark) (m : Mark) (o : Option Outcome) → act_outcome m.thread m.act ≡ o → outcomes (m ∷ past) ≡ cons_all o (outcomes past)
 outcomes_now past m o e = ap (λ x. cons_all x (outcomes past)) e
 
-same_beginning : (w : World) (past : List Mark) (m : Mark) (t : ℕ) → start_of t (outcomes (m ∷ past)) ≡ start_of t (outcomes past) → beginning w (m ∷ past) t ≡ beginning w past t
+pub same_beginning : (w : World) (past : List Mark) (m : Mark) (t : ℕ) → start_of t (outcomes (m ∷ past)) ≡ start_of t (outcomes past) → beginning w (m ∷ past) t ≡ beginning w past t
 same_beginning w past m zero e = refl
 same_beginning w past m (suc t) e = ap (λ o. Starting (callee w.laid start_sig (first (args_of o))) (tail (args_of o))) e
 
@@ -98,3 +98,13 @@ other_marks w past m t n = own_same w past m t n
 
 pub beginnings : (w : World) → BeginningsStay w
 beginnings w fit past m f t lt = beginning_stays w fit.code past m f t lt
+
+pub start_none : OtherMarksStartNone
+start_none past m none = by (act_outcome m.thread m.act) refl
+  where
+    by : (o : Option Outcome) → act_outcome m.thread m.act ≡ o → started (m ∷ past) ≡ started past
+    by None e = ap (λ os. suc (length (filter is_start os))) (outcomes_now past m None e)
+    by (Some o) e = ap (λ os. suc (length (filter is_start os))) (outcomes_now past m (Some o) e) ∙ ap suc (no_more_start o (outcomes past) (none o e))
+
+pub start_numbered : (w : World) → StartsAreNumbered w
+start_numbered w fit past m f o comes starts = (one_more w fit.code past m f o comes starts, numbered_so w fit.code past m f o comes starts)

@@ -1,5 +1,5 @@
 -- What a mark of a run leaves of its threads, what room there is for their frames, and what their code is given.
-use Rattle.std.specs.Prelude.{◌≡◌, ◌≢◌, ◌⊎◌, ℕ, ◌<◌, ◌≤◌, true, List, ◌∷◌, length}
+use Rattle.std.specs.Prelude.{◌≡◌, ◌≢◌, ◌⊎◌, ℕ, suc, ◌<◌, ◌≤◌, true, false, List, ◌∷◌, length, Some}
 use Rattle.marks.specs.declared.side.Side.{Side}
 use Rattle.marks.specs.Places.{frame_count}
 use Rattle.marks.specs.Marks.{Mark}
@@ -9,7 +9,7 @@ use Rattle.replay_runs.specs.Laws.{NoneLeft, WhollyOfProgram}
 use Rattle.whole_runs.specs.declared.ending.Ending.{Ending}
 use Rattle.whole_runs.specs.World.{World, begin, program_of}
 use Rattle.whole_runs.specs.Sides.{own, frames_on, seen}
-use Rattle.whole_runs.specs.Outcomes.{started}
+use Rattle.whole_runs.specs.Outcomes.{Outcome, act_outcome, is_start, started}
 use Rattle.whole_runs.specs.Threads.{beginning, comes, in_replay_mode}
 use Rattle.whole_runs.specs.Ends.{Follows, IsRun}
 use Rattle.whole_runs.specs.Fits.{IsFit}
@@ -23,6 +23,18 @@ OtherMarksStay w = (past : List Mark) (m : Mark) (t : ℕ) → m.thread ≢ t �
 abbrev pub BeginningsStay : World → Type 0
 BeginningsStay w = IsFit w → (past : List Mark) (m : Mark) → Follows w (m ∷ past) → (t : ℕ) →
     t < started past → beginning w (m ∷ past) t ≡ beginning w past t
+
+-- a mark that comes to no result, or to that of another call than one that starts a thread, starts none
+abbrev pub OtherMarksStartNone : Type 0
+OtherMarksStartNone = (past : List Mark) (m : Mark) →
+    ((o : Outcome) → act_outcome m.thread m.act ≡ Some o → is_start o ≡ false) →
+    started (m ∷ past) ≡ started past
+
+-- one that comes to that of a call which starts a thread starts one, and the result is its number
+abbrev pub StartsAreNumbered : World → Type 0
+StartsAreNumbered w = IsFit w → (past : List Mark) (m : Mark) → Follows w (m ∷ past) → (o : Outcome) →
+    act_outcome m.thread m.act ≡ Some o → is_start o ≡ true → (started (m ∷ past) ≡ suc (started past)) ×
+    (o.result ≡ started past)
 
 -- no thread has more frames on a side than there may be
 abbrev pub FramesAreFew : World → Type 0

@@ -1,7 +1,7 @@
 //! The laws.
 
 ghost use Rattle.whole_runs.specs.World.{World};
-ghost use Rattle.whole_runs_threads.specs.Laws.{BeginningsStay, FramesAreFew, OtherMarksStay, StepsSuit};
+ghost use Rattle.whole_runs_threads.specs.Laws.{BeginningsStay, FramesAreFew, OtherMarksStartNone, OtherMarksStay, StartsAreNumbered, StepsSuit};
 ghost use Rattle.whole_runs_threads.specs.Laws.{NoThreadIsLeft, NoThreadIsLost, RunsAreOfTheProgram, ThreadsEndOrStand};
 
 /// A mark leaves the own marks of all threads but its own.
@@ -12,6 +12,16 @@ pub fn other_marks_stay()
 /// What a thread that was started began with stays.
 pub fn beginnings_stay()
     ensures { (w : World) → BeginningsStay w }
+{}
+
+/// A mark that comes to no result, or to that of another call, starts no thread.
+pub fn other_marks_start_none()
+    ensures { OtherMarksStartNone }
+{}
+
+/// One that comes to the result of a call which starts a thread starts one, with that number.
+pub fn starts_are_numbered()
+    ensures { (w : World) → StartsAreNumbered w }
 {}
 
 /// After the steps of a run no thread has more frames on a side than there may be.

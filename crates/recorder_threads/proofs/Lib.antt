@@ -1,0 +1,9 @@
+pub mod Opened
+pub mod Followed
+pub mod Faults
+pub mod Crossing
+pub mod Asked
+pub mod Told
+pub mod Looks
+pub mod Places
+pub mod Answering

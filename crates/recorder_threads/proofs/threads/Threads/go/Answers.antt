@@ -1,0 +1,40 @@
+use Rattle.std.proofs.Common.{◌∷◌, sym, subst, arith}
+use Rattle.std.proofs.Math.ListN.{set}
+use Rattle.c_machine.specs.Positions.{laid}
+use Rattle.c_machine.specs.Follows.{Feeds}
+use Rattle.marks.specs.Wants.{Go}
+use Rattle.recorder_threads.specs.Threads.{AreThreadsOf}
+use Rattle.recorder_threads.specs.Answers.{IsNoCall, IsPlain}
+use Rattle.recorder_threads.proofs.Answering.{below, go_feeds, inside, may, plain_stands}
+use Rattle.recorder_threads.proofs.threads.Threads.go.Goals as goal
+
+pub index_mut-requires : goal.index_mut-requires
+index_mut-requires c =
+    let l = laid c.args.code.now c.args.placed.now in
+    let items = c.self.inside.threads.items in
+    let a = subst (λ ts. IsPlain l ts c.args.thread IsNoCall Go) (sym c.self.view_is) c.requires in
+    let lt = below l items c.args.thread IsNoCall Go a.next in
+    omega (arith, lt, c.self.inside.threads.ok)
+
+pub feed-requires-clause-inside : goal.feed-requires-clause-inside
+feed-requires-clause-inside c =
+    let l = laid c.args.code.now c.args.placed.now in
+    let items = c.self.inside.threads.items in
+    let a = subst (λ ts. IsPlain l ts c.args.thread IsNoCall Go) (sym c.self.view_is) c.requires in
+    inside l items c.args.thread IsNoCall Go a.next c.index_mut.result.now c.index_mut.ensures.value
+
+pub feed-requires-clause-may : goal.feed-requires-clause-may
+feed-requires-clause-may c =
+    let l = laid c.args.code.now c.args.placed.now in
+    let items = c.self.inside.threads.items in
+    let a = subst (λ ts. IsPlain l ts c.args.thread IsNoCall Go) (sym c.self.view_is) c.requires in
+    may l items c.args.thread IsNoCall Go a.next c.index_mut.result.now c.index_mut.ensures.value (Feeds Go) (go_feeds a.next.follows.0.step.want a.next.wanted)
+
+pub returns : goal.returns
+returns c =
+    let l = laid c.args.code.now c.args.placed.now in
+    let items = c.self.inside.threads.items in
+    let t = c.args.thread in
+    let z = c.feed.new.self in
+    subst (λ ts. (a : IsPlain l ts t IsNoCall Go) → AreThreadsOf a.next.world (a.next.mark ∷ a.next.past) (set items t z)) c.self.view_is
+    (λ a. plain_stands l items t IsNoCall Go a c.index_mut.result.now c.index_mut.ensures.value (Feeds Go) (go_feeds a.next.follows.0.step.want a.next.wanted) z c.feed.ensures.fed c.feed.ensures.inside)

@@ -1,0 +1,5 @@
+pub mod Threads
+pub mod Wants
+pub mod Telling
+pub mod Answers
+pub mod Laws
