@@ -18,7 +18,7 @@ use std::marker::Model;
 type Indices = [Option<u32>; 32];
 
 /// Functions of which no thread has returned.
-fn no_returns(alloc: Global, functions: u16) -> Result<Vec<Indices>, AllocError>
+fn no_returns(alloc: Global, functions: u32) -> Result<Vec<Indices>, AllocError>
     ensures { IfOk result (λ rows. AreBlank functions rows.items) }
 {
     let mut rows = Vec::with_capacity(alloc, functions as usize)?;
@@ -76,7 +76,7 @@ impl Model for InterfaceState {
 
 impl InterfaceState {
     /// Before any mark of a run whose functions have numbers below `functions`.
-    pub fn new(alloc: Global, functions: u16) -> Result<InterfaceState, AllocError>
+    pub fn new(alloc: Global, functions: u32) -> Result<InterfaceState, AllocError>
         ensures functions { IfOk result (λ state. length state.registered ≡ functions) }
         ensures begins { IfOk result Begins }
     {

@@ -1,0 +1,5 @@
+pub mod Inputs
+pub mod Stands
+pub mod Turns
+pub mod Ends
+pub mod Plain

@@ -1,0 +1,41 @@
+-- Which runs the state of a recording stands for.
+use Rattle.std.specs.Prelude.{◌≡◌, ℕ, ◌<◌, ◌≤◌, ◌+◌, List, length}
+use Rattle.marks.specs.Places.{builtin_count}
+use Rattle.marks.specs.Marks.{Mark}
+use Rattle.steps_above_stamps.specs.Stamps.{AreStampsOf}
+use Rattle.steps_above_interface.specs.Stands as functions
+use Rattle.whole_runs.specs.World.{World, interface}
+use Rattle.whole_runs.specs.Sides.{seen}
+use Rattle.whole_runs.specs.Log.{replay_output, system_output}
+use Rattle.whole_runs.specs.Ends.{Follows}
+use Rattle.whole_runs.specs.Fits.{IsFit}
+use Rattle.recorder_memory.specs.Stands.{StandsForRun, placed}
+use Rattle.recorder_threads.specs.Threads.{AreThreadsOf}
+use Rattle.recorder_system.specs.Stands.{IsSystemOf}
+use Rattle.recorder_book.specs.Book.{IsBookOf}
+use Rattle.recorder_state.specs.declared.state.RunState.{RunState}
+
+-- what is shown of the run after these marks, and what the Stops follow from that end it
+pub record IsShownAfter (w : World) (past : List Mark) (s : RunState) : Type 0 where
+  pub threads : AreThreadsOf w past s.threads
+  pub stamps : AreStampsOf (placed w) (seen past) s.stamps
+  pub book : IsBookOf w past s.book
+  pub output : s.output.items ≡ replay_output w past
+  pub system_output : s.system_output.items ≡ system_output past
+
+-- all that is kept beside memory
+pub record IsAroundAfter (w : World) (past : List Mark) (s : RunState) : Type 0 where
+  pub shown : IsShownAfter w past s
+  pub system : IsSystemOf w past s.system
+  pub interface : functions.IsStateOf (interface w) (placed w) (seen past) s.interface
+  -- of each function of the code
+  pub functions : length s.interface.registered ≡ builtin_count + length w.laid.code.sources
+
+-- a run of a world that fits comes to the state
+pub record IsReached (w : World) (s : RunState) : Type 0 where
+  pub fit : IsFit w
+  pub past : List Mark
+  pub follows : Follows w past
+  pub steps : s.steps ≡ length past
+  pub memory : StandsForRun w past s.memory
+  pub around : IsAroundAfter w past s
