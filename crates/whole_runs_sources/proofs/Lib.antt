@@ -1,23 +1,23 @@
-pub mod Facts
-pub mod MainType
-pub mod Main
-pub mod MainOutside
-pub mod Fitting
-pub mod Functions
-pub mod Faces
-pub mod Closed
-pub mod Named
-pub mod Bodies
-pub mod Keeping
-pub mod Stubbed
-pub mod Values
-pub mod Counted
-pub mod Answered
-pub mod Assembled
-pub mod Strings
-pub mod KnownExpressions
-pub mod KnownBodies
-pub mod KnownPrograms
-pub mod Pushed
-pub mod Under
-pub mod Few
+mod Facts
+mod MainType
+mod Main
+mod MainOutside
+mod Fitting
+mod Functions
+mod Faces
+mod Closed
+mod Named
+mod Bodies
+mod Keeping
+mod Stubbed
+mod Values
+mod Counted
+mod Answered
+mod Assembled
+mod Strings
+mod KnownExpressions
+mod KnownBodies
+mod KnownPrograms
+mod Pushed
+mod Under
+mod Few
