@@ -1,20 +1,24 @@
 #!/usr/bin/env python3
 """Runs `PROGRAM check SOURCE top` and prints its time over that of `gcc -fsyntax-only` on the same text without
-annotations, and its peak memory over the size of the source."""
+annotations, each the best of runs that were made in turn, and its peak memory over the size of the source."""
 import os
 import sys
 
 from timing import timed
 
 
-def best(words, scratch):
-    return min(timed(words, os.path.join(scratch, "printed")) for _ in range(5))
+RUNS = 21
 
 
 def main():
     program, source, plain, scratch = sys.argv[1:]
-    seconds, status, memory = best([program, "check", source, "top"], scratch)
-    gcc_seconds, gcc_status, _ = best(["gcc", "-fsyntax-only", "-x", "c", plain], scratch)
+    printed = os.path.join(scratch, "printed")
+    checks, compilations = [], []
+    for _ in range(RUNS):
+        checks.append(timed([program, "check", source, "top"], printed))
+        compilations.append(timed(["gcc", "-fsyntax-only", "-x", "c", plain], printed))
+    seconds, status, memory = min(checks)
+    gcc_seconds, gcc_status, _ = min(compilations)
     if gcc_status != 0:
         sys.exit("gcc refuses the text")
     size = os.path.getsize(source)

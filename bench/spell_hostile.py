@@ -11,6 +11,9 @@ FUNCTIONS = 990
 BRANCHES = 6_800
 # Branches with nothing in them are fewer nodes.
 EMPTY_BRANCHES = 16_000
+# The name of a function where a statement stands is two of them, in the value of a table one.
+NAMES = 40_000
+ENTRIES = 80_000
 
 
 def names(budget, spell):
@@ -135,6 +138,31 @@ def cuts_before_functions(size):
     return f"[cut({lists})] void {declared};\n" + END
 
 
+def functions_that_name_each_other(size):
+    """Functions, each of which names as many others as there are bytes for."""
+    count = min(FUNCTIONS, size // 40)
+    each = max(1, min(NAMES // count, (size // count - 30) // 5))
+    declared = ",".join(f"x{number}(void)" for number in range(count))
+    bodies = "\n".join(
+        f"void x{number}(void) {{ {''.join(f'x{(number + 1 + other) % count};' for other in range(min(each, count)))} }}"
+        for number in range(count)
+    )
+    return f"void {declared};\n{bodies}\n[cut(top)] int outside(void);\nint main(void) {{ x0(); return 0; }}\n"
+
+
+def functions_over_one_table(size):
+    """A table of functions in the value of a global, and functions each of which names the table."""
+    count = min(FUNCTIONS - 1, size // 60)
+    entries = max(1, min(ENTRIES, (size - 60 * count) // 5))
+    listed = ",".join(f"x{number % count}" for number in range(entries))
+    declared = ",".join(f"x{number}(void)" for number in range(count))
+    bodies = "\n".join(f"void x{number}(void) {{ (void)table[0]; }}" for number in range(count))
+    return (
+        f"void {declared};\nvoid (*table[{entries}])(void) = {{{listed}}};\n{bodies}\n"
+        "[cut(top)] int outside(void);\nint main(void) { x0(); return 0; }\n"
+    )
+
+
 def long_tag_of_globals(size):
     """A long tag that is never defined, before names of pointers."""
     return f"struct {tag(size // 3)} {names(2 * size // 3, lambda name: '*' + name)};\n[cut(top)] int outside(void);\n" + END
@@ -185,6 +213,8 @@ KINDS = [
     held_mutexes_and_calls,
     mutexes_and_branches,
     cuts_before_functions,
+    functions_that_name_each_other,
+    functions_over_one_table,
     long_tag_of_globals,
     long_tag_of_structs,
     long_tag_of_locals,
