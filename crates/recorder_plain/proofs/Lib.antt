@@ -1,0 +1,5 @@
+pub mod PlacesSoFar
+pub mod Frames
+pub mod Replies
+pub mod Breaches
+pub mod Steps
