@@ -10,6 +10,7 @@ ghost use Rattle.recorder_state.specs.Ends.{HasRoom, IsRefused, IsStopped, Lacks
 
 use marks::{FaultKind, Side};
 use recorder_book::Room;
+use std::alloc::AllocError;
 use steps_above_memory::StepRefusal;
 use whole_runs::{Ending, Halt};
 
@@ -20,6 +21,16 @@ pub enum Stop {
     Ended(Ending),
     /// Out of memory.
     Memory,
+}
+
+impl From<AllocError> for Stop {
+    ghost use Rattle.recorder_state.specs.declared.stop.Stop.TheVariants.{Memory};
+
+    ghost from_gives = { λ _ e. e ≡ Memory };
+
+    fn from(_error: AllocError) -> Stop {
+        Stop::Memory
+    }
 }
 
 impl Stop {
