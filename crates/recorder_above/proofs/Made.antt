@@ -32,19 +32,17 @@ use Rattle.recorder_threads.specs.declared.wants.Want.TheVariants as told
 use Rattle.recorder_threads.specs.Threads.{args_at}
 use Rattle.recorder_state.specs.declared.state.RunState.{RunState}
 use Rattle.recorder_state.specs.declared.stop.Stop.{Stop}
-use Rattle.recorder_state.specs.declared.stop.Stop.TheVariants as stop
 use Rattle.recorder_state.specs.Turns.{IsAtStep}
 use Rattle.recorder_state.specs.Ends.{IsRefused, IsStopped}
 use Rattle.recorder_state.specs.Plain.{IsPlainStep}
 use Rattle.recorder_plain.proofs.Frames.{IsFilled}
 use Rattle.recorder_plain.proofs.Breaches.{indirect_found}
 use Rattle.recorder_plain.proofs.Replies.{frame_gives, leave_gives, load_gives, store_gives, turn_gives}
-use Rattle.recorder_plain.proofs.Steps.{before, carries, comes, few, goes_on, stops, stops_before}
+use Rattle.recorder_plain.proofs.Steps.{before, carries, comes, few, goes_on, refused, stops_before}
 
--- what a refusal ends a run with
-pub record EndsBy (t : ℕ) (r : StepRefusal) (end : Stop) : Type 0 where
-  pub stops : (v : World) (n : RunState) → IsRefused v n t Replay r → IsStopped v n end
-  pub memory : r ≡ refusal.Memory → end ≡ stop.Memory
+-- a refusal ends a run so
+abbrev pub EndsBy : (t : ℕ) → StepRefusal → Stop → Type 0
+EndsBy t r end = (v : World) (n : RunState) → IsRefused v n t Replay r → IsStopped v n end
 
 module _ (w : World) (s : RunState) (t : ℕ) where
   pub turn_goes_on : IsAtStep w s t Replay told.Turn → IsPlainStep w s t Replay Go
@@ -55,7 +53,7 @@ module _ (w : World) (s : RunState) (t : ℕ) where
   -- ---- loads and stores
 
   module _ (x n : ℕ) (at : IsAtStep w s t Replay (told.Load x n)) where
-    o : Option ℕ
+    abbrev pub o : Option ℕ
     o = at.told.0
 
     pub load_goes_on : (v : ℕ) (new : Memory) → v < 256 ^ n → ((q : Option ℕ) → Makes s.memory t Replay (Loads q x n) (Load q x (bytes_of_number n v)) new) → IsPlainStep w (record s { memory = new }) t Replay (Value v)
@@ -65,11 +63,10 @@ module _ (w : World) (s : RunState) (t : ℕ) where
 
     pub load_stops : (r : StepRefusal) (end : Stop) (new : Memory) → EndsBy t r end → ((q : Option ℕ) → Refuses s.memory t Replay (Loads q x n) r) → new ≡ s.memory → IsStopped w (record s { memory = new }) end
     load_stops r end new by refuses same =
-        subst (λ m. IsStopped w (record s { memory = m }) end) (sym same)
-        (stops_before w s t Replay (told.Load x n) at (Loads o x n) at.told.1 r end by.stops by.memory (refuses o w at.reached.past (comes w s t Replay (told.Load x n) at (Loads o x n) at.told.1 tt)))
+        stops_before w s t Replay (told.Load x n) at (Loads o x n) at.told.1 r end new same by (refuses o w at.reached.past (comes w s t Replay (told.Load x n) at (Loads o x n) at.told.1 tt))
 
   module _ (x n v : ℕ) (at : IsAtStep w s t Replay (told.Store x n v)) where
-    p : Option ℕ
+    abbrev pub p : Option ℕ
     p = at.told.0
 
     pub store_goes_on : (new : Memory) → ((q : Option ℕ) → Makes s.memory t Replay (Stores q x (bytes_of_number n v)) (Store q x (bytes_of_number n v)) new) → IsPlainStep w (record s { memory = new }) t Replay Go
@@ -79,16 +76,15 @@ module _ (w : World) (s : RunState) (t : ℕ) where
 
     pub store_stops : (r : StepRefusal) (end : Stop) (new : Memory) → EndsBy t r end → ((q : Option ℕ) → Refuses s.memory t Replay (Stores q x (bytes_of_number n v)) r) → new ≡ s.memory → IsStopped w (record s { memory = new }) end
     store_stops r end new by refuses same =
-        subst (λ m. IsStopped w (record s { memory = m }) end) (sym same)
-        (stops_before w s t Replay (told.Store x n v) at (Stores p x (bytes_of_number n v)) at.told.1 r end by.stops by.memory (refuses p w at.reached.past (comes w s t Replay (told.Store x n v) at (Stores p x (bytes_of_number n v)) at.told.1 tt)))
+        stops_before w s t Replay (told.Store x n v) at (Stores p x (bytes_of_number n v)) at.told.1 r end new same by (refuses p w at.reached.past (comes w s t Replay (told.Store x n v) at (Stores p x (bytes_of_number n v)) at.told.1 tt))
 
   -- ---- frames
 
   module _ (i : Bool) (f size : ℕ) (at : IsAtStep w s t Replay (told.Enter i f size)) where
-    said : Told
+    abbrev pub said : Told
     said = told.Enter i f size
 
-    args : List ℕ
+    abbrev pub args : List ℕ
     args = args_at s.threads t
 
     pub enter_carries : AreArguments w.laid f args
@@ -96,11 +92,11 @@ module _ (w : World) (s : RunState) (t : ℕ) where
 
     pub enter_breaks : (end : Stop) → EndsBy t (refusal.Breach Mode (function_address f) None) end → i ≡ true → may_run w.laid.placed Replay f ≡ false → IsStopped w s end
     enter_breaks end by e may_not =
-        stops_before w s t Replay said at (Enters i f args (frame_of w.laid f args)) at.told.0 (refusal.Breach Mode (function_address f) None) end by.stops by.memory
+        stops_before w s t Replay said at (Enters i f args (frame_of w.laid f args)) at.told.0 (refusal.Breach Mode (function_address f) None) end s.memory refl by
         (indirect_found (interface w) Replay f _ i e may_not)
 
     module _ (may : i ≡ true → may_run w.laid.placed Replay f ≡ true) (offsets widths : List ℕ) (fills : IsFilled w.laid f size args offsets widths) where
-      bytes : List ℕ
+      abbrev pub bytes : List ℕ
       bytes = bytes_with_args size offsets widths args
 
       is : at.step.want ≡ Enters i f args bytes
@@ -113,14 +109,13 @@ module _ (w : World) (s : RunState) (t : ℕ) where
 
       pub enter_stops : (r : StepRefusal) (end : Stop) (new : Memory) → EndsBy t r end → ((j : Bool) (g : ℕ) (vs : List ℕ) → Refuses s.memory t Replay (Enters j g vs bytes) r) → new ≡ s.memory → IsStopped w (record s { memory = new }) end
       enter_stops r end new by refuses same =
-          subst (λ m. IsStopped w (record s { memory = m }) end) (sym same)
-          (stops_before w s t Replay said at (Enters i f args bytes) is r end by.stops by.memory (refuses i f args w at.reached.past (comes w s t Replay said at (Enters i f args bytes) is may)))
+          stops_before w s t Replay said at (Enters i f args bytes) is r end new same by (refuses i f args w at.reached.past (comes w s t Replay said at (Enters i f args bytes) is may))
 
   module _ (at : IsAtStep w s t Replay told.Leave) where
-    lies : ℕ
+    abbrev pub lies : ℕ
     lies = at.told.0
 
-    long : ℕ
+    abbrev pub long : ℕ
     long = at.told.1
 
     is_there : IsThere w at.reached.past s.memory at.step lies long
@@ -146,15 +141,15 @@ module _ (w : World) (s : RunState) (t : ℕ) where
         is : at.step.want ≡ Leaves frame.addr frame.len
         is = at.told.2 ∙ ap (λ (r : Range). Leaves r.addr r.len) same
 
-    pub leave_stops : (r : StepRefusal) (end : Stop) (new : Memory) → EndsBy t r end → ((frame : Range) → top_of s.memory.above.spaces.sides.replay t ≡ Some frame → Refuses s.memory t Replay (Leaves frame.addr frame.len) r) → (HasCause r → new ≡ s.memory) → IsStopped w (record s { memory = new }) end
+    pub leave_stops : (r : StepRefusal) (end : Stop) (new : Memory) → ((v : World) (n : RunState) → (HasCause r → IsRefused v n t Replay r) → IsStopped v n end) → ((frame : Range) → top_of s.memory.above.spaces.sides.replay t ≡ Some frame → Refuses s.memory t Replay (Leaves frame.addr frame.len) r) → (HasCause r → new ≡ s.memory) → IsStopped w (record s { memory = new }) end
     leave_stops r end new by refuses same =
-        stops w s t Replay told.Leave at (Leaves lies long) at.told.2 r end by.stops by.memory new
+        by w (record s { memory = new }) (λ cause. refused w s t Replay told.Leave at (Leaves lies long) at.told.2 r new
         (refuses (range lies long) leave_top w at.reached.past (comes w s t Replay told.Leave at (Leaves lies long) at.told.2 tt))
-        (λ cause. subst (λ m. StandsForSeen w at.reached.past m) (sym (same cause)) at.reached.memory.above)
+        (subst (StandsForSeen w at.reached.past) (sym (same cause)) at.reached.memory.above))
 
   -- ---- what is no step
 
   pub step_breaks : (i : Bool) (f : ℕ) → IsAtStep w s t Replay (told.Step i f) → (end : Stop) → EndsBy t (refusal.Breach Mode (function_address f) None) end → IsStopped w s end
   step_breaks i f at end by =
-      stops_before w s t Replay (told.Step i f) at (Steps i f (args_at s.threads t)) at.told (refusal.Breach Mode (function_address f) None) end by.stops by.memory
+      stops_before w s t Replay (told.Step i f) at (Steps i f (args_at s.threads t)) at.told (refusal.Breach Mode (function_address f) None) end s.memory refl by
       (inl (function_address f, (refl, λ y bad. (let e : y ≡ function_address f = bad in omega (arith, e))), refl))

@@ -8,7 +8,6 @@ ghost use Rattle.recorder_state.specs.Stands.{IsReached};
 ghost use Rattle.recorder_state.specs.Turns.{IsAtStep};
 ghost use Rattle.recorder_state.specs.Ends.{IsStopped};
 
-use crate::pending::{go_on, of};
 use c_code::Side;
 use c_machine::Answer;
 use recorder_state::{Inputs, RunState, Stop};
@@ -27,10 +26,10 @@ pub fn load(
 {
     match state.memory.load_above(thread, addr, width) {
         Ok(value) => {
-            go_on(state, inputs, thread, Side::Replay, Answer::Value(value));
+            state.go_on(inputs, thread, Side::Replay, Answer::Value(value));
             Ok(())
         }
-        Err(refusal) => Err(of(thread, Side::Replay, refusal)),
+        Err(refusal) => Err(Stop::of(thread, Side::Replay, refusal)),
     }
 }
 
@@ -49,9 +48,9 @@ pub fn store(
 {
     match state.memory.store_above(thread, addr, width, value) {
         Ok(()) => {
-            go_on(state, inputs, thread, Side::Replay, Answer::Go);
+            state.go_on(inputs, thread, Side::Replay, Answer::Go);
             Ok(())
         }
-        Err(refusal) => Err(of(thread, Side::Replay, refusal)),
+        Err(refusal) => Err(Stop::of(thread, Side::Replay, refusal)),
     }
 }

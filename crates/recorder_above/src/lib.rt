@@ -4,7 +4,6 @@
 mod accesses;
 mod frames;
 mod others;
-mod pending;
 
 pub use accesses::{load, store};
 pub use frames::{enter, leave};

@@ -3,3 +3,4 @@ pub mod Frames
 pub mod Replies
 pub mod Breaches
 pub mod Steps
+pub mod Failing

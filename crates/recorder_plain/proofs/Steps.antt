@@ -1,29 +1,27 @@
 -- Steps that memory made go on, and those that it refuses end the run.
-use Rattle.std.proofs.Common.{◌≡◌, ℕ, ◌<◌, false, List, ◌∷◌, Some, None, refl, sym, ap, ◌∙◌, subst}
+use Rattle.std.proofs.Common.{◌≡◌, ℕ, ◌<◌, false, List, ◌∷◌, length, Some, None, refl, sym, ap, ◌∙◌, subst, arith}
 use Rattle.marks.specs.declared.side.Side.{Side}
 use Rattle.marks.specs.Places.{thread_count}
 use Rattle.marks.specs.Marks.{Act, Mark, is_event}
 use Rattle.marks.specs.Wants.{Want, Answer, answer_to}
 use Rattle.c_code.specs.Typed.{CarriesValues}
 use Rattle.steps_above_memory.specs.declared.refusal.StepRefusal.{StepRefusal}
-use Rattle.steps_above_memory.specs.declared.refusal.StepRefusal.TheVariants as refusal
-use Rattle.steps_above_memory.specs.Steps.{HasCause}
 use Rattle.steps_above_memory.specs.Refusals.{IsFound}
 use Rattle.whole_runs.specs.World.{World}
-use Rattle.whole_runs.specs.Outcomes.{act_outcome}
+use Rattle.whole_runs.specs.Outcomes.{act_outcome, started}
 use Rattle.whole_runs.specs.Tests.{tests}
 use Rattle.whole_runs.specs.Steps.{IsMade}
-use Rattle.whole_runs_seen.proofs.Threads.{carried, threads_known}
+use Rattle.whole_runs_seen.proofs.Threads.{carried, picked_started, threads_known}
 use Rattle.recorder_memory.specs.declared.memory.Memory.{Memory}
 use Rattle.recorder_memory.specs.Stands.{StandsForRun, StandsForSeen}
 use Rattle.recorder_memory.specs.Steps.{ComesTo, IsMarked, MayRun, next_mark}
 use Rattle.recorder_memory.proofs.Quiet as memory
 use Rattle.recorder_threads.specs.declared.wants.Want.{Want as Told}
+use Rattle.recorder_threads.proofs.Places.{count_is}
 use Rattle.recorder_state.specs.declared.state.RunState.{RunState}
 use Rattle.recorder_state.specs.Stands.{IsAroundAfter, IsShownAfter}
 use Rattle.recorder_state.specs.Turns.{IsAtStep}
 use Rattle.recorder_state.specs.declared.stop.Stop.{Stop}
-use Rattle.recorder_state.specs.declared.stop.Stop.TheVariants as stop
 use Rattle.recorder_state.specs.Ends.{IsRefused, IsStopped}
 use Rattle.recorder_state.specs.Plain.{IsPlainStep}
 use Rattle.recorder_plain.proofs.Replies.{plain_replies}
@@ -43,12 +41,18 @@ module _ (w : World) (s : RunState) (t : ℕ) (side : Side) (said : Told) (at : 
   pub few : t < thread_count
   few = subst (λ u. u < thread_count) at.thread (memory.few w at.reached.fit before at.step)
 
+  pub is_started : t < length s.threads
+  is_started =
+      let lt : t < started before = subst (λ u. u < started before) at.thread (picked_started w at.reached.fit.code before (threads_known w at.reached.fit.code before at.reached.follows) at.step) in
+      let n = count_is w before s.threads at.reached.around.shown.threads in
+      omega (arith, lt, n)
+
   -- what is wanted has arguments of its function
   pub carries : CarriesValues w.laid at.step.want
   carries = carried w at.reached.fit.code before (threads_known w at.reached.fit.code before at.reached.follows) at.step
 
   -- memory comes to the step, where its functions keep their modes
-  pub comes : (want : Want) → at.step.want ≡ want → MayRun w before side want → ComesTo w before s.memory t side want
+  abbrev pub comes : (want : Want) → at.step.want ≡ want → MayRun w before side want → ComesTo w before s.memory t side want
   comes want is modes = record {
     fit = at.reached.fit;
     follows = at.reached.follows;
@@ -102,11 +106,9 @@ module _ (w : World) (s : RunState) (t : ℕ) (side : Side) (said : Told) (at : 
     }
 
     -- and the run ends so
-    pub stops : (r : StepRefusal) (end : Stop) → ((v : World) (n : RunState) → IsRefused v n t side r → IsStopped v n end) → (r ≡ refusal.Memory → end ≡ stop.Memory) → (new : Memory) → IsFound (tests w before t side want) r → (HasCause r → StandsForSeen w before new) → IsStopped w (record s { memory = new }) end
-    stops (refusal.Fault kind) end ends none new found stands = ends w (record s { memory = new }) (refused (refusal.Fault kind) new found (stands tt))
-    stops (refusal.Breach kind addr other) end ends none new found stands = ends w (record s { memory = new }) (refused (refusal.Breach kind addr other) new found (stands tt))
-    stops refusal.Memory end ends none new found stands = subst (IsStopped w (record s { memory = new })) (sym (none refl)) tt
+    pub stops : (r : StepRefusal) (end : Stop) (new : Memory) → ((v : World) (n : RunState) → IsRefused v n t side r → IsStopped v n end) → IsFound (tests w before t side want) r → StandsForSeen w before new → IsStopped w (record s { memory = new }) end
+    stops r end new ends found stands = ends w (record s { memory = new }) (refused r new found stands)
 
     -- memory is as it was
-    pub stops_before : (r : StepRefusal) (end : Stop) → ((v : World) (n : RunState) → IsRefused v n t side r → IsStopped v n end) → (r ≡ refusal.Memory → end ≡ stop.Memory) → IsFound (tests w before t side want) r → IsStopped w s end
-    stops_before r end ends none found = stops r end ends none s.memory found (λ cause. at.reached.memory.above)
+    pub stops_before : (r : StepRefusal) (end : Stop) (new : Memory) → new ≡ s.memory → ((v : World) (n : RunState) → IsRefused v n t side r → IsStopped v n end) → IsFound (tests w before t side want) r → IsStopped w (record s { memory = new }) end
+    stops_before r end new same ends found = stops r end new ends found (subst (StandsForSeen w before) (sym same) at.reached.memory.above)

@@ -1,0 +1,1 @@
+use Rattle.recorder_above.proofs.frames.stop_of.Goals as goal
