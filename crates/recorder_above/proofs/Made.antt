@@ -1,32 +1,28 @@
 -- What memory made of steps above the cut, and what it refused.
-use Rattle.std.proofs.Common.{◌≡◌, inl, ℕ, ◌^◌, ◌<◌, ◌≤◌, Bool, true, false, List, length, Option, Some, None, refl, sym, ap, ◌∙◌, subst, arith}
-use Rattle.marks.specs.declared.side.Side.{Side}
+use Rattle.std.proofs.Common.{◌≡◌, inl, ℕ, ◌^◌, ◌<◌, Bool, true, false, List, length, Option, Some, None, refl, sym, ap, ◌∙◌, subst, arith}
 use Rattle.marks.specs.declared.side.Side.TheVariants.{Replay}
 use Rattle.marks.specs.declared.breach.BreachKind.TheVariants.{Mode}
-use Rattle.marks.specs.Places.{function_address, thread_count}
+use Rattle.marks.specs.Places.{function_address}
 use Rattle.marks.specs.declared.range.Range.{Range}
 use Rattle.marks.specs.Ranges.{bytes_of_number, range}
 use Rattle.marks.specs.Marks.{Turn, Load, Store, Enter, Leave}
 use Rattle.marks.specs.Wants.{Turns, Loads, Stores, Enters, Leaves, Steps, Go, Value, Frame}
 use Rattle.c_code.specs.Machine.{frame_of}
 use Rattle.c_code.specs.Typed.{AreArguments, CarriesValues}
-use Rattle.replay_runs.specs.Checks.{BreachFound, Finds, checks}
 use Rattle.space_memory.specs.Sides.{frames_of, top_of}
 use Rattle.space_memory.specs.Spaces.{side_of}
 use Rattle.space_memory_laws.specs.FrameMarks.{bytes_with_args}
 use Rattle.steps_above_memory.specs.declared.refusal.StepRefusal.{StepRefusal}
 use Rattle.steps_above_memory.specs.declared.refusal.StepRefusal.TheVariants as refusal
 use Rattle.steps_above_memory.specs.Steps.{HasCause}
-use Rattle.steps_above_memory.specs.Refusals.{IsFound}
 use Rattle.whole_runs.specs.World.{World, interface, may_run}
-use Rattle.whole_runs.specs.Tests.{tests}
 use Rattle.recorder_memory.specs.declared.memory.Memory.{Memory}
 use Rattle.recorder_memory.specs.Stands.{StandsForSeen}
 use Rattle.recorder_memory.specs.Steps.{Makes, Refuses}
 use Rattle.recorder_memory.specs.Below.{Plainly}
 use Rattle.recorder_memory.specs.Laws.{IsThere}
 use Rattle.recorder_memory.proofs.AccessesAbove.{turns_above}
-use Rattle.recorder_memory.proofs.Quiet.{have_stacks, there}
+use Rattle.recorder_memory.proofs.Quiet.{there}
 use Rattle.recorder_threads.specs.declared.wants.Want.{Want as Told}
 use Rattle.recorder_threads.specs.declared.wants.Want.TheVariants as told
 use Rattle.recorder_threads.specs.Threads.{args_at}
@@ -38,7 +34,7 @@ use Rattle.recorder_state.specs.Plain.{IsPlainStep}
 use Rattle.recorder_plain.proofs.Frames.{IsFilled}
 use Rattle.recorder_plain.proofs.Breaches.{indirect_found}
 use Rattle.recorder_plain.proofs.Replies.{frame_gives, leave_gives, load_gives, store_gives, turn_gives}
-use Rattle.recorder_plain.proofs.Steps.{before, carries, comes, few, goes_on, refused, stops_before}
+use Rattle.recorder_plain.proofs.Steps.{carries, comes, few, goes_on, refused, stops_before}
 
 -- a refusal ends a run so
 abbrev pub EndsBy : (t : ℕ) → StepRefusal → Stop → Type 0

@@ -1,5 +1,5 @@
 -- Functions that may run in a mode, and the breach of one that may not.
-use Rattle.std.proofs.Common.{◌≡◌, inl, ℕ, ◌≤◌, Bool, true, false, ◌||◌, not, [], ◌∷◌, None, refl, sym, ap, ◌∙◌, subst, arith}
+use Rattle.std.proofs.Common.{◌≡◌, inl, ℕ, Bool, true, false, ◌||◌, not, [], ◌∷◌, None, refl, sym, subst, arith}
 use Rattle.marks.specs.declared.side.Side.{Side}
 use Rattle.marks.specs.declared.breach.BreachKind.TheVariants.{Mode}
 use Rattle.marks.specs.Places.{function_address}

@@ -1,5 +1,5 @@
 -- A fault of the code itself is what its tests find.
-use Rattle.std.proofs.Common.{◌≡◌, inl, ℕ, ◌≤◌, refl, sym, ap, ◌∙◌, subst, arith}
+use Rattle.std.proofs.Common.{◌≡◌, inl, ℕ, refl, sym, ap, ◌∙◌, arith}
 use Rattle.marks.specs.declared.side.Side.{Side}
 use Rattle.marks.specs.declared.side.Side.TheVariants.{Replay, System}
 use Rattle.marks.specs.declared.fault.FaultKind.{FaultKind}

@@ -1,11 +1,11 @@
 -- The frame that a step enters has its arguments at the places of the function's parameters.
-use Rattle.std.proofs.Common.{◌≡◌, ℕ, suc, ◌+◌, ◌<◌, ◌≤◌, Bool, true, false, ◌&&◌, List, [], ◌∷◌, length, Option, Some, None, refl, sym, ap, ◌∙◌, subst, arith}
+use Rattle.std.proofs.Common.{◌≡◌, ℕ, suc, ◌+◌, ◌<◌, ◌≤◌, true, List, [], ◌∷◌, length, Option, Some, None, refl, sym, ap, ◌∙◌, subst, arith}
 use Rattle.std.specs.Prelude.{slice_index}
 use Rattle.std.proofs.lemmas.Bool.{and_parts}
 use Rattle.c_code.specs.declared.shape.Shape.{Shape}
 use Rattle.c_code.specs.declared.code.FuncInfo.{FuncInfo}
 use Rattle.c_code.specs.Values.{is_value}
-use Rattle.c_code.specs.Frames.{are_values, frame_bytes, param_offsets, param_widths}
+use Rattle.c_code.specs.Frames.{are_values, param_offsets, param_widths}
 use Rattle.c_code.specs.Machine.{Laid, bytes_for, entry, entry_of, frame_of, func_of}
 use Rattle.c_code.specs.MarkLists.{has_entry, takes_values}
 use Rattle.c_code.specs.Typed.{AreArguments}

@@ -1,10 +1,10 @@
 -- What marks that are no event answer.
-use Rattle.std.proofs.Common.{◌≡◌, ℕ, ◌^◌, ◌<◌, Bool, true, false, List, Option, Some, None, is_some, refl, sym, ap, ◌∙◌, subst}
+use Rattle.std.proofs.Common.{◌≡◌, ℕ, ◌^◌, ◌<◌, Bool, true, false, List, Option, Some, is_some, refl, ap, ◌∙◌}
 use Rattle.marks.specs.declared.side.Side.{Side}
 use Rattle.marks.specs.declared.range.Range.{Range}
 use Rattle.marks.specs.Ranges.{Piece, bytes_of_number, number_of_bytes}
 use Rattle.marks.specs.Marks.{Act, Turn, Load, Store, Enter, Leave, Step, Fault, Made, Mark, is_event, side_of}
-use Rattle.marks.specs.Wants.{Want, Turns, Loads, Stores, Enters, Leaves, CallsBack, Steps, Answer, Go, Value, Frame, answer_if, answer_to}
+use Rattle.marks.specs.Wants.{Want, Turns, Loads, Stores, Leaves, Steps, Answer, Go, Value, Frame, answer_if, answer_to}
 use Rattle.c_code.specs.MarkLists.{reply}
 use Rattle.c_code.proofs.Sides.{replies}
 use Rattle.space_memory_laws.proofs.Digits.{bytes_of}

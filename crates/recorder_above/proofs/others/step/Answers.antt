@@ -1,4 +1,4 @@
-use Rattle.std.proofs.Common.{sym, subst}
+use Rattle.std.proofs.Common.{subst}
 use Rattle.recorder_above.proofs.Made.{EndsBy, step_breaks}
 use Rattle.recorder_above.proofs.others.step.Goals as goal
 

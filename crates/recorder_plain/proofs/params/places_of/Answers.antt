@@ -1,1 +1,0 @@
-use Rattle.recorder_plain.proofs.params.places_of.Goals as goal

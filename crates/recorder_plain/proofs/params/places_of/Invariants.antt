@@ -1,6 +1,4 @@
 -- The places so far, with those of the parameters to come, are all.
-use Rattle.std.proofs.Common.{◌≡◌, ◌≤◌, ◌*◌, ◌++◌, take, drop, length}
-use Rattle.c_code.specs.Frames.{param_offsets, param_widths}
 use Rattle.recorder_plain.proofs.PlacesSoFar.{AreSoFar}
 use Rattle.recorder_plain.proofs.params.places_of.Given as goal
 
