@@ -1,5 +1,5 @@
 -- The state before a run.
-use Rattle.std.proofs.Common.{◌≡◌, ℕ, zero, suc, ◌+◌, ◌<◌, List, [], ◌∷◌, length, get_or, refl, sym, ap, ◌∙◌, arith}
+use Rattle.std.proofs.Common.{◌≡◌, ℕ, zero, suc, ◌<◌, List, [], ◌∷◌, length, get_or, refl, arith}
 use Rattle.memory_map.specs.declared.placed.Place.{Place}
 use Rattle.space_memory.specs.Objects.{IsInArea}
 use Rattle.whole_runs.specs.Fits.{LieApart}

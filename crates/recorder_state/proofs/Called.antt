@@ -1,11 +1,11 @@
 -- A call that comes to its result.
-use Rattle.std.proofs.Common.{◌≡◌, ◌⊎◌, inl, inr, ℕ, zero, suc, ◌<◌, ◌≤◌, Bool, true, false, cond, ◌&&◌, not, eqb, leb, List, [], ◌∷◌, ◌++◌, get_or, Option, Some, None, refl, sym, ap, ◌∙◌, subst, arith, eqb-true}
+use Rattle.std.proofs.Common.{◌≡◌, ◌⊎◌, inl, inr, ℕ, zero, suc, Bool, true, false, cond, ◌&&◌, not, eqb, leb, List, [], ◌∷◌, ◌++◌, get_or, Option, Some, None, refl, sym, ap, ◌∙◌, subst, eqb-true}
 use Rattle.std.specs.Prelude.{is_some, slice_get}
 use Rattle.std.proofs.lemmas.Bool.{and_parts, true≢false}
 use Rattle.marks.specs.declared.range.Range.{Range}
 use Rattle.marks.specs.Ranges.{Piece}
 use Rattle.marks.specs.Marks.{EventKind, Call, Ret, Up, UpRet, Alloc, Free, Stop, Act, Turn, Load, Store, Enter, Leave, Step, Fault, Made, Mark, released}
-use Rattle.marks.specs.Wants.{Want, Outside, Turns, Loads, Stores, Enters, Leaves, Allocs, Frees, Calls, Below, Gives, Returns, CallsBack, UpReturns, Steps, Fails, Answer, Stopped, answer_if, answer_to, event_answer, same_numbers}
+use Rattle.marks.specs.Wants.{Want, Outside, Turns, Loads, Stores, Enters, Leaves, Allocs, Frees, Calls, Below, Gives, Returns, CallsBack, UpReturns, Steps, Fails, Stopped, answer_if, answer_to, event_answer, same_numbers}
 use Rattle.c_builtins.specs.declared.builtin.Builtin.TheVariants.{Spawn}
 use Rattle.c_builtins.specs.Table.{number_of}
 use Rattle.c_code.specs.declared.code.FuncInfo.{FuncInfo}
@@ -21,7 +21,7 @@ use Rattle.replay_runs.proofs.Replies.{same_numbers_true}
 use Rattle.whole_runs.specs.World.{World}
 use Rattle.whole_runs.specs.Outcomes.{Outcome, act_outcome, builtin_of, event_outcome, minus_one, outcome, started}
 use Rattle.whole_runs.specs.Threads.{comes}
-use Rattle.whole_runs.specs.Picks.{asked, can_step, is_free}
+use Rattle.whole_runs.specs.Picks.{asked, is_free}
 use Rattle.whole_runs.specs.Below.{Says, given, given_by}
 use Rattle.whole_runs.specs.Steps.{Picked, IsMade, IsStep, GivesStep, StepOf, BringsGiven, Agrees, EventAgrees}
 use Rattle.whole_runs.specs.Ends.{Follows}

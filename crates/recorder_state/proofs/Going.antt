@@ -1,17 +1,16 @@
 -- A step that is no event, and in which no call comes to its result.
-use Rattle.std.proofs.Common.{◌≡◌, ℕ, ◌<◌, ◌≤◌, Bool, true, false, cond, List, [], ◌∷◌, length, Option, Some, None, refl, sym, ap, ◌∙◌, subst, arith}
+use Rattle.std.proofs.Common.{◌≡◌, ℕ, ◌≤◌, Bool, true, false, cond, List, [], ◌∷◌, length, Option, Some, None, sym, ap, ◌∙◌, arith}
 use Rattle.std.proofs.lemmas.Bool.{true≢false}
 use Rattle.marks.specs.declared.side.Side.{Side}
 use Rattle.marks.specs.Marks.{EventKind, Call, Ret, Up, UpRet, Alloc, Free, Stop, Act, Turn, Load, Store, Enter, Leave, Step, Fault, Made, Mark, is_event}
 use Rattle.marks.specs.Wants.{event_answer, Want, Outside, Turns, Loads, Stores, Enters, Leaves, Allocs, Frees, Calls, Below, Gives, Returns, CallsBack, UpReturns, Steps, Fails, Answer, Stopped, answer_to, is_fault_at_byte, stopped_if}
 use Rattle.c_code.specs.MarkLists.{reply, same_side}
 use Rattle.marks.specs.Marks as marks
-use Rattle.replay_runs.specs.Runs.{is_fault}
 use Rattle.whole_runs.specs.World.{World}
 use Rattle.whole_runs.specs.Outcomes.{Outcome, act_outcome, event_outcome}
 use Rattle.whole_runs.specs.Steps.{Picked, IsMade}
 use Rattle.whole_runs.specs.Ends.{Follows, HasRoomFor}
-use Rattle.recorder_threads.specs.Answers.{IsCall, IsNoCall}
+use Rattle.recorder_threads.specs.Answers.{IsNoCall}
 
 -- marks that are no event have room
 pub room : (past : List Mark) (m : Mark) → is_event m.act ≡ false → HasRoomFor past m

@@ -1,5 +1,5 @@
 -- A step in which a call comes to its result.
-use Rattle.std.proofs.Common.{◌≡◌, ℕ, ◌<◌, inl, inr, Bool, true, false, ◌&&◌, not, eqb, List, [], ◌∷◌, length, Option, Some, None, refl, sym, ap, ◌∙◌, subst, arith, eqb-true, get_or, Result, Ok, Err}
+use Rattle.std.proofs.Common.{◌≡◌, ℕ, ◌<◌, inl, inr, true, false, ◌&&◌, not, eqb, List, [], ◌∷◌, length, Some, None, refl, sym, ap, ◌∙◌, subst, eqb-true, get_or, Result, Ok, Err}
 use Rattle.marks.specs.Marks.{Mark}
 use Rattle.marks.specs.Wants.{Want, Outside, Turns, Loads, Stores, Enters, Leaves, Allocs, Frees, Calls, Below, Gives, Returns, CallsBack, UpReturns, Steps, Fails, Answer, Go, Value}
 use Rattle.c_builtins.specs.declared.builtin.Builtin.TheVariants.{Spawn}
@@ -20,7 +20,6 @@ use Rattle.recorder_threads.proofs.Answering.{below}
 use Rattle.recorder_threads.proofs.Places.{count_is}
 use Rattle.whole_runs_threads.proofs.Own.{numbered_so}
 use Rattle.c_code.specs.Valid.{IsValid}
-use Rattle.c_code.specs.MarkLists.{reply}
 use Rattle.std.specs.Prelude.{OnOk}
 use Rattle.std.proofs.lemmas.Bool.{and_parts}
 use Rattle.recorder_system.specs.Calls.{HasInt, IsOutcome, Notes}

@@ -52,7 +52,8 @@ impl Stop {
 
     /// The step needs an answer of the function, and the file has no more.
     pub fn for_lack(func: u16) -> Stop
-        ensures { (w : World) (s : RunState) (t : ℕ) (side : SideOf) → LacksAnswer w s t side func → IsStopped w s result }
+        ensures { (w : World) (s : RunState) (t : ℕ) (side : SideOf) → LacksAnswer w s t side func →
+            IsStopped w s result }
     {
         Stop::Ended(Ending::Halted(Halt::Script(func)))
     }
@@ -60,8 +61,8 @@ impl Stop {
     /// Why an event isn't made for which this is the room, if it isn't.
     pub fn for_room(room: Room) -> Result<(), Stop>
         ensures free { OnOk result (room ≡ Free) }
-        ensures stops { IfErr result (λ stop. (w : World) (s : RunState) (t : ℕ) (side : SideOf) → HasRoom w s t side room →
-            IsStopped w s stop) }
+        ensures stops { IfErr result (λ stop. (w : World) (s : RunState) (t : ℕ) (side : SideOf) →
+            HasRoom w s t side room → IsStopped w s stop) }
     {
         match room {
             Room::Free => Ok(()),

@@ -2,7 +2,6 @@
 
 ghost use Rattle.std.specs.Prelude.{◌≡◌, ◌∷◌, OnOk};
 ghost use Rattle.marks.specs.Wants.{Value};
-ghost use Rattle.c_machine.specs.Positions.{laid};
 ghost use Rattle.c_machine.specs.Wants.{told};
 ghost use Rattle.recorder_threads.specs.Answers.{IsNoCall, IsPlain};
 ghost use Rattle.recorder_threads.specs.Threads.{AreThreadsOf};
@@ -82,8 +81,8 @@ impl RunState {
 
 // Tells the thread of a mark that gives its code this answer.
 fn tell(threads: &mut Threads, inputs: Inputs<'_>, thread: u8, answer: Answer)
-    requires { IsPlain (laid inputs.code.now inputs.placed.now) threads.old thread IsNoCall (told answer) }
-    ensures { (a : IsPlain (laid inputs.entry.code.now inputs.entry.placed.now) threads.old thread IsNoCall (told answer)) →
+    requires { IsPlain (world_of inputs).laid threads.old thread IsNoCall (told answer) }
+    ensures { (a : IsPlain (world_of inputs.entry).laid threads.old thread IsNoCall (told answer)) →
         AreThreadsOf a.next.world (a.next.mark ∷ a.next.past) threads.new }
 {
     match answer {
@@ -102,8 +101,8 @@ fn give_to(
     func: u16,
     value: u64,
 ) -> Result<(), AllocError>
-    requires { IsResult (laid inputs.code.now inputs.placed.now) threads.old thread func value }
-    ensures { OnOk result ((a : IsResult (laid inputs.entry.code.now inputs.entry.placed.now) threads.old thread func value) →
+    requires { IsResult (world_of inputs).laid threads.old thread func value }
+    ensures { OnOk result ((a : IsResult (world_of inputs.entry).laid threads.old thread func value) →
         AreThreadsOf a.next.world (a.next.mark ∷ a.next.past) threads.new) }
 {
     if is_start(func, value) {

@@ -1,5 +1,4 @@
-use Rattle.std.proofs.Common.{◌≡◌, ◌<◌, ◌≤◌, ◌+◌, true, false, get_or, length, sym, ap, ◌∙◌, subst, arith}
-use Rattle.whole_runs.specs.World.{is_main}
+use Rattle.std.proofs.Common.{◌<◌, true, false, length, sym, ap, ◌∙◌, arith}
 use Rattle.recorder_state.specs.Inputs.{is_main_in}
 use Rattle.recorder_state.proofs.Sources.{at_place, main_is, main_is_none, one_more, source_at, some_at}
 use Rattle.recorder_state.proofs.begin.main_of.Goals as goal

@@ -1,4 +1,4 @@
-use Rattle.std.proofs.Common.{◌≡◌, ◌<◌, [], ◌∷◌, true, false, length, get_or, OnOk, sym, ap, ◌∙◌, subst, arith}
+use Rattle.std.proofs.Common.{◌≡◌, [], ◌∷◌, length, get_or, sym, ap, ◌∙◌, arith}
 use Rattle.c_machine.specs.Positions.{laid}
 use Rattle.recorder_threads.specs.Threads.{AreThreadsOf, args_at}
 use Rattle.recorder_state.specs.Plain.{IsResult}

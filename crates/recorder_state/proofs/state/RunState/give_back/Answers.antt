@@ -1,4 +1,4 @@
-use Rattle.std.proofs.Common.{◌≡◌, ◌∷◌, sym, subst}
+use Rattle.std.proofs.Common.{sym, subst}
 use Rattle.marks.specs.Wants.{Go}
 use Rattle.recorder_system.specs.Calls.{HasInt, Notes}
 use Rattle.recorder_state.specs.Inputs.{world_of}

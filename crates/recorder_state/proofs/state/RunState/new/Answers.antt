@@ -1,4 +1,4 @@
-use Rattle.std.proofs.Common.{◌≡◌, ◌<◌, length, get_or, [], refl, sym, ap, ◌∙◌, arith}
+use Rattle.std.proofs.Common.{get_or, [], refl, ◌∙◌, arith}
 use Rattle.recorder_state.specs.Inputs.{world_of}
 use Rattle.recorder_state.proofs.Begun.{in_areas, same_get}
 use Rattle.recorder_state.proofs.state.RunState.new.Goals as goal
