@@ -2,9 +2,11 @@
 #![tactic(auto)]
 
 mod accesses;
+mod builtins;
 mod frames;
 mod rounds;
 
 pub use accesses::{load, store};
+pub use builtins::builtin;
 pub use frames::{call_back, enter, leave};
 pub use rounds::turn;
