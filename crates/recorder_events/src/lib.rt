@@ -1,0 +1,5 @@
+//! The steps of a recording that are events: calls of the interface and their returns, calls back, and the pool.
+#![tactic(auto)]
+
+mod making;
+mod room;
