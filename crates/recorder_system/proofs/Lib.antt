@@ -1,16 +1,16 @@
-mod Lists
-mod IntPatterns
-mod Numbers
-mod Runs
-mod Standing
-mod Tries
-mod Joins
-mod Waiting
-mod Mutexes
-mod Scripts
-mod Stays
-mod Noted
-mod Told
-mod Changes
-mod Values
-mod Gives
+pub mod Lists
+pub mod IntPatterns
+pub mod Numbers
+pub mod Runs
+pub mod Standing
+pub mod Tries
+pub mod Joins
+pub mod Waiting
+pub mod Mutexes
+pub mod Scripts
+pub mod Stays
+pub mod Noted
+pub mod Told
+pub mod Changes
+pub mod Values
+pub mod Gives
