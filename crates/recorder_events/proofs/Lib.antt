@@ -1,3 +1,6 @@
 pub mod Numbers
 pub mod Made
 pub mod Sized
+pub mod Few
+pub mod Recorded
+pub mod Results

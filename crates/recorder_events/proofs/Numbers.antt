@@ -19,7 +19,7 @@ use Rattle.steps_above_stamps.specs.declared.stamps.EventStamp.{EventStamp}
 use Rattle.steps_above_stamps.proofs.Stamped.{IsNext, ticketed, keys_ticketed, made_stamped}
 
 module _ (memory : ℕ → Byte) (past : List Mark) (old : StampsState) (t : ℕ) (keys : List Key) where
-  pub numbers : EventStamp
+  abbrev pub numbers : EventStamp
   numbers = record {
     steps = slice_index old.steps t;
     clock = suc (latest (counted.last_clock (occurrences past)) (occurrence t keys));
