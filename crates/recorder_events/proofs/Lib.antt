@@ -4,3 +4,5 @@ pub mod Sized
 pub mod Few
 pub mod Recorded
 pub mod Results
+pub mod Places
+pub mod Marked

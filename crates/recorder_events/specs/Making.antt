@@ -4,7 +4,7 @@ use Rattle.run_events.specs.declared.event.Event.{Event as Recorded}
 use Rattle.run_events.specs.declared.key.Key.{Key}
 use Rattle.run_events.specs.declared.key.KeyMark.{KeyMark}
 use Rattle.marks.specs.declared.side.Side.TheVariants.{Replay}
-use Rattle.marks.specs.Marks.{EventKind, Mark}
+use Rattle.marks.specs.Marks.{EventKind, Call, Ret, Up, UpRet, Alloc, Free, Stop, Mark}
 use Rattle.marks.specs.Bytes.{EventAsks}
 use Rattle.marks.specs.Wants.{Answer, event_answer}
 use Rattle.c_code.specs.MarkLists.{reply}
@@ -92,3 +92,13 @@ pub record IsEventStep (w : World) (s : RunState) (t : ℕ) (x : Answer) : Type 
   pub system : IsSystemOf w marked.past s.system
   pub no_outcome : act_outcome marked.mark.thread marked.mark.act ≡ None
   pub answers : reply marked.step.side marked.step.want marked.mark ≡ Some x
+
+-- the event registers no function, prints nothing, and is no return
+abbrev pub IsOfPoolOrUp : EventKind → Type 0
+IsOfPoolOrUp (Call func args ins outs prepared) = ⊥
+IsOfPoolOrUp (Ret func args result same outs commit) = ⊥
+IsOfPoolOrUp (Up func args) = Unit {0}
+IsOfPoolOrUp (UpRet func result) = Unit {0}
+IsOfPoolOrUp (Alloc at size) = Unit {0}
+IsOfPoolOrUp (Free at size) = Unit {0}
+IsOfPoolOrUp (Stop fault) = ⊥
