@@ -1,7 +1,6 @@
 -- What comes after a state.
-use Rattle.std.specs.Prelude.{◌≡◌, ℕ, ◌<◌, true, length, Option, Some, None}
+use Rattle.std.specs.Prelude.{◌≡◌, ℕ, ◌<◌, true, Option, Some, None}
 use Rattle.marks.specs.declared.side.Side.{Side}
-use Rattle.system_side.specs.Schedule.{wish_at}
 use Rattle.system_side.specs.Threads.{is_ready}
 use Rattle.whole_runs.specs.World.{World}
 use Rattle.whole_runs.specs.Outcomes.{started}
@@ -32,15 +31,14 @@ IsTurn w s (turn.Step t side want) = IsAtStep w s t side want
 
 -- ---- on the way to it
 
--- the run goes on, if a thread can step; this one is wished for
-pub record IsTrying (w : World) (wish : ℕ) (s : RunState) : Type 0 where
+-- the run goes on, if a thread can step
+pub record IsTrying (w : World) (s : RunState) : Type 0 where
   pub reached : IsReached w s
   pub goes_on : GoesOn w reached.past
-  pub wished : wish ≡ wish_at w.file.schedule (length reached.past)
 
 -- this thread is tried: it makes the step if it can
-pub record IsTried (w : World) (wish : ℕ) (s : RunState) (t : ℕ) : Type 0 where
-  pub trying : IsTrying w wish s
+pub record IsTried (w : World) (s : RunState) (t : ℕ) : Type 0 where
+  pub trying : IsTrying w s
   pub started : t < started trying.reached.past
   pub steps_if : can_step w trying.reached.past t ≡ true → stepping w trying.reached.past ≡ Some t
   pub ready : is_ready s.system.threads t ≡ true

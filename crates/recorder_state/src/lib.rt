@@ -1,9 +1,11 @@
-//! The state of a recording, what comes next, and the steps that change nothing but memory and the thread that makes them.
+//! The state of a recording, what comes next, and what the state is told of each step.
 #![tactic(auto)]
 
 mod inputs;
+mod next;
 mod state;
 mod stop;
+mod telling;
 mod turn;
 
 pub use inputs::Inputs;

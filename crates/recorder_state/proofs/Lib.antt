@@ -1,0 +1,7 @@
+mod Plain
+mod Going
+mod Flags
+mod Ending
+mod PlainSteps
+mod Tried
+mod Broken
