@@ -6,3 +6,6 @@ pub mod Recorded
 pub mod Results
 pub mod Places
 pub mod Marked
+pub mod Ending
+pub mod Steps
+pub mod Allocs

@@ -133,8 +133,8 @@ around_with w past s memory a = record {
 module _ (w : World) (past : List Mark) (s : Picked w past) (kind : EventKind) (keys : List Key) (old new : RunState) (r : IsRecorded w past s kind keys old new) where
   -- of the pool or of a call back
   pub event_step : (t : ℕ) (x : Answer) → IsOfPoolOrUp kind → IsFit w → Follows w past → old.steps ≡ length past → IsAroundAfter w past old → s.thread ≡ t → HasRoomFor past (event_mark w past s kind r.stamp)
-      → StandsForRun w (event_mark w past s kind r.stamp ∷ past) old.memory → reply s.side s.want (event_mark w past s kind r.stamp) ≡ Some x → IsEventStep w new t x
-  event_step t x quiet fit follows steps around thread room memory answers = subst (λ z. IsEventStep w z t x) (sym r.rest) (record {
+      → StandsForRun w (event_mark w past s kind r.stamp ∷ past) old.memory → reply s.side s.want (event_mark w past s kind r.stamp) ≡ Some x → IsEventStep w new t s.want x
+  event_step t x quiet fit follows steps around thread room memory answers = subst (λ z. IsEventStep w z t s.want x) (sym r.rest) (record {
     marked = record {
       fit = fit;
       past = past;
@@ -155,6 +155,7 @@ module _ (w : World) (past : List Mark) (s : Picked w past) (kind : EventKind) (
         functions = around.functions;
       };
     };
+    want_is = refl;
     threads = around.shown.threads;
     system = around.system;
     no_outcome = no_outcome w past s r.stamp s.thread kind quiet;
@@ -163,14 +164,14 @@ module _ (w : World) (past : List Mark) (s : Picked w past) (kind : EventKind) (
 
 -- ---- what is told of it
 
-module _ (w : World) (s : RunState) (t : ℕ) (x : Answer) (h : IsEventStep w s t x) where
+module _ (w : World) (s : RunState) (t : ℕ) (want : Want) (x : Answer) (h : IsEventStep w s t want x) where
   abbrev k : IsMarkedStep w s t
   k = h.marked
 
-  of_thread : k.mark.thread ≡ t
+  pub of_thread : k.mark.thread ≡ t
   of_thread = k.made.mark.of_thread ∙ k.thread
 
-  abbrev pub answered : (On : Want → Type 0) → On k.step.want → IsAnswered w.laid s.threads t On x
+  abbrev pub answered : (On : Want → Type 0) → On want → IsAnswered w.laid s.threads t On x
   answered On wanted = record {
     world = w;
     laid = refl;
@@ -180,11 +181,11 @@ module _ (w : World) (s : RunState) (t : ℕ) (x : Answer) (h : IsEventStep w s 
     mark = k.mark;
     of_thread = of_thread;
     follows = (record { step = k.step; made = k.made; room = k.room }, k.follows);
-    wanted = wanted;
+    wanted = subst On (sym h.want_is) wanted;
     answers = h.answers;
   }
 
-  abbrev pub plain_answer : (On : Want → Type 0) → On k.step.want → IsPlain w.laid s.threads t On x
+  abbrev pub plain_answer : (On : Want → Type 0) → On want → IsPlain w.laid s.threads t On x
   plain_answer On wanted = record { next = answered On wanted; alone = started_same k.past k.mark h.no_outcome }
 
   can : can_step w k.past k.step.thread ≡ true

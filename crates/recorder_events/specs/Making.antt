@@ -6,7 +6,7 @@ use Rattle.run_events.specs.declared.key.KeyMark.{KeyMark}
 use Rattle.marks.specs.declared.side.Side.TheVariants.{Replay}
 use Rattle.marks.specs.Marks.{EventKind, Call, Ret, Up, UpRet, Alloc, Free, Stop, Mark}
 use Rattle.marks.specs.Bytes.{EventAsks}
-use Rattle.marks.specs.Wants.{Answer, event_answer}
+use Rattle.marks.specs.Wants.{Want, Answer, event_answer}
 use Rattle.c_code.specs.MarkLists.{reply}
 use Rattle.logical_clock.specs.Events.{is_among}
 use Rattle.replay_runs.specs.Runs.{OfKey, byte, marks_of, new_events}
@@ -86,8 +86,9 @@ pub record IsRecorded (w : World) (past : List Mark) (s : Picked w past) (kind :
   pub rest : new ≡ record old { stamps = new.stamps; book = new.book }
 
 -- a run comes to a step and makes an event with which no call comes to its result; threads and system were not told of it
-pub record IsEventStep (w : World) (s : RunState) (t : ℕ) (x : Answer) : Type 0 where
+pub record IsEventStep (w : World) (s : RunState) (t : ℕ) (want : Want) (x : Answer) : Type 0 where
   pub marked : IsMarkedStep w s t
+  pub want_is : marked.step.want ≡ want
   pub threads : AreThreadsOf w marked.past s.threads
   pub system : IsSystemOf w marked.past s.system
   pub no_outcome : act_outcome marked.mark.thread marked.mark.act ≡ None

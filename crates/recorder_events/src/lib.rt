@@ -2,4 +2,7 @@
 #![tactic(auto)]
 
 mod making;
+mod pool;
 mod room;
+
+pub use pool::alloc;
