@@ -9,3 +9,6 @@ pub mod Marked
 pub mod Ending
 pub mod Steps
 pub mod Allocs
+pub mod LastUp
+pub mod UpReturns
+pub mod Quiet

@@ -13,6 +13,7 @@ use Rattle.replay_runs.specs.Runs.{OfKey, byte, marks_of, new_events}
 use Rattle.replay_runs.specs.Checks.{Passes}
 use Rattle.replay_runs.specs.Keys.{keys_for, sorted_keys}
 use Rattle.replay_runs.specs.Rules.{EventCarries, SharedEvent}
+use Rattle.space_memory_laws.specs.Marks.{IsQuietEvent}
 use Rattle.steps_above_stamps.specs.Stamps.{AreStampsOf, event_with}
 use Rattle.steps_above_stamps.specs.declared.stamps.EventStamp.{EventStamp}
 use Rattle.whole_runs.specs.World.{World, begin, interface}
@@ -28,7 +29,7 @@ use Rattle.recorder_threads.specs.Threads.{AreThreadsOf}
 use Rattle.recorder_system.specs.Stands.{IsSystemOf}
 use Rattle.recorder_book.specs.Book.{IsBookOf}
 use Rattle.recorder_state.specs.declared.state.RunState.{RunState}
-use Rattle.recorder_state.specs.Stands.{IsAroundAfter}
+use Rattle.recorder_state.specs.Stands.{IsAroundAfter, IsReached}
 use Rattle.recorder_state.specs.Plain.{IsMarkedStep}
 
 -- a thread's own marks above the cut
@@ -103,3 +104,17 @@ IsOfPoolOrUp (UpRet func result) = Unit {0}
 IsOfPoolOrUp (Alloc at size) = Unit {0}
 IsOfPoolOrUp (Free at size) = Unit {0}
 IsOfPoolOrUp (Stop fault) = ⊥
+
+-- a run comes to a step that can be an Up or UpRet which has these keys and this record
+pub record IsCallBackNext (w : World) (s : RunState) (t : ℕ) (keys : List Key) (event : Recorded) : Type 0 where
+  pub reached : IsReached w s
+  pub step : Picked w reached.past
+  pub thread : step.thread ≡ t
+  pub kind : EventKind
+  pub quiet : IsQuietEvent kind
+  pub goes_on : IsOfPoolOrUp kind
+  pub can_be : CanBe w reached.past step kind
+  pub keys_are : next_keys w step.thread reached.past kind ≡ keys
+  pub event_is : full_event kind ≡ event
+  pub answer : Answer
+  pub answers : event_answer step.want kind ≡ Some answer
