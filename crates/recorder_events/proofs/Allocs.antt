@@ -40,7 +40,7 @@ use Rattle.recorder_events.proofs.Steps.{coming, step_made}
 use Rattle.recorder_events.proofs.Ending.{IsSized, ends_full}
 use Rattle.recorder_events.proofs.Places.{place_is_there}
 
-only_key : (j k : Key) → is_among (j ∷ []) k ≡ true → j ≡ k
+pub only_key : (j k : Key) → is_among (j ∷ []) k ≡ true → j ≡ k
 only_key j k h = same_key_true j k (go (same_key j k) h)
   where
     go : (b : Bool) → (b || false) ≡ true → b ≡ true
