@@ -1,9 +1,8 @@
 -- What is found of a Free that isn't made.
-use Rattle.std.proofs.Common.{◌≡◌, ℕ, zero, suc, ◌+◌, ◌^◌, ◌<◌, ◌≤◌, Bool, true, false, List, Option, Some, None, Result, Ok, Err, refl, sym, ap, ◌∙◌, subst, arith}
+use Rattle.std.proofs.Common.{◌≡◌, ℕ, zero, suc, ◌+◌, ◌^◌, ◌<◌, ◌≤◌, true, false, List, Option, Some, None, Ok, refl, sym, ap, ◌∙◌, subst, arith}
 use Rattle.std.specs.Prelude.{is_some, unwrap_or}
 use Rattle.std.proofs.lemmas.Bool.{true≢false}
 use Rattle.marks.specs.declared.side.Side.TheVariants.{Replay}
-use Rattle.marks.specs.declared.range.Range.{Range}
 use Rattle.marks.specs.Ranges.{covers, range, IsLeastIn}
 use Rattle.marks.specs.Places.{pool_size, replay_pool}
 use Rattle.marks.specs.Marks.{Mark}
@@ -27,7 +26,6 @@ use Rattle.space_memory_laws.specs.StandsFor.{StandsFor}
 use Rattle.space_memory_laws.specs.Shown.{by_address}
 use Rattle.space_memory_laws.proofs.Blocks.{begins_from, any_is, any_there}
 use Rattle.space_memory_laws.proofs.Cells.{below_system, covered}
-use Rattle.steps_above_memory.specs.declared.refusal.StepRefusal.{StepRefusal}
 use Rattle.steps_above_memory.specs.Refusals.{refusal_of}
 use Rattle.steps_above_memory.proofs.Freeing.{refused_free, taken_free}
 use Rattle.whole_runs.specs.World.{begin, interface, program_of}
@@ -36,7 +34,7 @@ use Rattle.recorder_memory.specs.declared.memory.Memory.{Memory}
 use Rattle.recorder_memory.specs.Stands.{placed}
 use Rattle.recorder_memory.specs.Steps.{Refuses}
 use Rattle.recorder_memory.specs.Events.{HasBlock, Takes}
-use Rattle.recorder_memory.proofs.Blocks.{block_asks, block_null, block_there}
+use Rattle.recorder_memory.proofs.Blocks.{block_asks, block_null}
 
 -- a block lies in the pool, and its bytes are live
 module _ (s : Start) (past : List Mark) (memory : SpaceState) (h : StandsFor s past memory) (addr len : ℕ) (is : length_at memory.sides.replay.pool.blocks addr ≡ Some len) where

@@ -1,52 +1,30 @@
 -- A Free.
-use Rattle.std.proofs.Common.{◌≡◌, inl, inr, ℕ, zero, suc, ◌+◌, ◌^◌, ◌<◌, ◌≤◌, Bool, true, false, ◌||◌, eqb, List, [], ◌∷◌, length, map, Option, Some, None, Result, Ok, Err, refl, sym, ap, ◌∙◌, subst, arith, eq-eqb}
-use Rattle.std.specs.Prelude.{is_some, unwrap_or}
-use Rattle.std.proofs.lemmas.Bool.{true≢false}
+use Rattle.std.proofs.Common.{◌≡◌, ℕ, List, [], ◌∷◌, length, Some, None, refl, sym, ap, ◌∙◌, subst, eq-eqb}
+use Rattle.std.specs.Prelude.{is_some}
 use Rattle.std.proofs.lemmas.List.{length-map}
 use Rattle.run_events.specs.declared.event.Event.TheVariants as logged
 use Rattle.run_events.specs.declared.key.Class.TheVariants.{Pool}
-use Rattle.run_events.specs.declared.key.Key.{Key}
 use Rattle.run_events.specs.declared.key.KeyMark.{KeyMark}
 use Rattle.marks.specs.declared.side.Side.TheVariants.{Replay}
-use Rattle.marks.specs.declared.range.Range.{Range}
-use Rattle.marks.specs.Ranges.{covers, range}
-use Rattle.marks.specs.Places.{pool_size, replay_pool, is_system}
 use Rattle.marks.specs.Marks.{Free, Mark}
-use Rattle.marks.specs.Wants.{Want, Frees, Answer, Go, answer_if, event_answer}
-use Rattle.memory_map.specs.declared.areas.TheConstants.{SYSTEM_MEMORY}
-use Rattle.pool_list.specs.Blocks.{PoolState, length_at}
-use Rattle.race_watch.specs.Stands.{AnswersBy}
+use Rattle.marks.specs.Wants.{Frees, Go, answer_if, event_answer}
 use Rattle.replay_runs.specs.Runs.{OfKey, new_events}
 use Rattle.replay_runs.specs.Keys.{key}
 use Rattle.replay_runs.specs.Checks.{Passes}
-use Rattle.replay_runs.specs.Pool.{blocks}
 use Rattle.replay_runs.specs.Rules.{SharedEvent}
-use Rattle.space_memory_bytes.specs.Areas.{IsDead}
-use Rattle.space_memory_access.specs.declared.refusal.Refusal.{Refusal}
-use Rattle.space_memory_access.specs.declared.refusal.Refusal.TheVariants.{NotLive, Pending, OtherSpace, ReadOnly, StackFull, KeyInUse, NoKey, Size}
-use Rattle.space_memory_access.specs.Accesses.{IsAllowed, IsRefused}
-use Rattle.space_memory.specs.Blocks.{IsFreeRefused}
-use Rattle.space_memory.specs.Spaces.{SpaceState}
-use Rattle.space_memory_laws.specs.StandsFor.{StandsFor}
-use Rattle.space_memory_laws.proofs.Cells.{below_system, covered}
 use Rattle.steps_above_memory.specs.declared.refusal.StepRefusal.{StepRefusal}
-use Rattle.steps_above_memory.specs.Refusals.{IsFound, refusal_of}
-use Rattle.steps_above_memory.specs.Steps as above
-use Rattle.steps_above_memory.proofs.Freeing.{refused_free, taken_free}
+use Rattle.steps_above_memory.specs.Refusals.{IsFound}
 use Rattle.whole_runs.specs.declared.ending.Ending.{Ending}
-use Rattle.whole_runs.specs.World.{World, begin, interface, program_of}
+use Rattle.whole_runs.specs.World.{World, begin, interface}
 use Rattle.whole_runs.specs.Sides.{seen}
 use Rattle.whole_runs.specs.Tests.{tests}
-use Rattle.whole_runs.specs.Steps.{Picked}
 use Rattle.recorder_memory.specs.declared.memory.Memory.{Memory}
-use Rattle.recorder_memory.specs.Stands.{placed}
 use Rattle.recorder_memory.specs.Steps.{ComesTo, Refuses}
-use Rattle.recorder_memory.specs.Events.{HasBlock, IsBlock, Makes, Takes}
-use Rattle.recorder_memory.proofs.Blocks.{block_asks, block_null, block_there}
+use Rattle.recorder_memory.specs.Events.{HasBlock, Makes, Takes}
 use Rattle.recorder_threads.specs.declared.wants.Want.TheVariants as told
 use Rattle.recorder_state.specs.declared.state.RunState.{RunState}
 use Rattle.recorder_state.specs.Turns.{IsAtStep}
-use Rattle.recorder_state.specs.Ends.{IsBrokenOff, IsEnded, IsRefused as IsRefusedStep}
+use Rattle.recorder_state.specs.Ends.{IsEnded, IsRefused as IsRefusedStep}
 use Rattle.recorder_events.specs.Room.{IsRoomOrEnd}
 use Rattle.recorder_events.specs.Making.{CanBe, IsComing, IsEventStep, IsRecorded}
 use Rattle.recorder_events.proofs.Allocs.{only_key}

@@ -61,12 +61,7 @@ pub fn alloc(
 }
 
 // What the tests of a Free find, which isn't made; else how many bytes the block has.
-fn test_free(
-    memory: &Memory,
-    alloc: Global,
-    thread: u8,
-    addr: u64,
-) -> Result<u64, StepRefusal>
+fn test_free(memory: &Memory, alloc: Global, thread: u8, addr: u64) -> Result<u64, StepRefusal>
     requires { thread < THREADS }
     ensures passes { OnOk result (Takes memory.now thread Replay (Frees addr)) }
     ensures block { IfOk result (HasBlock memory.now thread addr) }

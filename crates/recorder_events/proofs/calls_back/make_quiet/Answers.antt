@@ -1,4 +1,3 @@
-use Rattle.std.proofs.Common.{refl}
 use Rattle.recorder_events.proofs.Few.{thread_few}
 use Rattle.recorder_events.proofs.Steps.{watch_few}
 use Rattle.recorder_events.proofs.Quiet.{ends, coming_so, made_so}

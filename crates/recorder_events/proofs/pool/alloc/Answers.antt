@@ -1,4 +1,3 @@
-use Rattle.std.proofs.Common.{refl}
 use Rattle.marks.specs.Wants.{Allocs, Value}
 use Rattle.recorder_threads.specs.Answers.{IsNoCall}
 use Rattle.recorder_events.proofs.Few.{thread_few}

@@ -1,4 +1,3 @@
-use Rattle.std.proofs.Common.{refl}
 use Rattle.recorder_events.proofs.Few.{thread_few}
 use Rattle.recorder_events.proofs.Frees.{ends, refused}
 use Rattle.recorder_events.proofs.pool.end_at_free.Goals as goal

@@ -1,8 +1,7 @@
-use Rattle.std.proofs.Common.{refl, sym, subst}
+use Rattle.std.proofs.Common.{sym, subst}
 use Rattle.marks.specs.declared.side.Side.TheVariants.{Replay}
 use Rattle.marks.specs.Wants.{Frees, Go}
 use Rattle.recorder_threads.specs.Answers.{IsNoCall}
-use Rattle.recorder_state.specs.declared.state.RunState.{RunState}
 use Rattle.recorder_state.specs.Ends.{IsRefused}
 use Rattle.recorder_state.specs.Inputs.{world_of}
 use Rattle.recorder_events.proofs.Few.{thread_few}

@@ -1,8 +1,7 @@
-use Rattle.std.proofs.Common.{◌<◌, true, Err, refl, sym, ap, ◌∙◌, subst, arith}
+use Rattle.std.proofs.Common.{true, Err, refl, sym, ap, ◌∙◌, subst, arith}
 use Rattle.std.specs.Prelude.{unwrap_or}
 use Rattle.race_watch.specs.Stands.{AnswersBy}
 use Rattle.space_memory_access.specs.declared.refusal.Refusal.TheVariants.{NotLive}
-use Rattle.steps_above_memory.specs.Refusals.{refusal_of}
 use Rattle.steps_above_memory.proofs.Freeing.{refused_race, refused_free}
 use Rattle.whole_runs.specs.World.{program_of}
 use Rattle.whole_runs.specs.Sides.{seen}
@@ -19,7 +18,6 @@ returns-in-Err-clause-refused c = λ w past to.
     (c.unwrap_or-len.ensures ∙ ap (λ o. unwrap_or o 1) c.block-block.ensures)
     (subst (AnswersBy c.args.memory.now.above.watch c.args.thread (record { addr = c.args.addr; len = c.unwrap_or-len.result }) true) c.in-Err.is c.test.ensures)
     c.refused_by.ensures (program_of w) (placed w) (seen past) to.stands.above to.modes
-
 
 pub returns-in_default-block-clause-refused : goal.returns-in_default-block-clause-refused
 returns-in_default-block-clause-refused c = λ w past to.
