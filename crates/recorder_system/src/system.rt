@@ -141,8 +141,8 @@ impl RunSystem {
         }
     }
 
-    // The same of a builtin with this first argument.
-    fn given_by(&self, thread: u8, builtin: Builtin, arg: u64) -> Given
+    /// The same of a builtin with this first argument.
+    pub fn given_by(&self, thread: u8, builtin: Builtin, arg: u64) -> Given
         ensures { result ≡ given_in self.now thread arg builtin }
     {
         match builtin {

@@ -1,0 +1,4 @@
+mod Steps
+mod Numbers
+mod Sorted
+mod Same
