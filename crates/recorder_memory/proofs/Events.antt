@@ -28,8 +28,8 @@ use Rattle.whole_runs_seen.proofs.Calm.{calm_run}
 use Rattle.whole_runs_seen.proofs.Step as seen_step
 use Rattle.whole_runs_seen.proofs.Threads.{threads_known}
 use Rattle.recorder_memory.specs.declared.memory.Memory.{Memory}
-use Rattle.recorder_memory.specs.Stands.{placed}
-use Rattle.recorder_memory.specs.Events.{Happens, Makes}
+use Rattle.recorder_memory.specs.Stands.{placed, StandsForSeen}
+use Rattle.recorder_memory.specs.Events.{IsNextEvent, Makes}
 
 -- what answers stands on the side of its act
 same_side_reply : (side : Side) (want : Want) (m : Mark) → is_some (reply side want m) ≡ true → same_side (side_of side m.act) m.side ≡ true
@@ -40,7 +40,7 @@ same_side_reply side want m e = go (same_side (side_of side m.act) m.side) e
     go true z = refl
     go false z = absurd (true≢false (sym z))
 
-module _ (w : World) (past : List Mark) (old : Memory) (t : ℕ) (keys : List Key) (kind : EventKind) (m : Mark) (h : Happens w past old t keys kind m) where
+module _ (w : World) (past : List Mark) (t : ℕ) (keys : List Key) (kind : EventKind) (m : Mark) (h : IsNextEvent w past t keys kind m) where
   -- an event stands above the cut
   pub stands_above : m.side ≡ Replay
   stands_above = sym (same_side_true Replay m.side (ap (λ a. same_side (side_of h.step.side a) m.side) (sym h.act_is) ∙ same_side_reply h.step.side h.step.want m h.made.replies))
@@ -48,7 +48,7 @@ module _ (w : World) (past : List Mark) (old : Memory) (t : ℕ) (keys : List Ke
   pub allowed : Allowed (replay_rules (program_of w) (begin w)) (begin w) (seen past) m
   allowed = seen_step.allowed w h.fit past h.follows (threads_known w h.fit.code past h.follows) (calm_run w h.fit past h.follows) h.step m h.made stands_above
 
-  abbrev made_mark : Mark
+  abbrev pub made_mark : Mark
   made_mark = above.next_event (placed w) (seen past) t kind h.event.steps h.event.keys h.event.clock
 
   -- it is the event that memory above the cut is told
@@ -61,45 +61,45 @@ module _ (w : World) (past : List Mark) (old : Memory) (t : ℕ) (keys : List Ke
       ∙ ap (λ k. let e : Event = record { kind = k; steps = h.event.steps; keys = h.event.keys; clock = h.event.clock } in let q : Mark = record { thread = t; side = Replay; index = length (events_with (begin w) (OfThread t) (seen past)); act = Made e } in q) h.kind_is
 
   -- and memory above the cut stands for the run with it
-  pub event_seen : (new : Memory) → above.MakesEvent old.above t keys kind new.above → StandsForAbove (program_of w) (placed w) (seen (m ∷ past)) new.above
-  event_seen new makes =
+  pub event_seen : (old new : Memory) → StandsForSeen w past old → above.MakesEvent old.above t keys kind new.above → StandsForAbove (program_of w) (placed w) (seen (m ∷ past)) new.above
+  event_seen old new stands makes =
       subst (λ ps. StandsForAbove (program_of w) (placed w) ps new.above) (sym (seen_above w m past stands_above))
       (subst (λ q. StandsForAbove (program_of w) (placed w) (q ∷ seen past) new.above) (sym mark_is)
-      (makes (program_of w) (placed w) (seen past) h.event.steps h.event.clock h.event.keys h.stands.above h.keys_are (subst (Allowed (replay_rules (program_of w) (begin w)) (begin w) (seen past)) mark_is allowed)))
+      (makes (program_of w) (placed w) (seen past) h.event.steps h.event.clock h.event.keys stands h.keys_are (subst (Allowed (replay_rules (program_of w) (begin w)) (begin w) (seen past)) mark_is allowed)))
 
 module _ (old new : Memory) (t : ℕ) where
   pub quiet_made : (keys : List Key) (kind : EventKind) → IsQuietEvent kind → above.MakesEvent old.above t keys kind new.above → new.above.spaces ≡ old.above.spaces → Makes old t keys kind new
-  quiet_made keys kind quiet makes same w past m h = record {
-    whole = subst (StandsForWhole w (m ∷ past)) (sym same) (plain w past old.above.spaces m h.stands.whole (subst IsPlain (sym h.act_is) (subst IsQuietEvent (sym h.kind_is) quiet)));
-    above = event_seen w past old t keys kind m h new makes;
+  quiet_made keys kind quiet makes same w past m stands h = record {
+    whole = subst (StandsForWhole w (m ∷ past)) (sym same) (plain w past old.above.spaces m stands.whole (subst IsPlain (sym h.act_is) (subst IsQuietEvent (sym h.kind_is) quiet)));
+    above = event_seen w past t keys kind m h old new stands.above makes;
   }
 
   -- the key of the pool
-  pool_keyed : (kind : EventKind) (w : World) (past : List Mark) (m : Mark) → Happens w past old t (key Pool 0 ∷ []) kind m → has m (OfKey (key Pool 0)) ≡ true
+  pool_keyed : (kind : EventKind) (w : World) (past : List Mark) (m : Mark) → IsNextEvent w past t (key Pool 0 ∷ []) kind m → has m (OfKey (key Pool 0)) ≡ true
   pool_keyed kind w past m h = ap (λ a. is_listed (keys_of a) (key Pool 0)) h.act_is ∙ has_key h.event.keys h.keys_are
 
   pub alloc_made : (size addr : ℕ) → above.MakesEvent old.above t (key Pool 0 ∷ []) (Alloc addr size) new.above → IsGiven old.above.spaces new.above.spaces size addr → Makes old t (key Pool 0 ∷ []) (Alloc addr size) new
-  alloc_made size addr makes given w past m h = record {
+  alloc_made size addr makes given w past m stands h = record {
     whole = go given;
-    above = event_seen w past old t (key Pool 0 ∷ []) (Alloc addr size) m h new makes;
+    above = event_seen w past t (key Pool 0 ∷ []) (Alloc addr size) m h old new stands.above makes;
   }
     where
       side : m.side ≡ Replay
-      side = stands_above w past old t (key Pool 0 ∷ []) (Alloc addr size) m h
+      side = stands_above w past t (key Pool 0 ∷ []) (Alloc addr size) m h
 
       go : IsGiven old.above.spaces new.above.spaces size addr → StandsForWhole w (m ∷ past) new.above.spaces
-      go (inl g) = whole.allocs w past old.above.spaces new.above.spaces m h.event size addr h.stands.whole side g.least g.some g.sides g.fills g.held h.act_is h.kind_is (pool_keyed (Alloc addr size) w past m h)
-      go (inr g) = subst (StandsForWhole w (m ∷ past)) (sym g.same) (whole.refused_allocs w past old.above.spaces m h.event size h.stands.whole side g.none h.act_is (h.kind_is ∙ ap (λ a. Alloc a size) g.addr_is))
+      go (inl g) = whole.allocs w past old.above.spaces new.above.spaces m h.event size addr stands.whole side g.least g.some g.sides g.fills g.held h.act_is h.kind_is (pool_keyed (Alloc addr size) w past m h)
+      go (inr g) = subst (StandsForWhole w (m ∷ past)) (sym g.same) (whole.refused_allocs w past old.above.spaces m h.event size stands.whole side g.none h.act_is (h.kind_is ∙ ap (λ a. Alloc a size) g.addr_is))
 
   pub free_made : (addr size : ℕ) → above.MakesEvent old.above t (key Pool 0 ∷ []) (Free addr size) new.above → IsFreed old.above.spaces new.above.spaces addr size → Makes old t (key Pool 0 ∷ []) (Free addr size) new
-  free_made addr size makes freed w past m h = record {
+  free_made addr size makes freed w past m stands h = record {
     whole = go freed;
-    above = event_seen w past old t (key Pool 0 ∷ []) (Free addr size) m h new makes;
+    above = event_seen w past t (key Pool 0 ∷ []) (Free addr size) m h old new stands.above makes;
   }
     where
       side : m.side ≡ Replay
-      side = stands_above w past old t (key Pool 0 ∷ []) (Free addr size) m h
+      side = stands_above w past t (key Pool 0 ∷ []) (Free addr size) m h
 
       go : IsFreed old.above.spaces new.above.spaces addr size → StandsForWhole w (m ∷ past) new.above.spaces
-      go (inl g) = whole.frees w past old.above.spaces new.above.spaces m h.event addr size h.stands.whole side g.block g.sides g.dead g.held g.free h.act_is h.kind_is (pool_keyed (Free addr size) w past m h)
-      go (inr g) = subst (StandsForWhole w (m ∷ past)) (sym g.same) (whole.frees_of_null w past old.above.spaces m h.event h.stands.whole side h.act_is (h.kind_is ∙ (ap (λ a. Free a size) g.addr_is ∙ ap (Free 0) g.size_is)))
+      go (inl g) = whole.frees w past old.above.spaces new.above.spaces m h.event addr size stands.whole side g.block g.sides g.dead g.held g.free h.act_is h.kind_is (pool_keyed (Free addr size) w past m h)
+      go (inr g) = subst (StandsForWhole w (m ∷ past)) (sym g.same) (whole.frees_of_null w past old.above.spaces m h.event stands.whole side h.act_is (h.kind_is ∙ (ap (λ a. Free a size) g.addr_is ∙ ap (Free 0) g.size_is)))

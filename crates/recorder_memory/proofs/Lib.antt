@@ -14,3 +14,8 @@ pub mod FramesAbove
 pub mod Results
 pub mod Events
 pub mod Blocks
+pub mod Counts
+pub mod Returning
+pub mod Filled
+pub mod Answering
+pub mod Calling

@@ -36,7 +36,7 @@ use Rattle.recorder_memory.proofs.Marking.{still_seen, below_stands, below_marke
 
 -- ---- one piece
 
-more_pieces : (places : List Target) (pieces : List (List ℕ)) (x : Target) (b : List ℕ) → length places ≡ length pieces → length (places ++ x ∷ []) ≡ length (pieces ++ b ∷ [])
+pub more_pieces : (places : List Target) (pieces : List (List ℕ)) (x : Target) (b : List ℕ) → length places ≡ length pieces → length (places ++ x ∷ []) ≡ length (pieces ++ b ∷ [])
 more_pieces places pieces x b e = let l = length-append places (x ∷ []) in let r = length-append pieces (b ∷ []) in omega (arith, e, l, r)
 
 module _ (old new : Memory) (t : ℕ) (r : Range) (bytes : List ℕ) (small : r.addr < 2 ^ 64) where
@@ -98,14 +98,14 @@ one_more_written old mid new t xs bs i d b e lt lt' is before one w past h =
     (subst (λ qs. IsWriting w past t (targets_of (take i xs) ++ target_of (get_or xs i d) ∷ []) qs new) (sym (take_more bs i e lt' ∙ ap (λ q. take i bs ++ q ∷ []) (sym is)))
     (one w past (targets_of (take i xs)) (take i bs) (before w past h)))
 
-split_at : {A : Type 0} (xs : List A) (i : ℕ) (d : A) → i < length xs → xs ≡ take i xs ++ get_or xs i d ∷ drop (suc i) xs
+pub split_at : {A : Type 0} (xs : List A) (i : ℕ) (d : A) → i < length xs → xs ≡ take i xs ++ get_or xs i d ∷ drop (suc i) xs
 split_at xs i d lt = sym (take-append-drop i xs) ∙ ap (λ l. take i xs ++ l) (drop-cons xs i d lt)
 
 splits : (xs : List PieceTarget) (i : ℕ) (d : PieceTarget) → i < length xs → targets_of xs ≡ targets_of (take i xs) ++ target_of (get_or xs i d) ∷ targets_of (drop (suc i) xs)
 splits xs i d lt = ap targets_of (split_at xs i d lt) ∙ map-append target_of (take i xs) (get_or xs i d ∷ drop (suc i) xs)
 
 -- what is found in some tests is found in others
-found_in : (cs ds : Checks) → ((g : Finding) → Finds cs g → Finds ds g) → (found : StepRefusal) → IsFound cs found → IsFound ds found
+pub found_in : (cs ds : Checks) → ((g : Finding) → Finds cs g → Finds ds g) → (found : StepRefusal) → IsFound cs found → IsFound ds found
 found_in cs ds go (Fault kind) p = go (FaultFound kind) p
 found_in cs ds go (Breach kind addr other) p = go (BreachFound kind addr other) p
 found_in cs ds go refusal.Memory p = tt

@@ -1,5 +1,7 @@
 -- Steps below the cut that leave memory as it is, and what memory has for its threads.
-use Rattle.std.proofs.Common.{◌≡◌, ◌<◌, List, [], ◌∷◌, length, Option, Some, None, refl, sym, ap, ◌∙◌, subst, arith}
+use Rattle.std.proofs.Common.{◌≡◌, ℕ, suc, eqb, eq-eqb, ◌<◌, List, [], ◌∷◌, length, Option, Some, None, refl, sym, ap, ◌∙◌, subst, arith}
+use Rattle.std.specs.Prelude.{slice_index}
+use Rattle.std.proofs.lemmas.Bool.{cond-true}
 use Rattle.marks.specs.declared.side.Side.TheVariants.{Replay, System}
 use Rattle.marks.specs.declared.range.Range.{Range}
 use Rattle.marks.specs.Ranges.{range}
@@ -8,9 +10,12 @@ use Rattle.marks.specs.Wants.{Turns, Steps}
 use Rattle.c_builtins.specs.declared.builtin.Builtin.{Builtin}
 use Rattle.c_builtins.specs.declared.builtin.Builtin.TheVariants.{Malloc, Free, Spawn, Join, Lock, Unlock, Print}
 use Rattle.replay_runs.specs.Checks.{Passes}
+use Rattle.space_memory_laws.specs.Shown.{ranges_at}
+use Rattle.space_memory_laws.specs.StandsFor.{HoldsFor}
 use Rattle.space_memory_laws.proofs.Stacks.{stacks_count}
 use Rattle.replay_runs.specs.Runs.{marks_of}
-use Rattle.replay_runs.specs.Threads.{frames}
+use Rattle.replay_runs.specs.Threads.{OpenCall, frames, open_calls}
+use Rattle.replay_runs.specs.Rules.{Closes}
 use Rattle.whole_runs.specs.World.{World, begin}
 use Rattle.whole_runs.specs.Sides.{seen, frames_on}
 use Rattle.whole_runs.specs.Outcomes.{builtin_of}
@@ -23,8 +28,9 @@ use Rattle.whole_runs_memory.proofs.Ends as ends
 use Rattle.whole_runs_memory.proofs.Plain.{plain, frames_there}
 use Rattle.whole_runs_memory.proofs.RetChecks.{no_pieces}
 use Rattle.recorder_memory.specs.Steps.{next_mark}
+use Rattle.recorder_memory.specs.declared.memory.Memory.{Memory}
 use Rattle.recorder_memory.specs.Below.{IsForThreads, StepsOfThreadsLeaveMemory}
-use Rattle.recorder_memory.specs.Laws.{ThreadsThatStepAreFew, ThreadsHaveStacks, FramesThatEndAreThere, TurnsBelowLeaveMemory}
+use Rattle.recorder_memory.specs.Laws.{CallsAreHeld, HoldsCall, ThreadsThatStepAreFew, ThreadsHaveStacks, FramesThatEndAreThere, TurnsBelowLeaveMemory}
 use Rattle.recorder_memory.proofs.Replies.{turn_answers, step_answers}
 use Rattle.recorder_memory.proofs.Modes.{step_passes}
 use Rattle.recorder_memory.proofs.Marking.{below_stands, below_marked}
@@ -109,3 +115,17 @@ steps_of_threads memory w past t indirect func args b result c is says =
     passes Lock e q = subst (λ o. Passes (step_checks w past t func args o)) (sym e) tt
     passes Unlock e q = subst (λ o. Passes (step_checks w past t func args o)) (sym e) tt
     passes Print e q = absurd q
+
+-- ---- calls
+
+held_call : (memory : Memory) (t func : ℕ) (args : List ℕ) (outs : List Range) (calls : List OpenCall) → HoldsFor memory.above.spaces.held t calls → Closes calls func args outs → HoldsCall memory t outs
+held_call memory t func args outs [] h closes = absurd closes
+held_call memory t func args outs (c ∷ cs) h closes = record {
+  depth = let d = h.depth in omega (arith, d);
+  regions = h.outs (slice_index memory.above.spaces.held.depths t)
+      ∙ cond-true (eqb (slice_index memory.above.spaces.held.depths t) (suc (length cs))) c.outs (ranges_at (λ q. q.outs) (slice_index memory.above.spaces.held.depths t) cs) (eq-eqb (slice_index memory.above.spaces.held.depths t) (suc (length cs)) h.depth)
+      ∙ sym closes.2;
+}
+
+pub calls_held : CallsAreHeld
+calls_held w past memory t func args outs h lt closes = held_call memory t func args outs (open_calls (marks_of (begin w) t (seen past))) (h.spaces.calls t lt) closes

@@ -20,12 +20,11 @@ use Rattle.recorder_memory.specs.declared.memory.Memory.{Memory}
 use Rattle.recorder_memory.specs.Stands.{StandsForRun}
 use Rattle.recorder_memory.specs.Steps.{ComesTo}
 
--- the next mark of a run for which memory stands is this event of the thread, with these keys
-pub record Happens (w : World) (past : List Mark) (memory : Memory) (t : ℕ) (keys : List Key)
-    (kind : EventKind) (m : Mark) : Type 0 where
+-- the next mark of a run of a fit world is this event of the thread, with these keys
+pub record IsNextEvent (w : World) (past : List Mark) (t : ℕ) (keys : List Key) (kind : EventKind)
+    (m : Mark) : Type 0 where
   pub fit : IsFit w
   pub follows : Follows w past
-  pub stands : StandsForRun w past memory
   pub step : Picked w past
   pub made : IsMade w past step m
   pub thread : m.thread ≡ t
@@ -36,8 +35,8 @@ pub record Happens (w : World) (past : List Mark) (memory : Memory) (t : ℕ) (k
 
 -- whatever run makes it, memory stands for the run with it
 abbrev pub Makes : Memory → (thread : ℕ) → List Key → EventKind → Memory → Type 0
-Makes old t keys kind new = (w : World) (past : List Mark) (m : Mark) →
-    Happens w past old t keys kind m → StandsForRun w (m ∷ past) new
+Makes old t keys kind new = (w : World) (past : List Mark) (m : Mark) → StandsForRun w past old →
+    IsNextEvent w past t keys kind m → StandsForRun w (m ∷ past) new
 
 -- whatever run comes to a step, its tests pass
 abbrev pub Takes : Memory → (thread : ℕ) → Side → Want → Type 0

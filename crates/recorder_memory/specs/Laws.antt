@@ -1,19 +1,25 @@
 -- What memory that stands for a run has, and steps that leave it as it is.
-use Rattle.std.specs.Prelude.{◌≡◌, ℕ, ◌<◌, List, length, Some}
+use Rattle.std.specs.Prelude.{◌≡◌, ℕ, ◌<◌, ◌≤◌, List, length, map, Some, slice_index}
 use Rattle.marks.specs.declared.side.Side.{Side}
 use Rattle.marks.specs.declared.side.Side.TheVariants.{Replay, System}
 use Rattle.marks.specs.Places.{thread_count}
+use Rattle.marks.specs.declared.range.Range.{Range}
 use Rattle.marks.specs.Ranges.{range}
 use Rattle.marks.specs.Marks.{Turn, Mark}
 use Rattle.marks.specs.Wants.{Turns, Leaves}
+use Rattle.replay_runs.specs.Runs.{marks_of}
+use Rattle.replay_runs.specs.Threads.{open_calls}
+use Rattle.replay_runs.specs.Rules.{Closes}
 use Rattle.space_memory.specs.Sides.{frames_of, top_of}
 use Rattle.space_memory.specs.Spaces.{side_of}
-use Rattle.whole_runs.specs.World.{World}
+use Rattle.whole_runs.specs.World.{World, begin}
+use Rattle.whole_runs.specs.Sides.{seen}
 use Rattle.whole_runs.specs.Steps.{Picked}
-use Rattle.whole_runs.specs.Ends.{Follows}
+use Rattle.whole_runs.specs.Ends.{Follows, most_events}
 use Rattle.whole_runs.specs.Fits.{IsFit}
 use Rattle.recorder_memory.specs.declared.memory.Memory.{Memory}
-use Rattle.recorder_memory.specs.Stands.{StandsForRun}
+use Rattle.recorder_memory.specs.Stands.{StandsForSeen, StandsForRun}
+use Rattle.recorder_memory.specs.Answers.{regions_of}
 use Rattle.recorder_memory.specs.Steps.{Makes}
 
 -- the thread of a step is one of those that there may be
@@ -44,3 +50,19 @@ TurnsAboveLeaveMemory = (memory : Memory) (t : ℕ) → t < thread_count →
 
 abbrev pub TurnsBelowLeaveMemory : Type 0
 TurnsBelowLeaveMemory = (memory : Memory) (t : ℕ) → Makes memory t System Turns Turn memory
+
+-- the watch was told of no more events than a run makes
+abbrev pub EventsAreFew : World → Type 0
+EventsAreFew w = (past : List Mark) (memory : Memory) → Follows w past → StandsForRun w past memory →
+    memory.above.watch.events ≤ most_events
+
+-- memory knows the thread's innermost call, and which regions it holds to be written
+pub record HoldsCall (memory : Memory) (t : ℕ) (outs : List Range) : Type 0 where
+  pub depth : 1 ≤ slice_index memory.above.spaces.held.depths t
+  pub regions : map (λ r. r.range) (regions_of memory.above.spaces t) ≡ outs
+
+-- so it does of the call that a Ret ends, also after the pieces of its answer
+abbrev pub CallsAreHeld : Type 0
+CallsAreHeld = (w : World) (past : List Mark) (memory : Memory) (t func : ℕ) (args : List ℕ)
+    (outs : List Range) → StandsForSeen w past memory → t < thread_count →
+    Closes (open_calls (marks_of (begin w) t (seen past))) func args outs → HoldsCall memory t outs

@@ -4,3 +4,6 @@ pub mod Below
 pub mod Printing
 pub mod Laws
 pub mod Events
+pub mod Returns
+pub mod Answers
+pub mod Calls

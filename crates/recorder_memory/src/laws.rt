@@ -2,7 +2,8 @@
 
 ghost use Rattle.whole_runs.specs.World.{World};
 ghost use Rattle.recorder_memory.specs.Below.{StepsOfThreadsLeaveMemory};
-ghost use Rattle.recorder_memory.specs.Laws.{FramesThatEndAreThere, ThreadsHaveStacks, ThreadsThatStepAreFew, TurnsAboveLeaveMemory, TurnsBelowLeaveMemory};
+ghost use Rattle.recorder_memory.specs.Returns.{NoPieceIsAnswered};
+ghost use Rattle.recorder_memory.specs.Laws.{CallsAreHeld, EventsAreFew, FramesThatEndAreThere, ThreadsHaveStacks, ThreadsThatStepAreFew, TurnsAboveLeaveMemory, TurnsBelowLeaveMemory};
 
 /// The thread of a step is one of those that there may be.
 pub fn threads_that_step_are_few()
@@ -32,4 +33,19 @@ pub fn turns_below_leave_memory()
 /// A step of `r2_spawn`, `r2_join`, `r2_lock` or `r2_unlock` below the cut changes nothing.
 pub fn steps_of_threads_leave_memory()
     ensures { StepsOfThreadsLeaveMemory }
+{}
+
+/// The watch was told of no more events than a run makes.
+pub fn events_are_few()
+    ensures { (w : World) → EventsAreFew w }
+{}
+
+/// Memory knows the call that a Ret ends, and which regions it holds to be written.
+pub fn calls_are_held()
+    ensures { CallsAreHeld }
+{}
+
+/// Where an answer has no pieces, memory is as if all of them were written.
+pub fn no_piece_is_answered()
+    ensures { NoPieceIsAnswered }
 {}

@@ -50,6 +50,8 @@ impl MemoryAbove {
         requires regions { AreRegions regions.now }
         ensures passes { OnOk result (TakesCall self.old thread regions.now) }
         ensures made { OnOk result (MakesCall self.old thread regions.now keys.now self.new) }
+        ensures spaces { OnOk result (HasParts self.old thread
+            (parts_of regions.now.ins.now regions.now.outs.now (prepares regions.now)) self.new.spaces) }
         ensures refused { IfErr result (RefusesCall self.old thread regions.now) }
         ensures unchanged { IfErr result (λ refusal. HasCause refusal → LeavesAll self.old self.new) }
     {

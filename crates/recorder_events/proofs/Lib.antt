@@ -1,0 +1,14 @@
+pub mod Numbers
+pub mod Made
+pub mod Sized
+pub mod Few
+pub mod Recorded
+pub mod Results
+pub mod Places
+pub mod Marked
+pub mod Ending
+pub mod Steps
+pub mod Allocs
+pub mod LastUp
+pub mod UpReturns
+pub mod Quiet

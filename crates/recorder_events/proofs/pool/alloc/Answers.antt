@@ -1,0 +1,41 @@
+use Rattle.std.proofs.Common.{refl}
+use Rattle.marks.specs.Wants.{Allocs, Value}
+use Rattle.recorder_threads.specs.Answers.{IsNoCall}
+use Rattle.recorder_events.proofs.Few.{thread_few}
+use Rattle.recorder_events.proofs.Steps.{watch_few}
+use Rattle.recorder_events.proofs.Marked.{plain_answer, step_told}
+use Rattle.recorder_events.proofs.Allocs.{ends, coming_so, made_so}
+use Rattle.recorder_events.proofs.pool.alloc.Goals as goal
+
+pub returns-in-Some-clause-stopped : goal.returns-in-Some-clause-stopped
+returns-in-Some-clause-stopped c = ends _ c.args.state.now c.args.thread c.args.size c.requires c.in-Some.ending c.in-Some.ensures
+
+pub alloc_above-requires-clause-in_range : goal.alloc_above-requires-clause-in_range
+alloc_above-requires-clause-in_range c = let h = c.requires in thread_few _ h.reached.fit h.reached.past h.step c.args.thread h.thread
+
+pub alloc_above-requires-clause-few : goal.alloc_above-requires-clause-few
+alloc_above-requires-clause-few c = watch_few _ c.args.state.now c.requires.reached
+
+pub make_event-requires-clause-coming : goal.make_event-requires-clause-coming
+make_event-requires-clause-coming c =
+    let h = c.requires in
+    coming_so _ c.args.state.now c.args.thread c.args.size h c.in-Ok.addr (c.in-Ok.ensures.place _ h.reached.past h.reached.memory) c.alloc_above.new.self
+
+pub give-requires : goal.give-requires
+give-requires c =
+    let h = c.requires in
+    let s = c.args.state.now in
+    let here = c.in-Ok.ensures.place _ h.reached.past h.reached.memory in
+    let recorded = c.in_default-make_event.ensures (coming_so _ s c.args.thread c.args.size h c.in-Ok.addr here c.alloc_above.new.self) in
+    let made = made_so _ s c.args.thread c.args.size h c.in-Ok.addr here c.alloc_above.new.self _ c.in-Ok.ensures.made c.in_default.ensures recorded in
+    plain_answer _ _ c.args.thread (Allocs c.args.size) (Value c.in-Ok.addr) made IsNoCall (λ z. z)
+
+pub end_step-requires : goal.end_step-requires
+end_step-requires c =
+    let h = c.requires in
+    let s = c.args.state.now in
+    let here = c.in-Ok.ensures.place _ h.reached.past h.reached.memory in
+    let recorded = c.in_default-make_event.ensures (coming_so _ s c.args.thread c.args.size h c.in-Ok.addr here c.alloc_above.new.self) in
+    let made = made_so _ s c.args.thread c.args.size h c.in-Ok.addr here c.alloc_above.new.self _ c.in-Ok.ensures.made c.in_default.ensures recorded in
+    step_told _ _ c.args.thread (Allocs c.args.size) (Value c.in-Ok.addr) made _
+    (c.give.ensures (plain_answer _ _ c.args.thread (Allocs c.args.size) (Value c.in-Ok.addr) made IsNoCall (λ z. z)))

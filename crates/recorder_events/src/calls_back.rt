@@ -1,0 +1,93 @@
+//! Calls back of functions above the cut, and their returns.
+
+ghost use Rattle.std.specs.Prelude.{◌≡◌, ◌≤◌, length, IfErr, OnOk};
+ghost use Rattle.marks.specs.declared.side.Side.TheVariants as sides;
+ghost use Rattle.marks.specs.Wants.{Go};
+ghost use Rattle.log_codec.specs.LogText.{IsBody};
+ghost use Rattle.recorder_book.specs.Sizes.{in_full};
+ghost use Rattle.recorder_threads.specs.declared.wants.Want.TheVariants as wants;
+ghost use Rattle.recorder_state.specs.Inputs.{world_of};
+ghost use Rattle.recorder_state.specs.Stands.{IsReached};
+ghost use Rattle.recorder_state.specs.Turns.{IsAtStep};
+ghost use Rattle.recorder_state.specs.Ends.{IsStopped};
+ghost use Rattle.recorder_events.specs.Making.{IsCallBackNext, IsEventStep};
+
+use crate::making::make_event;
+use crate::room::full;
+use marks::Side;
+use recorder_state::{Inputs, RunState, Stop};
+use run_events::{Class, Event, Key};
+use std::alloc::Global;
+
+// Records an Up or UpRet, which reads and writes nothing.
+fn make_quiet(
+    state: &mut RunState,
+    inputs: Inputs<'_>,
+    memory: Global,
+    thread: u8,
+    keys: &[Key],
+    event: Event,
+) -> Result<(), Stop>
+    requires next { IsCallBackNext (world_of inputs) state.old thread keys.now event }
+    requires keys { length keys.now ≤ 16 }
+    requires event { IsBody (in_full event) }
+    ensures made { (n : IsCallBackNext (world_of inputs.entry) state.old thread keys.now event) →
+        OnOk result (IsEventStep (world_of inputs.entry) state.new thread n.step.want n.answer) }
+    ensures stopped { IfErr result (IsStopped (world_of inputs.entry) state.new) }
+{
+    if let Some(ending) = full(&state.book, &event, keys.len()) {
+        return Err(Stop::Ended(ending));
+    }
+    if let Err(_) = state.memory.event_above(thread, keys) {
+        return Err(Stop::Memory);
+    }
+    match make_event(state, inputs, memory, thread, keys, event) {
+        Ok(()) => Ok(()),
+        Err(_) => Err(Stop::Memory),
+    }
+}
+
+// Records the return of the function that was called back last.
+fn make_up_return(
+    state: &mut RunState,
+    inputs: Inputs<'_>,
+    memory: Global,
+    thread: u8,
+    value: u64,
+) -> Result<(), Stop>
+    requires { IsAtStep (world_of inputs) state.old thread sides.Replay (wants.UpReturn value) }
+    ensures made { (h : IsAtStep (world_of inputs.entry) state.old thread sides.Replay (wants.UpReturn value)) →
+        OnOk result (IsEventStep (world_of inputs.entry) state.new thread h.step.want Go) }
+    ensures stopped { IfErr result (IsStopped (world_of inputs.entry) state.new) }
+{
+    let event = Event::UpRet { result: value };
+    // Where another call back is open, code above the cut has a frame.
+    if let Some(_) = state.memory.above.spaces.top(Side::Replay, thread) {
+        return make_quiet(state, inputs, memory, thread, &[], event);
+    }
+    let key = Key {
+        class: Class::Thread,
+        value: u64::from(thread),
+    };
+    make_quiet(state, inputs, memory, thread, &[key], event)
+}
+
+/// The function that was called back last returns this.
+pub fn up_return(
+    state: &mut RunState,
+    inputs: Inputs<'_>,
+    memory: Global,
+    thread: u8,
+    value: u64,
+) -> Result<(), Stop>
+    requires { IsAtStep (world_of inputs) state.old thread sides.Replay (wants.UpReturn value) }
+    ensures made { OnOk result (IsReached (world_of inputs.entry) state.new) }
+    ensures stopped { IfErr result (IsStopped (world_of inputs.entry) state.new) }
+{
+    if let Err(stop) = make_up_return(state, inputs, memory, thread, value) {
+        return Err(stop);
+    }
+    state.threads.go(inputs.code, inputs.placed, thread);
+    state.end_step(inputs, thread);
+    Ok(())
+}
