@@ -1,6 +1,6 @@
 //! Blocks above the cut.
 
-ghost use Rattle.std.specs.Prelude.{IfErr, OnOk};
+ghost use Rattle.std.specs.Prelude.{◌≡◌, ◌+◌, IfErr, OnOk};
 ghost use Rattle.marks.specs.declared.side.Side.TheVariants.{Replay};
 ghost use Rattle.recorder_threads.specs.declared.wants.Want.TheVariants as wants;
 ghost use Rattle.recorder_state.specs.Inputs.{world_of};
@@ -30,6 +30,7 @@ pub fn alloc(
 ) -> Result<(), Stop>
     requires { IsAtStep (world_of inputs) state.old thread Replay (wants.Alloc size) }
     ensures made { OnOk result (IsReached (world_of inputs.entry) state.new) }
+    ensures steps { OnOk result (state.new.steps ≡ state.old.steps + 1) }
     ensures stopped { IfErr result (IsStopped (world_of inputs.entry) state.new) }
 {
     if let Some(ending) = full(&state.book, &Event::Alloc { size, addr: 0 }, 1) {
