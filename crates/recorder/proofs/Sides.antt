@@ -175,30 +175,27 @@ module _ (l : Laid) where
 
 -- ---- a thread whose code wants what is told
 
-other_side : System ≡ Replay → ⊥
-other_side e = absurd cc
+module _ (w : World) (s : RunState) (t : ℕ) (side : Side) where
+  there : (want : Told) (h : IsAtStep w s t side want) → CanBeOn h.step.want side
+  there want h = subst (CanBeOn h.step.want) h.side_is (subst WantsThere h.step.comes_is (step_there w.laid (place_of w h.reached.past h.step.thread)))
 
-module _ (w : World) (s : RunState) (t : ℕ) where
-  there : (side : Side) (want : Told) (h : IsAtStep w s t side want) → CanBeOn h.step.want side
-  there side want h = subst (CanBeOn h.step.want) h.side_is (subst WantsThere h.step.comes_is (step_there w.laid (place_of w h.reached.past h.step.thread)))
+  pub alloc_above : (size : ℕ) → IsAtStep w s t side (told.Alloc size) → IsAtStep w s t Replay (told.Alloc size)
+  alloc_above size h = subst (λ d. IsAtStep w s t d (told.Alloc size)) (subst (λ v. CanBeOn v side) h.told (there _ h)) h
 
-  pub no_back : (func size : ℕ) → IsAtStep w s t Replay (told.CallBack func size) → ⊥
-  no_back func size h = other_side (sym (subst (λ v. CanBeOn v Replay) h.told.0 (there Replay _ h)))
+  pub free_above : (at : ℕ) → IsAtStep w s t side (told.Free at) → IsAtStep w s t Replay (told.Free at)
+  free_above at h = subst (λ d. IsAtStep w s t d (told.Free at)) (subst (λ v. CanBeOn v side) h.told (there _ h)) h
 
-  pub no_alloc : (size : ℕ) → IsAtStep w s t System (told.Alloc size) → ⊥
-  no_alloc size h = other_side (subst (λ v. CanBeOn v System) h.told (there System _ h))
+  pub call_above : (indirect : Bool) (func : ℕ) → IsAtStep w s t side (told.Call indirect func) → IsAtStep w s t Replay (told.Call indirect func)
+  call_above indirect func h = subst (λ d. IsAtStep w s t d (told.Call indirect func)) (subst (λ v. CanBeOn v side) h.told (there _ h)) h
 
-  pub no_free : (at : ℕ) → IsAtStep w s t System (told.Free at) → ⊥
-  no_free at h = other_side (subst (λ v. CanBeOn v System) h.told (there System _ h))
+  pub give_above : (func : ℕ) → IsAtStep w s t side (told.Give func) → IsAtStep w s t Replay (told.Give func)
+  give_above func h = subst (λ d. IsAtStep w s t d (told.Give func)) (subst (λ v. CanBeOn v side) h.told (there _ h)) h
 
-  pub no_call : (indirect : Bool) (func : ℕ) → IsAtStep w s t System (told.Call indirect func) → ⊥
-  no_call indirect func h = other_side (subst (λ v. CanBeOn v System) h.told (there System _ h))
+  pub return_above : (func result : ℕ) → IsAtStep w s t side (told.Return func result) → IsAtStep w s t Replay (told.Return func result)
+  return_above func result h = subst (λ d. IsAtStep w s t d (told.Return func result)) (subst (λ v. CanBeOn v side) h.told (there _ h)) h
 
-  pub no_give : (func : ℕ) → IsAtStep w s t System (told.Give func) → ⊥
-  no_give func h = other_side (subst (λ v. CanBeOn v System) h.told (there System _ h))
+  pub up_return_above : (result : ℕ) → IsAtStep w s t side (told.UpReturn result) → IsAtStep w s t Replay (told.UpReturn result)
+  up_return_above result h = subst (λ d. IsAtStep w s t d (told.UpReturn result)) (subst (λ v. CanBeOn v side) h.told.1 (there _ h)) h
 
-  pub no_return : (func result : ℕ) → IsAtStep w s t System (told.Return func result) → ⊥
-  no_return func result h = other_side (subst (λ v. CanBeOn v System) h.told (there System _ h))
-
-  pub no_up_return : (result : ℕ) → IsAtStep w s t System (told.UpReturn result) → ⊥
-  no_up_return result h = other_side (subst (λ v. CanBeOn v System) h.told.1 (there System _ h))
+  pub call_back_below : (func size : ℕ) → IsAtStep w s t side (told.CallBack func size) → IsAtStep w s t System (told.CallBack func size)
+  call_back_below func size h = subst (λ d. IsAtStep w s t d (told.CallBack func size)) (subst (λ v. CanBeOn v side) h.told.0 (there _ h)) h

@@ -1,7 +1,7 @@
 //! A recording, from its first step to its end.
 
-ghost use Rattle.std.specs.Prelude.{IfOk};
-ghost use Rattle.whole_runs.specs.World.{World};
+ghost use Rattle.std.specs.Prelude.{◌≡◌, IfOk};
+ghost use Rattle.whole_runs.specs.World.{World, main_of as main_at};
 ghost use Rattle.whole_runs.specs.Fits.{IsFit};
 ghost use Rattle.whole_runs.specs.Recorded.{IsRecording};
 ghost use Rattle.recorder_state.specs.declared.state.RunState.{RunState as States};
@@ -14,8 +14,9 @@ use crate::steps::step;
 use c_code::Placed;
 use c_code_fused::FusedCode;
 use recorder_end::{Recorded, finish};
-use recorder_state::{Inputs, RunState, Stop, Turn};
+use recorder_state::{Inputs, RunState, Stop, Turn, main_of};
 use std::alloc::{AllocError, Global};
+use stub_calls::Done;
 use stub_operations::StubSet;
 use system_side::SysFile;
 use whole_runs::Ending;
@@ -41,20 +42,27 @@ pub fn record_run(
         file,
     };
     let mut state = RunState::new(alloc, inputs)?;
-    let ending = run(&mut state, alloc, inputs)?;
+    let ending = run(&mut state, alloc, inputs, main_of(code))?;
     finish(state, alloc, inputs, ending)
 }
 
 // Makes steps until the run ends, and tells how it does.
-fn run(state: &mut RunState, alloc: Global, inputs: Inputs<'_>) -> Result<Ending, AllocError>
-    requires { IsReached (world_of inputs) state.old }
+fn run(
+    state: &mut RunState,
+    alloc: Global,
+    inputs: Inputs<'_>,
+    main: u16,
+) -> Result<Ending, AllocError>
+    requires reached { IsReached (world_of inputs) state.old }
+    requires main { main ≡ main_at inputs.code.now }
     ensures { IfOk result (IsEnded (world_of inputs.entry) state.new) }
 {
+    let mut done = Done::new(alloc);
     'steps: loop {
         match state.next(inputs) {
             Turn::Ended(ending) => return Ok(ending),
             Turn::Step { thread, side, want } => {
-                if let Err(stop) = step(state, alloc, inputs, thread, side, want) {
+                if let Err(stop) = step(state, alloc, inputs, main, &mut done, thread, side, want) {
                     return ending_of(stop);
                 }
             }
