@@ -1,6 +1,6 @@
 //! Frames.
 
-ghost use Rattle.std.specs.Prelude.{IfErr, OnOk};
+ghost use Rattle.std.specs.Prelude.{◌≡◌, ◌+◌, IfErr, OnOk};
 ghost use Rattle.recorder_threads.specs.declared.wants.Want.TheVariants as want;
 ghost use Rattle.marks.specs.declared.side.Side.TheVariants.{Replay};
 ghost use Rattle.recorder_state.specs.Inputs.{world_of};
@@ -29,6 +29,7 @@ pub fn enter(
 ) -> Result<(), Stop>
     requires { IsAtStep (world_of inputs) state.old thread Replay (want.Enter indirect func size) }
     ensures made { OnOk result (IsReached (world_of inputs.entry) state.new) }
+    ensures steps { OnOk result (state.new.steps ≡ state.old.steps + 1) }
     ensures stopped { IfErr result (IsStopped (world_of inputs.entry) state.new) }
 {
     if !keeps_mode(&inputs.placed.replay, indirect, func) {
@@ -55,6 +56,7 @@ pub fn enter(
 pub fn leave(state: &mut RunState, inputs: Inputs<'_>, thread: u8) -> Result<(), Stop>
     requires { IsAtStep (world_of inputs) state.old thread Replay want.Leave }
     ensures made { OnOk result (IsReached (world_of inputs.entry) state.new) }
+    ensures steps { OnOk result (state.new.steps ≡ state.old.steps + 1) }
     ensures stopped { IfErr result (IsStopped (world_of inputs.entry) state.new) }
 {
     match state.memory.leave_above(thread) {

@@ -1,6 +1,6 @@
 //! Rounds, and steps that can't be made.
 
-ghost use Rattle.std.specs.Prelude.{Bool};
+ghost use Rattle.std.specs.Prelude.{◌≡◌, ◌+◌, Bool};
 ghost use Rattle.recorder_threads.specs.declared.wants.Want.TheVariants as want;
 ghost use Rattle.marks.specs.declared.side.Side.TheVariants.{Replay};
 ghost use Rattle.whole_runs.specs.World.{World};
@@ -18,7 +18,8 @@ use recorder_state::{Inputs, RunState, Stop};
 /// The step in which a loop of the thread begins a round.
 pub fn turn(state: &mut RunState, inputs: Inputs<'_>, thread: u8)
     requires { IsAtStep (world_of inputs) state.old thread Replay want.Turn }
-    ensures { IsReached (world_of inputs.entry) state.new }
+    ensures made { IsReached (world_of inputs.entry) state.new }
+    ensures steps { state.new.steps ≡ state.old.steps + 1 }
 {
     state.go_on(inputs, thread, Side::Replay, Answer::Go);
 }

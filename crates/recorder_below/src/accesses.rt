@@ -1,6 +1,6 @@
 //! Loads and stores.
 
-ghost use Rattle.std.specs.Prelude.{IfErr, OnOk};
+ghost use Rattle.std.specs.Prelude.{◌≡◌, ◌+◌, IfErr, OnOk};
 ghost use Rattle.recorder_threads.specs.declared.wants.Want.TheVariants as want;
 ghost use Rattle.marks.specs.declared.side.Side.TheVariants.{System};
 ghost use Rattle.recorder_state.specs.Inputs.{world_of};
@@ -22,6 +22,7 @@ pub fn load(
 ) -> Result<(), Stop>
     requires { IsAtStep (world_of inputs) state.old thread System (want.Load addr width) }
     ensures made { OnOk result (IsReached (world_of inputs.entry) state.new) }
+    ensures steps { OnOk result (state.new.steps ≡ state.old.steps + 1) }
     ensures stopped { IfErr result (IsStopped (world_of inputs.entry) state.new) }
 {
     match state.memory.load_below(thread, addr, width) {
@@ -44,6 +45,7 @@ pub fn store(
 ) -> Result<(), Stop>
     requires { IsAtStep (world_of inputs) state.old thread System (want.Store addr width value) }
     ensures made { OnOk result (IsReached (world_of inputs.entry) state.new) }
+    ensures steps { OnOk result (state.new.steps ≡ state.old.steps + 1) }
     ensures stopped { IfErr result (IsStopped (world_of inputs.entry) state.new) }
 {
     match state.memory.store_below(thread, addr, width, value) {

@@ -1,6 +1,6 @@
 //! Builtins.
 
-ghost use Rattle.std.specs.Prelude.{◌≡◌, Some, IfErr, OnOk};
+ghost use Rattle.std.specs.Prelude.{◌+◌, ◌≡◌, Some, IfErr, OnOk};
 ghost use Rattle.marks.specs.declared.side.Side.TheVariants.{System};
 ghost use Rattle.c_builtins.specs.declared.builtin.Builtin.{Builtin as Builtins};
 ghost use Rattle.c_builtins.specs.declared.builtin.Builtin.TheVariants as builtins;
@@ -40,6 +40,7 @@ pub fn builtin(
     requires at { IsAtStep (world_of inputs) state.old thread System (want.Step indirect func) }
     requires builtin { builtin_of func ≡ Some builtin }
     ensures made { OnOk result (IsReached (world_of inputs.entry) state.new) }
+    ensures steps { OnOk result (state.new.steps ≡ state.old.steps + 1) }
     ensures stopped { IfErr result (IsStopped (world_of inputs.entry) state.new) }
 {
     if !keeps_mode(&inputs.placed.system, indirect, func) {
@@ -65,6 +66,7 @@ fn malloc(
 ) -> Result<(), Stop>
     requires { IsAtBuiltin (world_of inputs) state.old thread func builtins.Malloc }
     ensures made { OnOk result (IsReached (world_of inputs.entry) state.new) }
+    ensures steps { OnOk result (state.new.steps ≡ state.old.steps + 1) }
     ensures stopped { IfErr result (IsStopped (world_of inputs.entry) state.new) }
 {
     let size = first(state.threads.args(thread));
@@ -83,6 +85,7 @@ fn free(
 ) -> Result<(), Stop>
     requires { IsAtBuiltin (world_of inputs) state.old thread func builtins.Free }
     ensures made { OnOk result (IsReached (world_of inputs.entry) state.new) }
+    ensures steps { OnOk result (state.new.steps ≡ state.old.steps + 1) }
     ensures stopped { IfErr result (IsStopped (world_of inputs.entry) state.new) }
 {
     let addr = first(state.threads.args(thread));
@@ -105,6 +108,7 @@ fn threads(
     requires at { IsAtBuiltin (world_of inputs) state.old thread func builtin }
     requires threads { IsForThreads builtin }
     ensures made { OnOk result (IsReached (world_of inputs.entry) state.new) }
+    ensures steps { OnOk result (state.new.steps ≡ state.old.steps + 1) }
     ensures stopped { IfErr result (IsStopped (world_of inputs.entry) state.new) }
 {
     let arg = first(state.threads.args(thread));
@@ -129,6 +133,7 @@ fn print(
 ) -> Result<(), Stop>
     requires { IsAtBuiltin (world_of inputs) state.old thread func builtins.Print }
     ensures made { OnOk result (IsReached (world_of inputs.entry) state.new) }
+    ensures steps { OnOk result (state.new.steps ≡ state.old.steps + 1) }
     ensures stopped { IfErr result (IsStopped (world_of inputs.entry) state.new) }
 {
     done.fill(

@@ -1,6 +1,6 @@
 //! Frames.
 
-ghost use Rattle.std.specs.Prelude.{◌≡◌, ℕ, false, IfErr, OnOk};
+ghost use Rattle.std.specs.Prelude.{◌+◌, ◌≡◌, ℕ, false, IfErr, OnOk};
 ghost use Rattle.marks.specs.declared.side.Side.TheVariants.{System};
 ghost use Rattle.whole_runs.specs.Tests.{is_back};
 ghost use Rattle.recorder_threads.specs.declared.wants.Want.TheVariants as want;
@@ -27,6 +27,7 @@ pub fn enter(
 ) -> Result<(), Stop>
     requires { IsAtStep (world_of inputs) state.old thread System (want.Enter indirect func size) }
     ensures made { OnOk result (IsReached (world_of inputs.entry) state.new) }
+    ensures steps { OnOk result (state.new.steps ≡ state.old.steps + 1) }
     ensures stopped { IfErr result (IsStopped (world_of inputs.entry) state.new) }
 {
     frame(state, inputs, thread, indirect, func, size)
@@ -44,6 +45,7 @@ pub fn call_back(
     requires { (at : IsAtStep (world_of inputs) state.old thread System (want.CallBack func size)) ×
         (is_back (world_of inputs) at.reached.past func ≡ false) }
     ensures made { OnOk result (IsReached (world_of inputs.entry) state.new) }
+    ensures steps { OnOk result (state.new.steps ≡ state.old.steps + 1) }
     ensures stopped { IfErr result (IsStopped (world_of inputs.entry) state.new) }
 {
     frame(state, inputs, thread, true, func, size)
@@ -60,6 +62,7 @@ fn frame(
 ) -> Result<(), Stop>
     requires { IsEntering (world_of inputs) state.old thread tested func size }
     ensures made { OnOk result (IsReached (world_of inputs.entry) state.new) }
+    ensures steps { OnOk result (state.new.steps ≡ state.old.steps + 1) }
     ensures stopped { IfErr result (IsStopped (world_of inputs.entry) state.new) }
 {
     if !keeps_mode(&inputs.placed.system, tested, func) {
@@ -85,7 +88,8 @@ fn frame(
 /// The step in which the thread gives back its innermost frame.
 pub fn leave(state: &mut RunState, inputs: Inputs<'_>, thread: u8)
     requires { IsAtStep (world_of inputs) state.old thread System want.Leave }
-    ensures { IsReached (world_of inputs.entry) state.new }
+    ensures made { IsReached (world_of inputs.entry) state.new }
+    ensures steps { state.new.steps ≡ state.old.steps + 1 }
 {
     let _frame = state.memory.leave_below(thread);
     state.go_on(inputs, thread, Side::System, Answer::Go);

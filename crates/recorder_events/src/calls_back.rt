@@ -1,6 +1,6 @@
 //! Calls back of functions above the cut, and their returns.
 
-ghost use Rattle.std.specs.Prelude.{◌≡◌, ◌≤◌, length, IfErr, OnOk};
+ghost use Rattle.std.specs.Prelude.{◌+◌, ◌≡◌, ◌≤◌, length, IfErr, OnOk};
 ghost use Rattle.marks.specs.declared.side.Side.TheVariants as sides;
 ghost use Rattle.marks.specs.Wants.{Go};
 ghost use Rattle.log_codec.specs.LogText.{IsBody};
@@ -33,6 +33,7 @@ fn make_quiet(
     requires event { IsBody (in_full event) }
     ensures made { (n : IsCallBackNext (world_of inputs.entry) state.old thread keys.now event) →
         OnOk result (IsEventStep (world_of inputs.entry) state.new thread n.step.want n.answer) }
+    ensures steps { OnOk result (state.new.steps ≡ state.old.steps) }
     ensures stopped { IfErr result (IsStopped (world_of inputs.entry) state.new) }
 {
     if let Some(ending) = full(&state.book, &event, keys.len()) {
@@ -58,6 +59,7 @@ fn make_up_return(
     requires { IsAtStep (world_of inputs) state.old thread sides.Replay (wants.UpReturn value) }
     ensures made { (h : IsAtStep (world_of inputs.entry) state.old thread sides.Replay (wants.UpReturn value)) →
         OnOk result (IsEventStep (world_of inputs.entry) state.new thread h.step.want Go) }
+    ensures steps { OnOk result (state.new.steps ≡ state.old.steps) }
     ensures stopped { IfErr result (IsStopped (world_of inputs.entry) state.new) }
 {
     let event = Event::UpRet { result: value };
@@ -82,6 +84,7 @@ pub fn up_return(
 ) -> Result<(), Stop>
     requires { IsAtStep (world_of inputs) state.old thread sides.Replay (wants.UpReturn value) }
     ensures made { OnOk result (IsReached (world_of inputs.entry) state.new) }
+    ensures steps { OnOk result (state.new.steps ≡ state.old.steps + 1) }
     ensures stopped { IfErr result (IsStopped (world_of inputs.entry) state.new) }
 {
     if let Err(stop) = make_up_return(state, inputs, memory, thread, value) {

@@ -1,6 +1,6 @@
 //! Blocks above the cut.
 
-ghost use Rattle.std.specs.Prelude.{◌<◌, IfErr, IfOk, OnOk, Some};
+ghost use Rattle.std.specs.Prelude.{◌≡◌, ◌+◌, ◌<◌, IfErr, IfOk, OnOk, Some};
 ghost use Rattle.run_events.specs.declared.event.Event.TheVariants as logged;
 ghost use Rattle.marks.specs.Wants.{Frees};
 ghost use Rattle.memory_map.specs.declared.areas.TheConstants.{THREADS};
@@ -43,6 +43,7 @@ pub fn alloc(
 ) -> Result<(), Stop>
     requires { IsAtStep (world_of inputs) state.old thread Replay (wants.Alloc size) }
     ensures made { OnOk result (IsReached (world_of inputs.entry) state.new) }
+    ensures steps { OnOk result (state.new.steps ≡ state.old.steps + 1) }
     ensures stopped { IfErr result (IsStopped (world_of inputs.entry) state.new) }
 {
     if let Some(ending) = full(&state.book, &Event::Alloc { size, addr: 0 }, 1) {

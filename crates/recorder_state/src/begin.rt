@@ -52,8 +52,8 @@ impl RunState {
     }
 }
 
-// The number of `main`; of the first function of the source, where there is none.
-fn main_of(code: &FusedCode) -> u16
+/// The number of `main`; of the first function of the source, where there is none.
+pub fn main_of(code: &FusedCode) -> u16
     ensures { result ≡ main_at code.now }
 {
     for place in 0..sources(code) {

@@ -9,6 +9,7 @@ mod stop;
 mod telling;
 mod turn;
 
+pub use begin::main_of;
 pub use inputs::Inputs;
 pub use state::RunState;
 pub use stop::Stop;

@@ -17,7 +17,8 @@ impl RunState {
     /// What comes next: the run ends, or a thread makes a step. A thread that has to wait is blocked on the way.
     pub fn next(&mut self, inputs: Inputs<'_>) -> Turn
         requires { IsReached (world_of inputs) self.old }
-        ensures { IsTurn (world_of inputs.entry) self.new result }
+        ensures turn { IsTurn (world_of inputs.entry) self.new result }
+        ensures steps { self.new.steps ≡ self.old.steps }
     {
         if self.system.all_ended() {
             return Turn::Ended(Ending::Done);
@@ -33,7 +34,8 @@ impl RunState {
     fn pick(&mut self, inputs: Inputs<'_>, wish: u8) -> Turn
         requires trying { IsTrying (world_of inputs) self.old }
         requires wish { wish ≡ wish_at inputs.file.now.schedule self.old.steps }
-        ensures { IsTurn (world_of inputs.entry) self.new result }
+        ensures turn { IsTurn (world_of inputs.entry) self.new result }
+        ensures steps { self.new.steps ≡ self.old.steps }
     {
         while let Some(thread) = self.system.pick(wish) {
             if let Some(turn) = self.turn_of(inputs, thread) {
@@ -48,7 +50,7 @@ impl RunState {
         requires { IsTried (world_of inputs) self.old thread }
         ensures turn { IfSome result (IsTurn (world_of inputs.entry) self.new) }
         ensures blocked { result ≡ None → IsTrying (world_of inputs.entry) self.new }
-        ensures steps { result ≡ None → self.new.steps ≡ self.old.steps }
+        ensures steps { self.new.steps ≡ self.old.steps }
         ensures fewer { result ≡ None →
             ready_in self.new.system.threads < ready_in self.old.system.threads }
     {

@@ -1,6 +1,6 @@
 //! What the state is told of a step that was made in memory.
 
-ghost use Rattle.std.specs.Prelude.{◌≡◌, ◌∷◌, OnOk};
+ghost use Rattle.std.specs.Prelude.{◌≡◌, ◌+◌, ◌∷◌, OnOk};
 ghost use Rattle.marks.specs.Wants.{Value};
 ghost use Rattle.c_machine.specs.Wants.{told};
 ghost use Rattle.recorder_threads.specs.Answers.{IsNoCall, IsPlain};
@@ -24,7 +24,8 @@ impl RunState {
     /// it, and the thread is given this answer.
     pub fn go_on(&mut self, inputs: Inputs<'_>, thread: u8, side: Side, answer: Answer)
         requires { IsPlainStep (world_of inputs) self.old thread side (told answer) }
-        ensures { IsReached (world_of inputs.entry) self.new }
+        ensures reached { IsReached (world_of inputs.entry) self.new }
+        ensures steps { self.new.steps ≡ self.old.steps + 1 }
     {
         tell(&mut self.threads, inputs, thread, answer);
         if let Side::Replay = side {
@@ -46,7 +47,8 @@ impl RunState {
         value: u64,
     ) -> Result<(), AllocError>
         requires { IsResultStep (world_of inputs) self.old thread func value (Value value) }
-        ensures { OnOk result (IsReached (world_of inputs.entry) self.new) }
+        ensures reached { OnOk result (IsReached (world_of inputs.entry) self.new) }
+        ensures steps { OnOk result (self.new.steps ≡ self.old.steps + 1) }
     {
         self.system.note(thread, func, self.threads.args(thread))?;
         give_to(&mut self.threads, alloc, inputs, thread, func, value)?;
@@ -59,7 +61,8 @@ impl RunState {
     /// `AllocError` where there is no memory.
     pub fn give_back(&mut self, inputs: Inputs<'_>, thread: u8, func: u16) -> Result<(), AllocError>
         requires { IsReturnStep (world_of inputs) self.old thread func }
-        ensures { OnOk result (IsReached (world_of inputs.entry) self.new) }
+        ensures reached { OnOk result (IsReached (world_of inputs.entry) self.new) }
+        ensures steps { OnOk result (self.new.steps ≡ self.old.steps + 1) }
     {
         self.system.note(thread, func, self.threads.args(thread))?;
         self.threads.go(inputs.code, inputs.placed, thread);
@@ -70,7 +73,8 @@ impl RunState {
     /// Counts a step of the thread that all but the system were told of, and tells it where the thread has ended with it.
     pub fn end_step(&mut self, inputs: Inputs<'_>, thread: u8)
         requires { IsStepTold (world_of inputs) self.old thread }
-        ensures { IsReached (world_of inputs.entry) self.new }
+        ensures reached { IsReached (world_of inputs.entry) self.new }
+        ensures steps { self.new.steps ≡ self.old.steps + 1 }
     {
         if let Some(value) = self.threads.result(inputs.code, inputs.placed, thread) {
             self.system.end(thread, value);

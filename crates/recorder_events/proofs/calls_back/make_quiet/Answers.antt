@@ -1,3 +1,5 @@
+use Rattle.std.proofs.Common.{refl, ap}
+use Rattle.recorder_state.specs.declared.state.RunState.{RunState}
 use Rattle.recorder_events.proofs.Few.{thread_few}
 use Rattle.recorder_events.proofs.Steps.{watch_few}
 use Rattle.recorder_events.proofs.Quiet.{ends, coming_so, made_so}
@@ -18,3 +20,8 @@ make_event-requires-clause-coming c = coming_so _ c.args.state.now c.args.thread
 pub returns-in-Ok-clause-made : goal.returns-in-Ok-clause-made
 returns-in-Ok-clause-made c = λ n. made_so _ c.args.state.now c.args.thread _ _ n c.event_above.new.self _ (c.in_default-event_above.ensures n.kind n.quiet) c.in_default.ensures
     (c.in-Ok.ensures (coming_so _ c.args.state.now c.args.thread _ _ n c.event_above.new.self))
+
+pub returns-in-Ok-clause-steps : goal.returns-in-Ok-clause-steps
+returns-in-Ok-clause-steps c =
+    let r = c.in-Ok.ensures (coming_so _ c.args.state.now c.args.thread _ _ c.requires.next c.event_above.new.self) in
+    ap (λ (z : RunState). z.steps) r.rest

@@ -1,5 +1,7 @@
+use Rattle.std.proofs.Common.{◌+◌, refl, ap, ◌∙◌}
 use Rattle.marks.specs.Wants.{Allocs, Value}
 use Rattle.recorder_threads.specs.Answers.{IsNoCall}
+use Rattle.recorder_state.specs.declared.state.RunState.{RunState}
 use Rattle.recorder_events.proofs.Few.{thread_few}
 use Rattle.recorder_events.proofs.Steps.{watch_few}
 use Rattle.recorder_events.proofs.Marked.{plain_answer, step_told}
@@ -38,3 +40,11 @@ end_step-requires c =
     let made = made_so _ s c.args.thread c.args.size h c.in-Ok.addr here c.alloc_above.new.self _ c.in-Ok.ensures.made c.in_default.ensures recorded in
     step_told _ _ c.args.thread (Allocs c.args.size) (Value c.in-Ok.addr) made _
     (c.give.ensures (plain_answer _ _ c.args.thread (Allocs c.args.size) (Value c.in-Ok.addr) made IsNoCall (λ z. z)))
+
+pub returns-clause-steps : goal.returns-clause-steps
+returns-clause-steps c =
+    let h = c.requires in
+    let s = c.args.state.now in
+    let here = c.in-Ok.ensures.place _ h.reached.past h.reached.memory in
+    let recorded = c.in_default-make_event.ensures (coming_so _ s c.args.thread c.args.size h c.in-Ok.addr here c.alloc_above.new.self) in
+    c.end_step.ensures.steps ∙ ap (λ (z : RunState). z.steps + 1) recorded.rest

@@ -17,8 +17,8 @@ end-requires-clause-int c =
     let now = c.requires.marked.mark ∷ c.requires.marked.past in
     is_int w c.args.self.now c.args.thread c.requires c.in-Some.value (sym (c.result.ensures w now refl c.requires.threads) ∙ c.in-Some.is)
 
-pub returns : goal.returns
-returns c =
+pub returns-clause-reached : goal.returns-clause-reached
+returns-clause-reached c =
     let w = world_of c.args.inputs in
     let now = c.requires.marked.mark ∷ c.requires.marked.past in
     let said = c.result.ensures w now refl c.requires.threads in

@@ -7,14 +7,14 @@ use Rattle.recorder_state.proofs.Going.{in_budget}
 use Rattle.recorder_state.proofs.Tried.{ends_here}
 use Rattle.recorder_state.proofs.state.RunState.next.Goals as goal
 
-pub returns-then-all_ended : goal.returns-then-all_ended
-returns-then-all_ended c =
+pub returns-then-all_ended-clause-turn : goal.returns-then-all_ended-clause-turn
+returns-then-all_ended-clause-turn c =
     let w = world_of c.args.inputs in
     let r = c.requires in
     ends_here w c.args.self.now ending.Done r (last.done (sym (c.all_ended.ensures w r.past r.around.system) ∙ c.if-all_ended.true))
 
-pub returns-then-self-inputs : goal.returns-then-self-inputs
-returns-then-self-inputs c =
+pub returns-then-self-inputs-clause-turn : goal.returns-then-self-inputs-clause-turn
+returns-then-self-inputs-clause-turn c =
     let w = world_of c.args.inputs in
     let r = c.requires in
     ends_here w c.args.self.now (ending.Halted halt.Budget) r

@@ -22,11 +22,12 @@ loop-thread-preserved c =
     let none = none_is c.turn_of.result c.in_default-turn_of.not-Some in
     record {
       trying = c.turn_of.ensures.blocked none;
-      wish = c.loop-thread.invariant.wish ∙ ap (λ n. wish_at c.args.inputs.file.now.schedule n) (sym (c.turn_of.ensures.steps none));
+      wish = c.loop-thread.invariant.wish ∙ ap (λ n. wish_at c.args.inputs.file.now.schedule n) (sym c.turn_of.ensures.steps);
+      steps = c.turn_of.ensures.steps ∙ c.loop-thread.invariant.steps;
     }
 
-pub returns : goal.returns
-returns c =
+pub returns-clause-turn : goal.returns-clause-turn
+returns-clause-turn c =
     let w = world_of c.args.inputs in
     let trying = c.loop-thread.invariant.trying in
     let r = trying.reached in

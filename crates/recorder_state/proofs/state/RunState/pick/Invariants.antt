@@ -10,6 +10,7 @@ abbrev pub invariant-loop-thread : goal.invariant-loop-thread
 invariant-loop-thread l = record {
   trying : IsTrying (world_of l.inputs) l.self;
   wish : l.wish ≡ wish_at l.inputs.file.now.schedule l.self.steps;
+  steps : l.self.steps ≡ l.fn.self.steps;
 }
 
 abbrev pub decreases-loop-thread : goal.decreases-loop-thread

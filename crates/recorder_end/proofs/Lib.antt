@@ -1,0 +1,4 @@
+mod Stopped
+mod Reasons
+mod Few
+mod Stopping
