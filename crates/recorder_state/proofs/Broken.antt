@@ -1,5 +1,5 @@
 -- A step that isn't made, and the end that comes of it.
-use Rattle.std.proofs.Common.{◌≡◌, ℕ, false, List, [], ◌∷◌, Option, Some, None, refl, sym, ap, ◌∙◌, subst}
+use Rattle.std.proofs.Common.{◌≡◌, ℕ, false, [], ◌∷◌, Option, Some, None, refl, sym, ◌∙◌, subst}
 use Rattle.marks.specs.declared.side.Side.{Side}
 use Rattle.marks.specs.declared.fault.FaultKind.{FaultKind}
 use Rattle.marks.specs.declared.breach.BreachKind.{BreachKind}
@@ -15,7 +15,6 @@ use Rattle.whole_runs.specs.World.{World, begin}
 use Rattle.whole_runs.specs.Sides.{seen}
 use Rattle.whole_runs.specs.Outcomes.{act_outcome}
 use Rattle.whole_runs.specs.Tests.{tests}
-use Rattle.whole_runs.specs.Steps.{IsFault}
 use Rattle.whole_runs.specs.Ends.{IsLast, breach_end, fault_end}
 use Rattle.whole_runs.specs.Ends as last
 use Rattle.whole_runs_laws.specs.Exists.{HasFault}

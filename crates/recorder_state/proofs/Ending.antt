@@ -1,9 +1,7 @@
 -- The end of a step of which all but the system were told.
-use Rattle.std.proofs.Common.{◌≡◌, ℕ, suc, ◌+◌, ◌<◌, ◌≤◌, true, List, ◌∷◌, length, Option, Some, None, refl, sym, ap, ◌∙◌, subst, arith}
+use Rattle.std.proofs.Common.{◌≡◌, ℕ, ◌+◌, ◌<◌, List, ◌∷◌, length, Option, Some, None, ap, ◌∙◌, arith}
 use Rattle.marks.specs.Marks.{Mark}
 use Rattle.c_code.specs.MarkLists.{Next, Quiet, Wants, Ends, No}
-use Rattle.c_code.specs.Builtins.{int}
-use Rattle.c_code.specs.Values.{is_value}
 use Rattle.system_side.specs.System.{SystemState}
 use Rattle.whole_runs.specs.World.{World}
 use Rattle.whole_runs.specs.Outcomes.{started}
@@ -17,7 +15,7 @@ use Rattle.recorder_threads.proofs.Places.{count_is}
 use Rattle.recorder_state.specs.declared.state.RunState.{RunState}
 use Rattle.recorder_state.specs.Stands.{IsReached}
 use Rattle.recorder_state.specs.Plain.{IsMarkedStep, IsStepTold}
-use Rattle.recorder_state.proofs.Going.{follows_so, in_budget}
+use Rattle.recorder_state.proofs.Going.{follows_so}
 
 module _ (w : World) (s : RunState) (t : ℕ) (h : IsStepTold w s t) where
   abbrev d : IsMarkedStep w s t

@@ -1,7 +1,11 @@
-mod Plain
-mod Going
-mod Flags
-mod Ending
-mod PlainSteps
-mod Tried
-mod Broken
+pub mod Plain
+pub mod Going
+pub mod Flags
+pub mod Ending
+pub mod PlainSteps
+pub mod Tried
+pub mod Broken
+pub mod Sources
+pub mod Begun
+pub mod Called
+pub mod Results

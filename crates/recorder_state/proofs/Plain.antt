@@ -1,5 +1,5 @@
 -- What a mark that is no event leaves as it is.
-use Rattle.std.proofs.Common.{◌≡◌, ℕ, ◌+◌, ◌<◌, Bool, true, false, cond, ◌&&◌, eqb, List, [], ◌∷◌, ◌++◌, map, length, Option, Some, None, refl, sym, ap, ◌∙◌, subst, arith}
+use Rattle.std.proofs.Common.{◌≡◌, ℕ, ◌+◌, Bool, true, false, cond, ◌&&◌, eqb, List, [], ◌∷◌, ◌++◌, map, length, Option, None, refl, sym, ap, ◌∙◌, subst, arith}
 use Rattle.std.specs.Prelude.{reverse, sum_by}
 use Rattle.std.specs.List.{flat_map, range_with_len, AllByRecursion}
 use Rattle.run_events.specs.declared.key.Class.TheVariants.{Callback, Out}
@@ -9,7 +9,7 @@ use Rattle.marks.specs.Marks.{Act, Turn, Load, Store, Enter, Leave, Step, Fault,
 use Rattle.marks.specs.Bytes.{Byte}
 use Rattle.c_code.specs.MarkLists.{same_side}
 use Rattle.log_codec.specs.LogText.{chunk_text, head_text}
-use Rattle.replay_runs.specs.Runs.{Link, OfThread, OfKey, counts, events_after, events_with, has, is_fault, is_listed, keys_of, last_clock, marks_of, new_events, steps_since}
+use Rattle.replay_runs.specs.Runs.{Link, OfThread, OfKey, counts, events_after, has, is_fault, is_listed, keys_of, last_clock, marks_of, new_events, steps_since}
 use Rattle.replay_runs.specs.Keys.{key}
 use Rattle.replay_runs.specs.Interface.{Interface}
 use Rattle.replay_runs.specs.Pool.{registered_from}
@@ -22,11 +22,11 @@ use Rattle.logical_clock.specs.Counts.{Counts}
 use Rattle.logical_clock.specs.Counts as clocks
 use Rattle.steps_above_stamps.specs.State.{StampsState}
 use Rattle.steps_above_stamps.specs.Stamps.{AreStampsOf, and_event, occurrences}
-use Rattle.whole_runs.specs.World.{World, begin}
+use Rattle.whole_runs.specs.World.{World}
 use Rattle.whole_runs.specs.Sides.{seen}
 use Rattle.whole_runs.specs.Outcomes.{act_outcome}
 use Rattle.whole_runs.specs.Records.{full_record, size_of, version}
-use Rattle.whole_runs.specs.Ends.{bytes_of, events_of}
+use Rattle.whole_runs.specs.Ends.{events_of}
 use Rattle.whole_runs.specs.Log.{act_printed, chunks, kept_back, last_records, replay_output, system_output}
 use Rattle.whole_runs.specs.Recorded.{full_records}
 use Rattle.recorder_book.specs.Book.{BookState, IsBookOf, IsOfAThread}

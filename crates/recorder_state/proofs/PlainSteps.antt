@@ -1,10 +1,10 @@
 -- What a plain step asks of the parts of the state.
-use Rattle.std.proofs.Common.{◌≡◌, ◌≢◌, ℕ, suc, ◌<◌, ◌≤◌, [], false, true, List, ◌∷◌, length, slice_index, Option, Some, None, refl, sym, ap, ◌∙◌, subst, arith}
+use Rattle.std.proofs.Common.{◌≡◌, ℕ, suc, ◌<◌, ◌≤◌, [], true, List, ◌∷◌, length, slice_index, Some, refl, sym, ◌∙◌, subst, arith}
 use Rattle.marks.specs.declared.side.Side.{Side}
 use Rattle.marks.specs.declared.side.Side.TheVariants.{Replay, System}
 use Rattle.marks.specs.Places.{thread_count}
-use Rattle.marks.specs.Marks.{Mark, is_event}
-use Rattle.marks.specs.Wants.{Answer, Stopped}
+use Rattle.marks.specs.Marks.{Mark}
+use Rattle.marks.specs.Wants.{Answer}
 use Rattle.c_code.specs.MarkLists.{reply}
 use Rattle.c_machine.specs.Wants.{told}
 use Rattle.c_machine.specs.declared.wants.Answer.{Answer as Told}
@@ -20,7 +20,6 @@ use Rattle.whole_runs.specs.World.{World, interface}
 use Rattle.whole_runs.specs.Sides.{seen}
 use Rattle.whole_runs.specs.Picks.{can_step}
 use Rattle.whole_runs.specs.Steps.{Picked}
-use Rattle.whole_runs.specs.Fits.{IsFit}
 use Rattle.whole_runs_seen.proofs.Threads.{no_fault, threads_known}
 use Rattle.recorder_memory.specs.Stands.{placed}
 use Rattle.recorder_memory.specs.Steps.{next_mark}

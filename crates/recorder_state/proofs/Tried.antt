@@ -1,12 +1,9 @@
 -- A thread that is tried.
-use Rattle.std.proofs.Common.{◌≡◌, ◌≢◌, ℕ, ◌<◌, ◌≤◌, Bool, true, false, not, List, [], ◌∷◌, length, Option, Some, None, refl, sym, ap, ◌∙◌, subst, arith}
+use Rattle.std.proofs.Common.{◌≡◌, ◌≢◌, ℕ, ◌<◌, true, List, [], length, Option, Some, None, refl, sym, ap, ◌∙◌, subst, arith}
 use Rattle.std.specs.Prelude.{reverse}
-use Rattle.std.proofs.lemmas.Bool.{true≢false}
 use Rattle.marks.specs.declared.side.Side.{Side}
 use Rattle.marks.specs.Marks.{Mark}
-use Rattle.marks.specs.Wants.{Want, Answer, Gives, Steps}
-use Rattle.c_code.specs.Machine.{Config}
-use Rattle.c_code.specs.MarkLists.{Next, Split, Wants, Ends, Wrong, lists, state, step}
+use Rattle.c_code.specs.MarkLists.{Split, Wants, Ends, Wrong, lists, state, step}
 use Rattle.c_code.specs.Typed.{AreArguments, CarriesValues}
 use Rattle.system_side.specs.declared.threads.Standing.TheVariants.{Ready}
 use Rattle.system_side.specs.Schedule.{wish_at}
@@ -14,9 +11,8 @@ use Rattle.system_side.specs.System.{SystemState}
 use Rattle.whole_runs.specs.declared.ending.Ending.{Ending}
 use Rattle.whole_runs.specs.World.{World}
 use Rattle.whole_runs.specs.Sides.{own}
-use Rattle.whole_runs.specs.Threads.{beginning, comes, ended_with, result_of}
+use Rattle.whole_runs.specs.Threads.{beginning, comes, ended_with}
 use Rattle.whole_runs.specs.Picks.{asked, can_step, is_unblocked, may_go_on}
-use Rattle.whole_runs.specs.Steps.{GoesOn}
 use Rattle.whole_runs.specs.Ends.{IsLast}
 use Rattle.whole_runs_seen.proofs.Answered.{right_where_wanted}
 use Rattle.whole_runs_seen.proofs.Threads.{AreThreads, args_at as args_with, begins_so, func_at, threads_known}

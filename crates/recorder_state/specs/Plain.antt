@@ -1,16 +1,19 @@
 -- Steps that were made in memory, and what the rest of the state is told of them.
-use Rattle.std.specs.Prelude.{◌≡◌, ℕ, ◌+◌, false, true, List, ◌∷◌, length, Some, None}
+use Rattle.std.specs.Prelude.{◌≡◌, ℕ, ◌+◌, Bool, false, true, List, [], ◌∷◌, length, Some, None}
 use Rattle.marks.specs.declared.side.Side.{Side}
 use Rattle.marks.specs.Places.{builtin_count}
 use Rattle.marks.specs.Marks.{Act, Mark, is_event}
 use Rattle.marks.specs.Wants.{Answer, Go, Value}
+use Rattle.c_code.specs.Machine.{Laid}
 use Rattle.c_code.specs.MarkLists.{reply}
+use Rattle.c_code.specs.Typed.{AreArguments}
+use Rattle.c_machine.specs.Moves.{ThreadState}
 use Rattle.steps_above_stamps.specs.Stamps.{AreStampsOf}
 use Rattle.steps_above_interface.specs.Stands as functions
 use Rattle.system_side.specs.Threads.{has_not_ended}
 use Rattle.whole_runs.specs.World.{World, interface}
 use Rattle.whole_runs.specs.Sides.{seen}
-use Rattle.whole_runs.specs.Outcomes.{act_outcome, outcome}
+use Rattle.whole_runs.specs.Outcomes.{act_outcome, is_start, outcome}
 use Rattle.whole_runs.specs.Log.{replay_output, system_output}
 use Rattle.whole_runs.specs.Steps.{Picked, IsMade}
 use Rattle.whole_runs.specs.Ends.{Follows, HasRoomFor}
@@ -18,7 +21,7 @@ use Rattle.whole_runs.specs.Fits.{IsFit}
 use Rattle.recorder_memory.specs.Stands.{StandsForRun, placed}
 use Rattle.recorder_memory.specs.Steps.{next_mark}
 use Rattle.recorder_threads.specs.Threads.{AreThreadsOf, args_at}
-use Rattle.recorder_threads.specs.Answers.{IsNoCall}
+use Rattle.recorder_threads.specs.Answers.{IsAnswered, IsNoCall}
 use Rattle.recorder_system.specs.Stands.{IsSystemBut, IsSystemOf}
 use Rattle.recorder_book.specs.Book.{IsBookOf}
 use Rattle.recorder_state.specs.declared.state.RunState.{RunState}
@@ -79,12 +82,25 @@ pub record IsStepTold (w : World) (s : RunState) (t : ℕ) : Type 0 where
   pub system : IsSystemBut t w (marked.mark ∷ marked.past) s.system
   pub running : has_not_ended s.system.threads t ≡ true
 
--- neither threads nor system were told of the mark, in which the thread's call of the function comes to its
--- result and gives the code this answer
-pub record IsResultStep (w : World) (s : RunState) (t func : ℕ) (x : Answer) : Type 0 where
+-- neither threads nor system were told of the mark, in which the thread's call of the function comes to this
+-- result, and which gives its code this answer
+pub record IsResultStep (w : World) (s : RunState) (t func result : ℕ) (x : Answer) : Type 0 where
   pub marked : IsMarkedStep w s t
   pub threads : AreThreadsOf w marked.past s.threads
   pub system : IsSystemOf w marked.past s.system
-  pub result : ℕ
   pub outcome_is : act_outcome t marked.mark.act ≡ Some (outcome t func (args_at s.threads t) result)
   pub answers : reply marked.step.side marked.step.want marked.mark ≡ Some x
+
+-- a function with a body returns to code above the cut
+abbrev pub IsReturnStep : World → RunState → (thread func : ℕ) → Type 0
+IsReturnStep w s t func = (result : ℕ) × IsResultStep w s t func result Go
+
+-- a call of the function that comes to this result starts a thread
+abbrev pub starts_thread : (func result : ℕ) → Bool
+starts_thread f v = is_start (outcome 0 f [] v)
+
+-- a mark gives the code of a thread the result of its call, which may start one more thread
+pub record IsResult (l : Laid) (threads : List ThreadState) (t func result : ℕ) : Type 0 where
+  pub next : IsAnswered l threads t IsNoCall (Value result)
+  pub comes : act_outcome next.mark.thread next.mark.act ≡ Some (outcome t func (args_at threads t) result)
+  pub values : AreArguments l func (args_at threads t)

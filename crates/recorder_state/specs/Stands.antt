@@ -1,5 +1,5 @@
 -- Which runs the state of a recording stands for.
-use Rattle.std.specs.Prelude.{◌≡◌, ℕ, ◌<◌, ◌≤◌, ◌+◌, List, length}
+use Rattle.std.specs.Prelude.{◌≡◌, ◌+◌, List, length}
 use Rattle.marks.specs.Places.{builtin_count}
 use Rattle.marks.specs.Marks.{Mark}
 use Rattle.steps_above_stamps.specs.Stamps.{AreStampsOf}

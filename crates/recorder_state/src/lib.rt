@@ -1,6 +1,7 @@
 //! The state of a recording, what comes next, and what the state is told of each step.
 #![tactic(auto)]
 
+mod begin;
 mod inputs;
 mod next;
 mod state;

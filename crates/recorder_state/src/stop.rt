@@ -10,6 +10,7 @@ ghost use Rattle.recorder_state.specs.Ends.{HasRoom, IsRefused, IsStopped, Lacks
 
 use marks::{FaultKind, Side};
 use recorder_book::Room;
+use std::alloc::AllocError;
 use steps_above_memory::StepRefusal;
 use whole_runs::{Ending, Halt};
 
@@ -20,6 +21,16 @@ pub enum Stop {
     Ended(Ending),
     /// Out of memory.
     Memory,
+}
+
+impl From<AllocError> for Stop {
+    ghost use Rattle.recorder_state.specs.declared.stop.Stop.TheVariants.{Memory};
+
+    ghost from_gives = { λ _ e. e ≡ Memory };
+
+    fn from(_error: AllocError) -> Stop {
+        Stop::Memory
+    }
 }
 
 impl Stop {
@@ -41,7 +52,8 @@ impl Stop {
 
     /// The step needs an answer of the function, and the file has no more.
     pub fn for_lack(func: u16) -> Stop
-        ensures { (w : World) (s : RunState) (t : ℕ) (side : SideOf) → LacksAnswer w s t side func → IsStopped w s result }
+        ensures { (w : World) (s : RunState) (t : ℕ) (side : SideOf) → LacksAnswer w s t side func →
+            IsStopped w s result }
     {
         Stop::Ended(Ending::Halted(Halt::Script(func)))
     }
@@ -49,8 +61,8 @@ impl Stop {
     /// Why an event isn't made for which this is the room, if it isn't.
     pub fn for_room(room: Room) -> Result<(), Stop>
         ensures free { OnOk result (room ≡ Free) }
-        ensures stops { IfErr result (λ stop. (w : World) (s : RunState) (t : ℕ) (side : SideOf) → HasRoom w s t side room →
-            IsStopped w s stop) }
+        ensures stops { IfErr result (λ stop. (w : World) (s : RunState) (t : ℕ) (side : SideOf) →
+            HasRoom w s t side room → IsStopped w s stop) }
     {
         match room {
             Room::Free => Ok(()),

@@ -1,4 +1,4 @@
-use Rattle.std.proofs.Common.{◌≡◌, ◌∷◌, sym, ap, subst}
+use Rattle.std.proofs.Common.{◌∷◌, sym, ap, subst}
 use Rattle.c_machine.specs.Positions.{laid}
 use Rattle.c_machine.specs.Wants.{told}
 use Rattle.recorder_threads.specs.Answers.{IsNoCall, IsPlain}

@@ -1,11 +1,10 @@
-use Rattle.std.proofs.Common.{◌≡◌, ◌+◌, ◌∷◌, Option, Some, None, refl, sym, ap, ◌∙◌, subst}
-use Rattle.whole_runs.specs.Threads.{result_of}
+use Rattle.std.proofs.Common.{◌+◌, ◌∷◌, refl, sym, ◌∙◌, subst}
 use Rattle.recorder_system.proofs.Told.{goes_on}
 use Rattle.recorder_state.specs.declared.state.RunState.{RunState}
 use Rattle.recorder_state.specs.Inputs.{world_of}
 use Rattle.recorder_state.specs.Stands.{IsReached}
 use Rattle.recorder_state.proofs.Flags.{none_is}
-use Rattle.recorder_state.proofs.Ending.{is_few, is_int, is_started, reached}
+use Rattle.recorder_state.proofs.Ending.{is_int, is_started, reached}
 use Rattle.recorder_state.proofs.state.RunState.end_step.Goals.{in-Some, in_default}
 use Rattle.recorder_state.proofs.state.RunState.end_step.Goals as goal
 

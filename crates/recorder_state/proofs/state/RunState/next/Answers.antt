@@ -1,4 +1,4 @@
-use Rattle.std.proofs.Common.{refl, sym, ◌∙◌, arith}
+use Rattle.std.proofs.Common.{sym, ◌∙◌, arith}
 use Rattle.whole_runs.specs.declared.ending.Ending.TheVariants as ending
 use Rattle.whole_runs.specs.declared.ending.Halt.TheVariants as halt
 use Rattle.whole_runs.specs.Ends as last

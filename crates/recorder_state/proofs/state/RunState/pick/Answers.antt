@@ -1,4 +1,4 @@
-use Rattle.std.proofs.Common.{◌≡◌, length, Some, None, refl, sym, ap, ◌∙◌, subst}
+use Rattle.std.proofs.Common.{Some, None, sym, ap, ◌∙◌, subst}
 use Rattle.system_side.specs.Schedule.{wish_at}
 use Rattle.whole_runs.specs.declared.ending.Ending.TheVariants as ending
 use Rattle.whole_runs.specs.declared.ending.Halt.TheVariants as halt

@@ -1,4 +1,4 @@
-use Rattle.std.proofs.Common.{◌≡◌, true, false, not, Some, None, refl, sym, ap, ◌∙◌, subst}
+use Rattle.std.proofs.Common.{◌≡◌, refl, sym, ◌∙◌, subst}
 use Rattle.c_code.specs.MarkLists.{Ends}
 use Rattle.whole_runs.specs.Threads.{comes}
 use Rattle.whole_runs.specs.Picks.{can_step}

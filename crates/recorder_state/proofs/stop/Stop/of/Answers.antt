@@ -1,12 +1,8 @@
-use Rattle.std.proofs.Common.{◌≡◌, ℕ, sym, ap, ◌∙◌, subst}
-use Rattle.whole_runs.specs.World.{World}
-use Rattle.steps_above_memory.specs.declared.refusal.StepRefusal.{StepRefusal}
+use Rattle.std.proofs.Common.{sym, subst}
 use Rattle.steps_above_memory.specs.Refusals.{IsFound}
 use Rattle.whole_runs.specs.Tests.{tests}
-use Rattle.whole_runs.specs.Ends.{breach_end}
 use Rattle.whole_runs.specs.declared.ending.Ending.TheVariants as ending
-use Rattle.recorder_state.specs.declared.state.RunState.{RunState}
-use Rattle.recorder_state.specs.Ends.{IsEnded, IsRefused}
+use Rattle.recorder_state.specs.Ends.{IsEnded}
 use Rattle.recorder_state.proofs.Broken.{breaks, faults}
 use Rattle.recorder_state.proofs.stop.Stop.of.Goals as goal
 
