@@ -14,3 +14,5 @@ pub mod Told
 pub mod Changes
 pub mod Values
 pub mod Gives
+pub mod Made
+pub mod Fit

@@ -9,6 +9,6 @@ mod system;
 pub use given::Given;
 pub use laws::{
     arguments_are_ints, calls_are_free, picked_threads_can_step, plain_marks_keep_the_system,
-    threads_go_on,
+    steps_are_outcomes, threads_go_on, threads_hand_ints,
 };
 pub use system::RunSystem;

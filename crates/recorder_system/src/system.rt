@@ -21,12 +21,12 @@ use system_side::{SysFile, System, Wait};
 /// A run has so many threads at most.
 const THREADS: usize = 32;
 
-/// What lies below the cut of a run: which thread steps, where threads stand, who holds mutexes, and which answers of the
-/// file are left. Numbers are patterns of 64 bits, as in marks.
+/// What lies below the cut of a run: which thread steps, where threads stand, who holds mutexes, and which answers of
+/// the file are left. Numbers are patterns of 64 bits, as in marks.
 ///
-/// A step goes so: `pick` gives a thread to try. If its code calls a builtin or external, `waits` says whether it has to wait;
-/// then the next one is picked. `given` says what the call is given, and takes nothing. When the mark with the call's result is
-/// made, `note` is told; and when the thread has ended after its mark, `end` is.
+/// A step goes so: `pick` gives a thread to try. If its code calls a builtin or external, `waits` says whether it has
+/// to wait; then the next one is picked. `given` says what the call is given, and takes nothing. When the mark with
+/// the call's result is made, `note` is told; and when the thread has ended after its mark, `end` is.
 #[derive(Drop)]
 pub struct RunSystem {
     system: System,
@@ -88,7 +88,8 @@ impl RunSystem {
         self.system.pick(wish)
     }
 
-    /// Whether the builtin or external that a thread calls makes it wait. It is blocked then, and fewer threads are ready.
+    /// Whether the builtin or external that a thread calls makes it wait. It is blocked then, and fewer threads are
+    /// ready.
     pub fn waits(&mut self, thread: u8, func: u16, args: &[u64]) -> bool
         requires ready { is_ready self.old.threads thread ≡ true }
         requires ints { HasInt func args.now }

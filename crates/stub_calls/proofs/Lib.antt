@@ -1,3 +1,4 @@
 mod Steps
 mod Numbers
 mod Sorted
+mod Same

@@ -1,5 +1,5 @@
 -- The numbers that arguments are, one after the other.
-use Rattle.std.proofs.Common.{◌≡◌, ℕ, zero, suc, ◌+◌, ◌<◌, ◌≤◌, ℤ, List, [], ◌∷◌, ◌++◌, length, get_or, take, min, refl, sym, ap, ◌∙◌, arith}
+use Rattle.std.proofs.Common.{◌≡◌, ℕ, zero, suc, ◌+◌, ◌<◌, List, [], ◌∷◌, ◌++◌, length, get_or, take, min, refl, ap, ◌∙◌, arith}
 use Rattle.c_code.specs.declared.shape.Shape.{Shape}
 use Rattle.stub_meaning.specs.Calls.{number, numbers}
 

@@ -19,9 +19,9 @@ use std::alloc::{AllocError, Global};
 use std::marker::Model;
 use stub_operations::StubOp;
 
-/// What is done in one call by the operations of its function: the ranges that system code reads, those that it writes with
-/// their capacities and how much of them is used, those that it prepares, what the Ret commits, the functions that are registered,
-/// and whether an equal Ret is written as such. It keeps its memory from call to call.
+/// What is done in one call by the operations of its function: the ranges that system code reads, those that it writes
+/// with their capacities and how much of them is used, those that it prepares, what the Ret commits, the functions
+/// that are registered, and whether an equal Ret is written as such. It keeps its memory from call to call.
 #[derive(Drop)]
 pub struct Done {
     said: Said,
@@ -48,8 +48,8 @@ impl Done {
         }
     }
 
-    /// Reads the call of a function with these arguments and this result, by the operations of the function. Before the result is
-    /// known it is 0. After `AllocError` it may hold a part of what is done; it can be filled again.
+    /// Reads the call of a function with these arguments and this result, by the operations of the function. Before
+    /// the result is known it is 0. After `AllocError` it may hold a part of what is done; it can be filled again.
     pub fn fill(
         &mut self,
         code: &Code,

@@ -3,8 +3,10 @@
 
 mod done;
 mod keys;
+mod laws;
 mod said;
 mod sizes;
 
 pub use done::Done;
+pub use laws::{caching_is_of_the_function, keys_are_of_arguments};
 pub use said::{Committing, Prepared};

@@ -151,7 +151,8 @@ impl Said {
         self.is_cached = false;
     }
 
-    /// Adds what one operation says of the call with these arguments, whose numbers these are and whose result is this number.
+    /// Adds what one operation says of the call with these arguments, whose numbers these are and whose result is this
+    /// number.
     pub fn add(
         &mut self,
         code: &Code,
@@ -204,7 +205,10 @@ impl Said {
     }
 
     fn hold(&mut self, range: Range, used: u64) -> Result<(), AllocError>
-        ensures { OnOk result (self.new ≡ both self.old (record nothing { outs = range ∷ []; used = used ∷ [] })) }
+        ensures { OnOk result (self.new ≡ both self.old (record nothing {
+          outs = range ∷ [];
+          used = used ∷ [];
+        })) }
     {
         self.outs.push(range)?;
         self.used.push(used)?;
@@ -221,7 +225,9 @@ impl Said {
     }
 
     fn register(&mut self, func: Option<u16>) -> Result<(), AllocError>
-        ensures { OnOk result (self.new ≡ both self.old (record nothing { registers = option_to_list func })) }
+        ensures { OnOk result (self.new ≡ both self.old (record nothing {
+          registers = option_to_list func;
+        })) }
     {
         if let Some(func) = func {
             self.registers.push(func)?;

@@ -1,4 +1,4 @@
-use Rattle.std.proofs.Common.{◌≡◌, ◌<◌, ◌≤◌, length, ap, ◌∙◌, arith}
+use Rattle.std.proofs.Common.{◌<◌, ◌≤◌, length, ap, ◌∙◌, arith}
 use Rattle.run_events.specs.declared.key.Class.TheVariants.{Callback}
 use Rattle.replay_runs.specs.Keys.{key, with_key}
 use Rattle.stub_calls.proofs.Sorted.{all_put, more_put, none_put}

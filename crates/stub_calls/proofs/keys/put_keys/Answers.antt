@@ -1,4 +1,4 @@
-use Rattle.std.proofs.Common.{◌≡◌, ◌<◌, ◌≤◌, length, ap, ◌∙◌, arith}
+use Rattle.std.proofs.Common.{◌<◌, ◌≤◌, length, ap, ◌∙◌, arith}
 use Rattle.run_events.specs.declared.key.Key.{Key}
 use Rattle.stub_calls.specs.Calls.{with_keys}
 use Rattle.stub_calls.proofs.Sorted.{all_put, more_put, none_put, themselves}

@@ -1,10 +1,7 @@
-use Rattle.std.proofs.Common.{◌≡◌, [], ◌++◌, map, sym, ap, ◌∙◌}
+use Rattle.std.proofs.Common.{◌≡◌, ◌++◌, map, ap, ◌∙◌}
 use Rattle.run_events.specs.declared.key.Class.TheVariants.{Async, Callback}
-use Rattle.run_events.specs.declared.key.Key.{Key}
 use Rattle.marks.specs.Ranges.{Prepared}
-use Rattle.replay_runs.specs.Keys.{commit_keys, key, sorted_keys}
-use Rattle.stub_meaning.specs.Calls.{Done}
-use Rattle.stub_meaning.specs.Meaning.{first_of}
+use Rattle.replay_runs.specs.Keys.{key, sorted_keys}
 use Rattle.stub_calls.specs.Calls.{with_keys}
 use Rattle.stub_calls.proofs.Sorted.{in_order, in_order_both, ok_so}
 use Rattle.stub_calls.proofs.done.Done.call_keys.Goals as goal
