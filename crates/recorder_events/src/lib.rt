@@ -5,4 +5,6 @@ mod making;
 mod pool;
 mod room;
 
+pub use making::make_event;
 pub use pool::alloc;
+pub use room::full;

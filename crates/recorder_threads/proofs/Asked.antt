@@ -1,7 +1,9 @@
 -- What the marks that code asks for have to do with the place that it is at.
-use Rattle.std.proofs.Common.{◌≡◌, ℕ, zero, suc, ◌+◌, ◌*◌, ◌/◌, ◌%◌, Bool, true, false, cond, List, [], ◌∷◌, length, Option, Some, None, Result, Ok, Err, refl, sym, ap, ◌∙◌, arith}
+use Rattle.std.proofs.Common.{◌≡◌, ℕ, zero, suc, ◌+◌, ◌*◌, ◌/◌, ◌%◌, Bool, true, false, cond, List, [], ◌∷◌, length, Option, Some, None, Result, Ok, Err, refl, sym, ap, ◌∙◌, subst, arith}
 use Rattle.std.specs.Prelude.{slice_get}
 use Rattle.std.proofs.Math.Nat.{add-mul-mod_self_left}
+use Rattle.r2_num.specs.declared.kinds.IntKind.{IntKind}
+use Rattle.r2_num.specs.declared.kinds.IntKind.TheVariants as kinds
 use Rattle.marks.specs.declared.side.Side.{Side}
 use Rattle.marks.specs.declared.side.Side.TheVariants.{Replay, System}
 use Rattle.marks.specs.declared.fault.FaultKind.{FaultKind}
@@ -16,8 +18,10 @@ use Rattle.c_code.specs.declared.activation.Waiting.TheVariants.{ForValue, ForRe
 use Rattle.c_code.specs.Values.{bytes_of, combined}
 use Rattle.c_code.specs.Machine.{Laid, Config, Going, Under, Entering, Closing, Starting, Done, Lost, Action, Silent, Asks, Pends, Awaits, Starts, Over, Stuck, combine, entry, frame_of, is_pool, pool_act, pending, call_act, pointer_act, to_callee, callee, take_args, with_args, act, action, awaiting, returning, close, start}
 use Rattle.c_code.specs.MarkLists.{has_entry}
+use Rattle.c_code.proofs.FrameBytes.{bytes_count}
 use Rattle.c_machine.specs.Moves.{EntersBody}
 use Rattle.c_machine.specs.Readers.{args_of, is_indirect, side_of}
+use Rattle.recorder_threads.specs.Wants.{IsWidth}
 
 -- the bytes of a number are those of the number that they have
 pub bytes_again : (width value : ℕ) → bytes_of_number width value ≡ bytes_of_number (length (bytes_of_number width value)) (number_of_bytes (bytes_of_number width value))
@@ -29,13 +33,35 @@ bytes_again (suc width) value =
     let high : (value % 256 + 256 * number_of_bytes bs) / 256 ≡ number_of_bytes bs = omega arith in
     λ i. sym low i ∷ (rest ∙ ap (bytes_of_number (length bs)) (sym high)) i
 
+-- the bytes of each kind are so many
+width_of : (k : IntKind) → IsWidth (bytes_of k)
+width_of kinds.I8 = record { some = omega arith; few = omega arith }
+width_of kinds.U8 = record { some = omega arith; few = omega arith }
+width_of kinds.I16 = record { some = omega arith; few = omega arith }
+width_of kinds.U16 = record { some = omega arith; few = omega arith }
+width_of kinds.I32 = record { some = omega arith; few = omega arith }
+width_of kinds.U32 = record { some = omega arith; few = omega arith }
+width_of kinds.I64 = record { some = omega arith; few = omega arith }
+width_of kinds.U64 = record { some = omega arith; few = omega arith }
+
+-- these are the bytes of a number, as many as are stored at a time
+pub record AreStored (bytes : List ℕ) : Type 0 where
+  pub number : bytes ≡ bytes_of_number (length bytes) (number_of_bytes bytes)
+  pub width : IsWidth (length bytes)
+
+stored : (k : IntKind) (value : ℕ) → AreStored (bytes_of_number (bytes_of k) value)
+stored k value = record {
+  number = bytes_again (bytes_of k) value;
+  width = subst IsWidth (sym (bytes_count (bytes_of k) value)) (width_of k);
+}
+
 module _ (l : Laid) where
-  -- a store has the bytes of a number; a frame is that of the function that is to be entered
+  -- a store has the bytes of a number, and is of a width, as a load is; a frame is that of the function that is to be entered
   abbrev pub Fits : Config → Want → Type 0
   Fits c Outside = Unit {0}
   Fits c Turns = Unit {0}
-  Fits c (Loads o at n) = Unit {0}
-  Fits c (Stores o at bytes) = bytes ≡ bytes_of_number (length bytes) (number_of_bytes bytes)
+  Fits c (Loads o at n) = IsWidth n
+  Fits c (Stores o at bytes) = AreStored bytes
   Fits c (Enters i f args bytes) = (i ≡ is_indirect c) × (args ≡ args_of c) × (bytes ≡ frame_of l f args) × (EntersBody l c → has_entry (entry l f) ≡ true)
   Fits c (Leaves at n) = Unit {0}
   Fits c (Allocs n) = Unit {0}
@@ -91,17 +117,17 @@ module _ (l : Laid) where
   act_asked : (i : Option Instr) (a : Activation) (vs : List ℕ) (ws : List Waiting) → Asked (Going a vs ws) (act l i a vs ws)
   act_asked (Some (instr.Push what)) a vs ws = tt
   act_asked (Some (instr.Load k o)) a [] ws = tt
-  act_asked (Some (instr.Load k o)) a (p ∷ vs) ws = (refl, tt)
+  act_asked (Some (instr.Load k o)) a (p ∷ vs) ws = (refl, width_of k)
   act_asked (Some (instr.LoadKeep k o)) a [] ws = tt
-  act_asked (Some (instr.LoadKeep k o)) a (p ∷ vs) ws = (refl, tt)
+  act_asked (Some (instr.LoadKeep k o)) a (p ∷ vs) ws = (refl, width_of k)
   act_asked (Some (instr.Store k o)) a [] ws = tt
   act_asked (Some (instr.Store k o)) a (v ∷ []) ws = tt
-  act_asked (Some (instr.Store k o)) a (v ∷ (p ∷ vs)) ws = (refl, bytes_again (bytes_of k) v)
+  act_asked (Some (instr.Store k o)) a (v ∷ (p ∷ vs)) ws = (refl, stored k v)
   act_asked (Some (instr.StoreLocal k offset)) a [] ws = tt
-  act_asked (Some (instr.StoreLocal k offset)) a (v ∷ vs) ws = (refl, bytes_again (bytes_of k) v)
+  act_asked (Some (instr.StoreLocal k offset)) a (v ∷ vs) ws = (refl, stored k v)
   act_asked (Some (instr.StoreStep k by old o)) a [] ws = tt
   act_asked (Some (instr.StoreStep k by old o)) a (v ∷ []) ws = tt
-  act_asked (Some (instr.StoreStep k by old o)) a (v ∷ (p ∷ vs)) ws = (refl, bytes_again (bytes_of k) _)
+  act_asked (Some (instr.StoreStep k by old o)) a (v ∷ (p ∷ vs)) ws = (refl, stored k _)
   act_asked (Some (instr.Change how)) a [] ws = tt
   act_asked (Some (instr.Change how)) a (v ∷ vs) ws = tt
   act_asked (Some (instr.Combine how)) a [] ws = tt

@@ -55,7 +55,7 @@ module _ (l : Laid) (valid : IsValid l.code) where
       by None e z = absurd cc
 
   pub size_is : (f at : ℕ) → entry l f ≡ Some at → (args : List ℕ) → IsFrameSize l f args (frame_size (func_of l.code f))
-  size_is f at e args = frame_is (func_of l.code f) f at refl e args
+  size_is f at e args = record { body = ap has_entry e; count = frame_is (func_of l.code f) f at refl e args }
 
 body_is : (o : Option FuncInfo) (at : ℕ) → entry_of o ≡ Some at → body_frame o ≡ Some (frame_size o)
 body_is None at e = absurd cc
@@ -81,9 +81,9 @@ module _ (l : Laid) (valid : IsValid l.code) where
   asks_told : (c : Config) (s : Side) (w : Want) (k : Answer → Config) (v : Shown) → action l c ≡ Asks s w k → EntersBody l c → s ≡ side_of c → Fits l c w → shown_want l w ≡ Some v → Tells c v (Wants s w k)
   asks_told c s Outside k v ea h es fits e = absurd cc
   asks_told c s Turns k v ea h es fits e = subst (λ x. Tells c x (Wants s Turns k)) (shown_is _ v e) (wants c s Turns k told.Turn es refl)
-  asks_told c s (Loads o at n) k v ea h es fits e = subst (λ x. Tells c x (Wants s (Loads o at n) k)) (shown_is _ v e) (wants c s (Loads o at n) k (told.Load at n) es (o, refl))
+  asks_told c s (Loads o at n) k v ea h es fits e = subst (λ x. Tells c x (Wants s (Loads o at n) k)) (shown_is _ v e) (wants c s (Loads o at n) k (told.Load at n) es (o, refl, fits))
   asks_told c s (Stores o at bytes) k v ea h es fits e =
-      subst (λ x. Tells c x (Wants s (Stores o at bytes) k)) (shown_is _ v e) (wants c s (Stores o at bytes) k (told.Store at (length bytes) (number_of_bytes bytes)) es (o, ap (Stores o at) fits))
+      subst (λ x. Tells c x (Wants s (Stores o at bytes) k)) (shown_is _ v e) (wants c s (Stores o at bytes) k (told.Store at (length bytes) (number_of_bytes bytes)) es (o, ap (Stores o at) fits.number, fits.width))
   asks_told c s (Enters i f args bytes) k v ea h es fits e =
       let entered = some_entry l valid f (fits.3 h) in
       let same : Enters i f args bytes ≡ Enters (is_indirect c) f (args_of c) (frame_of l f (args_of c)) = λ j. Enters (fits.0 j) f (fits.1 j) ((fits.2 ∙ ap (frame_of l f) fits.1) j) in
