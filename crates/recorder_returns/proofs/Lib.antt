@@ -4,3 +4,5 @@ pub mod Few
 pub mod Closing
 pub mod Pieces
 pub mod Bodies
+pub mod Kept
+pub mod Recording
