@@ -78,11 +78,13 @@ module _ (memory : SpaceState) (gs : List Region) (up : List Piece) (used : List
       by (Some g) e =
           let there : ◌≡◌ {A = Option Range} (Some g.range) (Some h.0.range) = ap (option_map (λ (r : Region). r.range)) (sym e) ∙ h.2 in
           let is : g.range ≡ h.0.range = cc in
-          subst (CommitsUsed k (Some n)) (sym h.1)
-          (refl, last_used memory.bytes gs g up h.0 used n ranges count is
-          (subst (λ c. ShowUsed memory.bytes (up ++ released c) (used ++ (n ∷ []))) h.1 shows)
-          (subst (λ o. AllFilled memory.bytes (gs ++ option_to_list o) (used ++ (n ∷ []))) e filled)
-          (subst (λ c. HaveBytes (up ++ released c)) h.1 b))
+          subst (CommitsUsed k (Some n)) (sym h.1) (
+            refl,
+            last_used memory.bytes gs g up h.0 used n ranges count is
+                (subst (λ c. ShowUsed memory.bytes (up ++ released c) (used ++ (n ∷ []))) h.1 shows)
+                (subst (λ o. AllFilled memory.bytes (gs ++ option_to_list o) (used ++ (n ∷ []))) e filled)
+                (subst (λ c. HaveBytes (up ++ released c)) h.1 b),
+          )
 
   pub commits_so : (o : Option Committing) → IsCommitOf regions o commit → ShowUsed memory.bytes (up ++ released commit) (used ++ committed_size (committing_of o)) → AllFilled memory.bytes (gs ++ committed regions (committing_of o)) (used ++ committed_size (committing_of o))
       → HaveBytes (up ++ released commit) → Commits o commit

@@ -35,12 +35,12 @@ use Rattle.recorder_events.proofs.Ending.{IsSized, ends_full}
 use Rattle.recorder_events.proofs.Sized.{event_sized}
 use Rattle.recorder_events.proofs.Steps.{coming}
 use Rattle.recorder_returns.specs.Bringing.{BringsUp}
-use Rattle.recorder_returns.proofs.Bodies.{answer, answered, args, can_be, committing, kind, used}
+use Rattle.recorder_returns.proofs.Bodies.{answer, answered, args, can_be, committing, used}
 use Rattle.recorder_returns.proofs.Kept.{commits_as, same_output, same_system_output}
 
-event_reply : (w : World) (past : List Mark) (s : Picked w past) (kind : EventKind) (stamp : EventStamp) (x : Answer) → event_answer s.want kind ≡ Some x → reply s.side s.want (event_mark w past s kind stamp) ≡ Some x
+event_reply : (w : World) (past : List Mark) (s : Picked w past) (k : EventKind) (stamp : EventStamp) (x : Answer) → event_answer s.want k ≡ Some x → reply s.side s.want (event_mark w past s k stamp) ≡ Some x
 unfolding reply answer_to
-event_reply w past s kind stamp x e = e
+event_reply w past s k stamp x e = e
 
 module _ (w : World) (s : RunState) (t f v : ℕ) (h : IsAtStep w s t Replay (told.Return f v)) (up : List Piece) (commit : Commit) (b : BringsUp w s.memory.above.spaces f (args w s t f v h) v up commit) (same : Bool)
     (repeats : same ≡ ((interface w).is_cached f && same_return (last_return ((begin w).returned h.step.thread f) f (own_above w h.step.thread h.reached.past)) (record { result = v; bytes = piece_bytes up ++ logged commit })))
@@ -82,53 +82,56 @@ module _ (w : World) (s : RunState) (t f v : ℕ) (h : IsAtStep w s t Replay (to
         → functions.IsStateOf (interface w) (placed w) (seen (event_mark w past h.step ret r.stamp ∷ past)) state
         → length state.registered ≡ builtin_count + length w.laid.code.sources
         → (kept : RunState) → kept.interface ≡ state → kept ≡ record new { interface = kept.interface } → IsReturnStep w kept t f
-    made_so new state room makes r stands count kept is rest = (v, subst (λ z. IsResultStep w z t f v Go) (sym (rest ∙ ap (λ (z : RunState). record z { interface = kept.interface }) r.rest)) (record {
-      marked = record {
-        fit = h.reached.fit;
-        past = past;
-        follows = h.reached.follows;
-        steps = h.reached.steps;
-        step = h.step;
-        thread = h.thread;
-        mark = ret_mark r.stamp;
-        made = r.made;
-        room = room w past (ret_mark r.stamp) h.reached.around.shown.book (is_sized r.stamp (r.keys_are ∙ sym keys_are));
-        others = record {
-          memory = makes w past (ret_mark r.stamp) (record {
-            func = f;
-            args = bs;
-            result = v;
-            same = same;
-            up = up;
-            commit = commit;
-            next = record {
-              fit = h.reached.fit;
-              follows = h.reached.follows;
-              step = h.step;
-              made = r.made;
-              thread = h.thread;
-              event = ret_event r.stamp;
-              act_is = refl;
-              kind_is = refl;
-              keys_are = r.keys_are;
-            };
-            answer = [];
-            answered = answered w s t f v h;
-            outs_are = b.outs_are;
-            ranges_are = refl;
-            commits = commits_as s.memory.above.spaces.held (ret_mark r.stamp) (ret_event r.stamp) refl ((interface w).keys_at_return f bs) commit ((interface w).commits f bs v) (r.keys_are ∙ sym keys_are) b.commit_is;
-            shows = b.shows;
-          });
-          stamps = r.stamps;
-          book = r.book;
-          output = h.reached.around.shown.output ∙ sym (same_output w past h.step r.stamp f bs v same up commit);
-          system_output = h.reached.around.shown.system_output ∙ sym (same_system_output w past h.step r.stamp f bs v same up commit);
-          interface = subst (functions.IsStateOf (interface w) (placed w) (seen (ret_mark r.stamp ∷ past))) (sym is) stands;
-          functions = ap (λ (k : KeptState). length k.registered) is ∙ count;
+    made_so new state room makes r stands count kept is rest = (
+      v,
+      subst (λ z. IsResultStep w z t f v Go) (sym (rest ∙ ap (λ (z : RunState). record z { interface = kept.interface }) r.rest)) (record {
+        marked = record {
+          fit = h.reached.fit;
+          past = past;
+          follows = h.reached.follows;
+          steps = h.reached.steps;
+          step = h.step;
+          thread = h.thread;
+          mark = ret_mark r.stamp;
+          made = r.made;
+          room = room w past (ret_mark r.stamp) h.reached.around.shown.book (is_sized r.stamp (r.keys_are ∙ sym keys_are));
+          others = record {
+            memory = makes w past (ret_mark r.stamp) (record {
+              func = f;
+              args = bs;
+              result = v;
+              same = same;
+              up = up;
+              commit = commit;
+              next = record {
+                fit = h.reached.fit;
+                follows = h.reached.follows;
+                step = h.step;
+                made = r.made;
+                thread = h.thread;
+                event = ret_event r.stamp;
+                act_is = refl;
+                kind_is = refl;
+                keys_are = r.keys_are;
+              };
+              answer = [];
+              answered = answered w s t f v h;
+              outs_are = b.outs_are;
+              ranges_are = refl;
+              commits = commits_as s.memory.above.spaces.held (ret_mark r.stamp) (ret_event r.stamp) refl ((interface w).keys_at_return f bs) commit ((interface w).commits f bs v) (r.keys_are ∙ sym keys_are) b.commit_is;
+              shows = b.shows;
+            });
+            stamps = r.stamps;
+            book = r.book;
+            output = h.reached.around.shown.output ∙ sym (same_output w past h.step r.stamp f bs v same up commit);
+            system_output = h.reached.around.shown.system_output ∙ sym (same_system_output w past h.step r.stamp f bs v same up commit);
+            interface = subst (functions.IsStateOf (interface w) (placed w) (seen (ret_mark r.stamp ∷ past))) (sym is) stands;
+            functions = ap (λ (k : KeptState). length k.registered) is ∙ count;
+          };
         };
-      };
-      threads = h.reached.around.shown.threads;
-      system = h.reached.around.system;
-      outcome_is = refl;
-      answers = event_reply w past h.step ret r.stamp Go (answer w s t f v h up commit b same repeats passes);
-    }))
+        threads = h.reached.around.shown.threads;
+        system = h.reached.around.system;
+        outcome_is = refl;
+        answers = event_reply w past h.step ret r.stamp Go (answer w s t f v h up commit b same repeats passes);
+      }),
+    )

@@ -71,6 +71,19 @@ module _ (code : Flat) (c : Called) where
   key_same result (CacheRet ∷ ops) = key_same result ops
   key_same result (Pass ∷ ops) = key_same result ops
 
+-- whether equal Rets are written once is the same at all calls
+pub cached_same : (code : Flat) (c d : Called) (ops : List StubOp) → (done code c ops).is_cached ≡ (done code d ops).is_cached
+cached_same code c d [] = refl
+cached_same code c d (ReadIn p size ∷ ops) = cached_same code c d ops
+cached_same code c d (HoldOut p most used ∷ ops) = cached_same code c d ops
+cached_same code c d (Prepare p k most ∷ ops) = cached_same code c d ops
+cached_same code c d (Register p ∷ ops) = cached_same code c d ops
+cached_same code c d (Commit k used ∷ ops) = cached_same code c d ops
+cached_same code c d (KeyAtCall class p ∷ ops) = cached_same code c d ops
+cached_same code c d (KeyAtRet class p ∷ ops) = cached_same code c d ops
+cached_same code c d (CacheRet ∷ ops) = refl
+cached_same code c d (Pass ∷ ops) = cached_same code c d ops
+
 -- ---- lists
 
 pub sizes_count : (rs : List Range) (us ns : List ℕ) → AreUsedSizes rs us ns → length us ≡ length rs
