@@ -1,11 +1,12 @@
 -- Which runs a book stands for.
-use Rattle.std.specs.Prelude.{◌≡◌, ℕ, ◌+◌, ◌*◌, ◌<◌, ◌≤◌, true, false, List, [], ◌∷◌, ◌++◌, length}
+use Rattle.std.specs.Prelude.{◌≡◌, ℕ, ◌+◌, ◌*◌, ◌<◌, ◌≤◌, true, false, List, [], ◌∷◌, ◌++◌, length, reverse}
 use Rattle.std.specs.List.{flat_map, AllByRecursion}
 use Rattle.run_events.specs.declared.event.Record.{Record}
 use Rattle.marks.specs.Places.{thread_count}
 use Rattle.marks.specs.Marks.{Mark, is_event}
 use Rattle.log_codec.specs.LogText.{chunk_text, head_text}
-use Rattle.whole_runs.specs.World.{World}
+use Rattle.replay_runs.specs.Runs.{history}
+use Rattle.whole_runs.specs.World.{World, begin}
 use Rattle.whole_runs.specs.Records.{version, full_record, size_of}
 use Rattle.whole_runs.specs.Ends.{Follows, HasRoomFor, bytes_of, events_of, most_bytes, most_events, stop_of}
 use Rattle.whole_runs.specs.Log.{chunks, log_of}
@@ -70,6 +71,11 @@ GivesLog b log = (w : World) (run : List Mark) → IsBookOf w run b → log ≡ 
 -- and these are its records
 abbrev pub GivesRecords : BookState → List (List Record) → Type 0
 GivesRecords b threads = (w : World) (run : List Mark) → IsBookOf w run b → threads ≡ full_records w run
+
+-- and these are those of one thread
+abbrev pub GivesRecordsOf : BookState → (thread : ℕ) → List Record → Type 0
+GivesRecordsOf b t records = (w : World) (past : List Mark) → IsBookOf w past b →
+    records ≡ reverse (history full_record (begin w) t past)
 
 -- a mark that is no event leaves the book standing
 abbrev pub PlainMarksKeepTheBook : Type 0

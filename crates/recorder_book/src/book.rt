@@ -4,7 +4,7 @@ ghost use Rattle.std.specs.Prelude.{◌≡◌, ◌+◌, ◌≤◌, ◌<◌, ◌^
 ghost use Rattle.run_events.specs.declared.event.Record.{Record};
 ghost use Rattle.marks.specs.Places.{thread_count};
 ghost use Rattle.recorder_book.specs.Sizes.{IsInFull};
-ghost use Rattle.recorder_book.specs.Book.{Adds, Begins, GivesLog, GivesRecords, IsRoomAfter};
+ghost use Rattle.recorder_book.specs.Book.{Adds, Begins, GivesLog, GivesRecords, GivesRecordsOf, IsRoomAfter};
 
 use crate::chunks::{add_shown, put_rests};
 use crate::room::Room;
@@ -126,6 +126,14 @@ impl Book {
         self.events += 1;
         self.bytes += size;
         Ok(())
+    }
+
+    /// The records of the thread's events, the oldest first, in which a return has its full values.
+    pub fn records(&self, thread: u8) -> &[Record]
+        requires { thread < thread_count }
+        ensures { GivesRecordsOf self.now thread result.now }
+    {
+        self.threads[thread as usize].as_slice()
     }
 
     /// Puts out what each thread kept back, in the order of threads, and the end of the log.

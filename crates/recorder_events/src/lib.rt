@@ -8,4 +8,6 @@ mod refusals;
 mod room;
 
 pub use calls_back::up_return;
+pub use making::make_event;
 pub use pool::{alloc, free};
+pub use room::full;
