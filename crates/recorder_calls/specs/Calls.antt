@@ -12,13 +12,16 @@ use Rattle.marks.specs.Wants.{Calls}
 use Rattle.c_code.specs.Machine.{is_true}
 use Rattle.log_codec.specs.LogText.{IsBody}
 use Rattle.replay_runs.specs.Interface.{Interface, Program}
+use Rattle.space_memory.specs.Spaces.{SpaceState}
+use Rattle.space_memory_laws.specs.Calls.{parts_of}
+use Rattle.recorder_book.specs.Sizes.{in_full}
 use Rattle.replay_runs.specs.Keys.{key, sorted_keys}
 use Rattle.replay_runs.specs.Rules.{KeepsModes}
 use Rattle.space_memory_laws.specs.CallChecks.{Wanted}
 use Rattle.steps_above_memory.specs.declared.above.MemoryAbove.{MemoryAbove}
 use Rattle.steps_above_memory.specs.declared.parts.CallRegions.{CallRegions}
 use Rattle.steps_above_memory.specs.Above.{StandsForAbove}
-use Rattle.steps_above_memory.specs.Calls.{AreRegions, prepares}
+use Rattle.steps_above_memory.specs.Calls.{AreRegions, HasParts, prepares}
 use Rattle.stub_meaning.specs.Meaning.{done_at}
 use Rattle.stub_calls.specs.Calls.{call_keys}
 use Rattle.whole_runs.specs.World.{World, interface}
@@ -78,9 +81,14 @@ pub record IsCallNext (w : World) (s : RunState) (t : ℕ) (regions : CallRegion
   pub keys_are : keys_of_call (interface w) func (args_at s.threads t) (prepares regions) ≡ keys
   pub few : length keys ≤ 16
   pub event_is : logged.Call func (args_at s.threads t) ≡ event
-  pub body : IsBody event
+  pub body : IsBody (in_full event)
 
 -- memory above the cut stands for a run
 abbrev pub IsOfSomeRun : MemoryAbove → Type 0
 IsOfSomeRun above = (program : Program) × (memory : ℕ → Byte) × (past : List Mark) ×
     StandsForAbove program memory past above
+
+-- memory can hand down the regions of a Call
+abbrev pub HandsDown : MemoryAbove → (thread : ℕ) → CallRegions → Type 0
+HandsDown above t regions = (spaces : SpaceState) ×
+    HasParts above t (parts_of regions.ins.now regions.outs.now (prepares regions)) spaces

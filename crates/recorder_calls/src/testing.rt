@@ -9,7 +9,7 @@ ghost use Rattle.whole_runs.specs.World.{World};
 ghost use Rattle.recorder_state.specs.declared.state.RunState.{RunState as States};
 ghost use Rattle.recorder_state.specs.Ends.{IsRefused, IsStopped};
 ghost use Rattle.recorder_events.specs.Room.{IsRoomOrEnd};
-ghost use Rattle.recorder_calls.specs.Calls.{IsCallNext, IsOfSomeRun};
+ghost use Rattle.recorder_calls.specs.Calls.{HandsDown, IsCallNext, IsOfSomeRun};
 
 use marks::Side;
 use recorder_state::{RunState, Stop};
@@ -31,6 +31,7 @@ fn test(
     requires regions { AreRegions regions.now }
     requires run { IsOfSomeRun above.old }
     ensures passes { OnOk result (TakesCall above.old thread regions.now) }
+    ensures parts { OnOk result (HandsDown above.old thread regions.now) }
     ensures spaces { OnOk result (above.new.spaces ≡ above.old.spaces) }
     ensures refused { IfErr result (RefusesCall above.old thread regions.now) }
     ensures unchanged { IfErr result (λ refusal. HasCause refusal → above.new.spaces ≡ above.old.spaces) }
