@@ -9,4 +9,5 @@ mod printing;
 mod testing;
 
 pub use calling::Calling;
-pub use calls::call;
+pub use calls::call_said;
+pub use modes::first_forbidden;
