@@ -1,0 +1,7 @@
+pub mod Shown
+pub mod Read
+pub mod FirstForbidden
+pub mod Registered
+pub mod Called
+pub mod Undone
+pub mod Ends
