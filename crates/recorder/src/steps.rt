@@ -43,7 +43,9 @@ pub fn step(
     match want {
         Want::Turn => turn(state, inputs, thread, side),
         Want::Load { addr, width } => load(state, inputs, thread, side, addr, width),
-        Want::Store { addr, width, value } => store(state, inputs, thread, side, addr, width, value),
+        Want::Store { addr, width, value } => store(
+            state, inputs, thread, side, addr, width, value,
+        ),
         Want::Enter {
             indirect,
             func,
@@ -57,9 +59,13 @@ pub fn step(
         Want::Call { .. } => unreachable!("to come"),
         // To come: recorder_returns.
         Want::Give { .. } | Want::Return { .. } => unreachable!("to come"),
-        Want::UpReturn { result } => recorder_events::up_return(state, inputs, alloc, thread, result),
+        Want::UpReturn { result } => recorder_events::up_return(
+            state, inputs, alloc, thread, result,
+        ),
         Want::CallBack { func, size } => call_back(state, inputs, main, thread, func, size),
-        Want::Step { indirect, func } => call(state, alloc, inputs, done, thread, side, indirect, func),
+        Want::Step { indirect, func } => call(
+            state, alloc, inputs, done, thread, side, indirect, func,
+        ),
         Want::Fault(number) => Err(recorder_plain::fault(thread, side, number)),
     }
 }
