@@ -1,5 +1,5 @@
 -- An Alloc.
-use Rattle.std.proofs.Common.{◌≡◌, ℕ, ◌+◌, ◌*◌, ◌^◌, ◌<◌, ◌≤◌, Bool, true, false, ◌||◌, eqb, List, [], ◌∷◌, length, map, Option, Some, None, refl, sym, ap, ◌∙◌, subst, arith, eq-eqb}
+use Rattle.std.proofs.Common.{◌≡◌, ℕ, Bool, true, false, ◌||◌, List, [], ◌∷◌, length, Some, None, refl, sym, ap, ◌∙◌, subst, eq-eqb}
 use Rattle.std.specs.Prelude.{is_some}
 use Rattle.std.proofs.lemmas.List.{length-map}
 use Rattle.run_events.specs.declared.event.Event.TheVariants as logged
@@ -9,8 +9,8 @@ use Rattle.run_events.specs.declared.key.Key.{Key}
 use Rattle.run_events.specs.declared.key.KeyMark.{KeyMark}
 use Rattle.marks.specs.declared.side.Side.TheVariants.{Replay}
 use Rattle.marks.specs.Places.{replay_pool}
-use Rattle.marks.specs.Marks.{Alloc, Free, Mark}
-use Rattle.marks.specs.Wants.{Want, Allocs, Answer, Value, answer_if, event_answer}
+use Rattle.marks.specs.Marks.{Alloc, Mark}
+use Rattle.marks.specs.Wants.{Allocs, Value, answer_if, event_answer}
 use Rattle.logical_clock.specs.Events.{is_among}
 use Rattle.replay_runs.specs.Runs.{OfKey, new_events, same_key}
 use Rattle.replay_runs.specs.Keys.{key}
@@ -25,7 +25,6 @@ use Rattle.whole_runs.specs.Sides.{seen}
 use Rattle.whole_runs.specs.Tests.{tests}
 use Rattle.whole_runs.specs.Steps.{Picked}
 use Rattle.whole_runs.specs.Records.{full_record}
-use Rattle.recorder_book.specs.Sizes.{IsSizeOf}
 use Rattle.recorder_book.proofs.Forms.{sized}
 use Rattle.recorder_book.proofs.Lengths.{event_length}
 use Rattle.recorder_memory.specs.declared.memory.Memory.{Memory}
@@ -40,7 +39,7 @@ use Rattle.recorder_events.proofs.Steps.{coming, step_made}
 use Rattle.recorder_events.proofs.Ending.{IsSized, ends_full}
 use Rattle.recorder_events.proofs.Places.{place_is_there}
 
-only_key : (j k : Key) → is_among (j ∷ []) k ≡ true → j ≡ k
+pub only_key : (j k : Key) → is_among (j ∷ []) k ≡ true → j ≡ k
 only_key j k h = same_key_true j k (go (same_key j k) h)
   where
     go : (b : Bool) → (b || false) ≡ true → b ≡ true

@@ -1,17 +1,14 @@
 -- How a run ends where there is no room for its next event.
-use Rattle.std.proofs.Common.{◌≡◌, ℕ, [], List, length, map, Option, Some, None, refl, sym, ap, ◌∙◌}
+use Rattle.std.proofs.Common.{◌≡◌, ℕ, [], length, map, Some, refl, ap}
 use Rattle.run_events.specs.declared.event.Event.{Event as Logged}
-use Rattle.run_events.specs.declared.key.Key.{Key}
 use Rattle.run_events.specs.declared.key.KeyMark.{KeyMark}
-use Rattle.marks.specs.Places.{thread_count}
-use Rattle.marks.specs.Marks.{EventKind, Mark}
+use Rattle.marks.specs.Marks.{EventKind}
 use Rattle.replay_runs.specs.Runs.{OfThread}
 use Rattle.steps_above_stamps.specs.declared.stamps.EventStamp.{EventStamp}
 use Rattle.whole_runs.specs.declared.ending.Ending.{Ending}
 use Rattle.whole_runs.specs.World.{World}
 use Rattle.whole_runs.specs.Sides.{seen}
 use Rattle.whole_runs.specs.Steps.{Picked, IsMade}
-use Rattle.whole_runs.specs.Ends.{HasRoomFor}
 use Rattle.whole_runs_laws.proofs.FaultsAbove.{events_seen}
 use Rattle.recorder_memory.specs.Stands.{placed}
 use Rattle.recorder_state.specs.declared.state.RunState.{RunState}

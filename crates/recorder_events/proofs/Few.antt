@@ -1,5 +1,5 @@
 -- Threads, events and bytes of a run that comes to a step are few.
-use Rattle.std.proofs.Common.{◌≡◌, ℕ, suc, ◌^◌, ◌<◌, ◌≤◌, Bool, true, false, cond, List, [], ◌∷◌, length, sym, subst, arith}
+use Rattle.std.proofs.Common.{◌≡◌, ℕ, suc, ◌<◌, ◌≤◌, Bool, true, false, cond, List, [], ◌∷◌, length, subst, arith}
 use Rattle.marks.specs.Places.{thread_count}
 use Rattle.marks.specs.Marks.{Mark}
 use Rattle.c_code.specs.MarkLists.{same_side}

@@ -1,5 +1,5 @@
 -- The last open call back of a thread is the one with no frames above the cut.
-use Rattle.std.proofs.Common.{◌≡◌, ℕ, zero, suc, Bool, true, false, cond, List, [], ◌∷◌, drop, ◌-◌, ◌+◌, Option, Some, None, Result, Ok, Err, refl, sym, ap, ◌∙◌, subst}
+use Rattle.std.proofs.Common.{◌≡◌, ℕ, zero, suc, Bool, true, false, cond, List, [], ◌∷◌, drop, ◌-◌, ◌+◌, Option, Some, None, Result, Ok, Err, refl, sym, ap, ◌∙◌}
 use Rattle.std.specs.Prelude.{slice_get}
 use Rattle.std.proofs.lemmas.Bool.{true≢false}
 use Rattle.marks.specs.declared.side.Side.{Side}
@@ -7,7 +7,7 @@ use Rattle.marks.specs.declared.side.Side.TheVariants.{Replay, System}
 use Rattle.marks.specs.declared.fault.FaultKind.{FaultKind}
 use Rattle.marks.specs.declared.range.Range.{Range}
 use Rattle.marks.specs.Opens.{tail}
-use Rattle.marks.specs.Wants.{Want, UpReturns, Answer, no_ranges}
+use Rattle.marks.specs.Wants.{Want, UpReturns, no_ranges}
 use Rattle.c_code.specs.declared.instr.Instr.{Instr}
 use Rattle.c_code.specs.declared.instr.Instr.TheVariants as instr
 use Rattle.c_code.specs.declared.activation.Activation.{Activation}
@@ -17,7 +17,7 @@ use Rattle.c_code.specs.declared.activation.Waiting.TheVariants.{ForValue, ForRe
 use Rattle.c_code.specs.Values.{combined}
 use Rattle.c_code.specs.Fits.{held_by}
 use Rattle.c_code.specs.Machine.{Laid, Pending, Config, Going, Under, Entering, Closing, Starting, Done, Lost, Action, Silent, Asks, Pends, Awaits, Starts, Over, Stuck, entry, is_face, take_args, with_args, combine, is_pool, pool_act, pending, call_act, pointer_act, to_callee, callee, act, returning, awaiting}
-use Rattle.c_code.specs.MarkLists.{Split, Next, Quiet, Wants, Ends, No, called, below, started, next_of, step}
+use Rattle.c_code.specs.MarkLists.{Split, Next, Wants, called, below, started, next_of, step}
 use Rattle.c_code.specs.Opens.{in_function, opens_in, opens_waiting}
 use Rattle.replay_runs.specs.Keys.{is_last}
 use Rattle.whole_runs_seen.proofs.Crossed.{HasSides, Waits}

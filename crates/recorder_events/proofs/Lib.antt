@@ -12,3 +12,5 @@ pub mod Allocs
 pub mod LastUp
 pub mod UpReturns
 pub mod Quiet
+pub mod Frees
+pub mod FreeTests

@@ -8,7 +8,6 @@ use Rattle.marks.specs.Wants.{Want, Answer}
 use Rattle.c_code.specs.MarkLists.{reply}
 use Rattle.c_machine.specs.Moves.{ThreadState}
 use Rattle.system_side.specs.Threads.{has_not_ended}
-use Rattle.system_side.specs.System.{SystemState}
 use Rattle.replay_runs.specs.Runs.{OfKey, has, marks_of, new_events}
 use Rattle.replay_runs.specs.Keys.{key}
 use Rattle.replay_runs.specs.Interface.{Interface}
@@ -32,14 +31,14 @@ use Rattle.recorder_memory.specs.declared.memory.Memory.{Memory}
 use Rattle.recorder_memory.specs.Stands.{StandsForRun, placed}
 use Rattle.recorder_threads.specs.Threads.{AreThreadsOf}
 use Rattle.recorder_threads.specs.Answers.{IsAnswered, IsPlain}
-use Rattle.recorder_system.specs.Stands.{IsSystemBut, IsSystemOf}
+use Rattle.recorder_system.specs.Stands.{IsSystemBut}
 use Rattle.recorder_system.proofs.Lists.{found_passes}
 use Rattle.recorder_system.proofs.Noted.{plain}
 use Rattle.recorder_system.proofs.Runs.{started_same}
 use Rattle.recorder_system.proofs.Standing.{can_is_ready, ready_runs}
 use Rattle.recorder_state.specs.declared.state.RunState.{RunState}
 use Rattle.recorder_state.specs.Stands.{IsAroundAfter}
-use Rattle.recorder_state.specs.Plain.{AreOthersAfter, IsMarkedStep, IsStepTold}
+use Rattle.recorder_state.specs.Plain.{IsMarkedStep, IsStepTold}
 use Rattle.recorder_events.specs.Making.{IsEventStep, IsOfPoolOrUp, IsRecorded, event_mark}
 
 append_nil : {X : Type 0} (xs : List X) → xs ++ [] ≡ xs

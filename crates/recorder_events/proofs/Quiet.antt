@@ -1,5 +1,5 @@
 -- An Up or UpRet, from its tests to its record.
-use Rattle.std.proofs.Common.{◌≡◌, ℕ, List, length, map, Option, Some, None, refl, sym, ap, ◌∙◌}
+use Rattle.std.proofs.Common.{ℕ, List, length, Some, None, sym, ap, ◌∙◌}
 use Rattle.std.proofs.lemmas.List.{length-map}
 use Rattle.run_events.specs.declared.event.Event.{Event as Logged}
 use Rattle.run_events.specs.declared.key.Key.{Key}

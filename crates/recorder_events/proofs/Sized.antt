@@ -1,10 +1,7 @@
 -- How many bytes the record of a mark has.
-use Rattle.std.proofs.Common.{◌≡◌, ℕ, ◌+◌, List, length, map, refl, sym, ap, ◌∙◌, subst}
+use Rattle.std.proofs.Common.{◌≡◌, ℕ, List, length, ◌∙◌}
 use Rattle.run_events.specs.declared.event.Event.{Event as Recorded}
-use Rattle.run_events.specs.declared.event.Event.TheVariants as recorded
-use Rattle.run_events.specs.declared.event.Record.{Record}
-use Rattle.run_events.specs.declared.key.KeyMark.{KeyMark}
-use Rattle.marks.specs.Marks.{EventKind, Alloc, Mark}
+use Rattle.marks.specs.Marks.{EventKind, Mark}
 use Rattle.steps_above_stamps.specs.declared.stamps.EventStamp.{EventStamp}
 use Rattle.whole_runs.specs.World.{World}
 use Rattle.whole_runs.specs.Steps.{Picked}

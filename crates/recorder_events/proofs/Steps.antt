@@ -1,8 +1,7 @@
 -- An event of the pool or of a call back, from its tests to its last part.
-use Rattle.std.proofs.Common.{◌≡◌, ℕ, ◌^◌, ◌<◌, ◌≤◌, List, ◌∷◌, length, map, Option, Some, None, refl, sym, ap, ◌∙◌, subst, arith}
+use Rattle.std.proofs.Common.{◌≡◌, ℕ, ◌<◌, List, Some, None, refl, sym, ◌∙◌, arith}
 use Rattle.run_events.specs.declared.event.Event.{Event as Logged}
 use Rattle.run_events.specs.declared.key.Key.{Key}
-use Rattle.run_events.specs.declared.key.KeyMark.{KeyMark}
 use Rattle.marks.specs.Marks.{EventKind, Mark}
 use Rattle.marks.specs.Wants.{Answer, answer_to, event_answer}
 use Rattle.c_code.specs.MarkLists.{reply}
@@ -10,14 +9,12 @@ use Rattle.steps_above_stamps.specs.declared.stamps.EventStamp.{EventStamp}
 use Rattle.whole_runs.specs.World.{World}
 use Rattle.whole_runs.specs.Steps.{Picked}
 use Rattle.whole_runs.specs.Records.{full_event}
-use Rattle.whole_runs.specs.Ends.{HasRoomFor}
 use Rattle.recorder_memory.specs.declared.memory.Memory.{Memory}
-use Rattle.recorder_memory.specs.Stands.{StandsForRun}
 use Rattle.recorder_memory.specs.Events.{Makes}
 use Rattle.recorder_memory.proofs.Counts.{few}
 use Rattle.recorder_state.specs.declared.state.RunState.{RunState}
 use Rattle.recorder_state.specs.Stands.{IsReached}
-use Rattle.recorder_events.specs.Room.{HasSizeOf, IsRoomOrEnd}
+use Rattle.recorder_events.specs.Room.{IsRoomOrEnd}
 use Rattle.recorder_events.specs.Making.{CanBe, IsComing, IsEventStep, IsOfPoolOrUp, IsRecorded, event_mark, next_keys}
 use Rattle.recorder_events.proofs.Ending.{IsSized}
 use Rattle.recorder_events.proofs.Marked.{around_with, event_step}

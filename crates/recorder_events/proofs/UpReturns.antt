@@ -1,7 +1,6 @@
 -- An UpRet.
-use Rattle.std.proofs.Common.{◌≡◌, ◌≢◌, ◌<◌, arith, ℕ, zero, suc, Bool, true, false, cond, ◌&&◌, eqb, List, [], ◌∷◌, length, map, Option, Some, None, refl, sym, ap, ◌∙◌, subst, eq-eqb}
+use Rattle.std.proofs.Common.{◌≡◌, ◌≢◌, ◌<◌, arith, ℕ, zero, suc, Bool, true, false, cond, ◌&&◌, eqb, List, [], ◌∷◌, length, Some, None, refl, sym, ap, ◌∙◌, subst, eq-eqb}
 use Rattle.std.specs.Prelude.{is_some}
-use Rattle.std.proofs.lemmas.List.{length-map}
 use Rattle.std.proofs.lemmas.List.Elements.{All-get_or}
 use Rattle.run_events.specs.declared.event.Event.TheVariants as logged
 use Rattle.run_events.specs.declared.key.Class.{Class}
@@ -11,7 +10,7 @@ use Rattle.marks.specs.declared.side.Side.TheVariants.{Replay}
 use Rattle.marks.specs.declared.range.Range.{Range}
 use Rattle.marks.specs.Marks.{UpRet, Mark}
 use Rattle.marks.specs.Opens.{tail, open_ups}
-use Rattle.marks.specs.Wants.{Want, UpReturns, Answer, Go, answer_if, event_answer, no_ranges}
+use Rattle.marks.specs.Wants.{UpReturns, Go, answer_if, event_answer, no_ranges}
 use Rattle.c_code.specs.declared.activation.Waiting.{Waiting}
 use Rattle.c_code.specs.Fits.{Held}
 use Rattle.c_code.specs.declared.activation.Waiting.TheVariants.{ForValue, ForRet, ForUpRet, ForBelow, ForOutside}
@@ -43,7 +42,7 @@ use Rattle.whole_runs_seen.proofs.Crossed.{HasSides}
 use Rattle.whole_runs_seen.proofs.CrossedMarks.{state_sides}
 use Rattle.whole_runs_seen.proofs.Threads.{begins_so}
 use Rattle.recorder_threads.specs.declared.wants.Want.TheVariants as told
-use Rattle.recorder_threads.specs.Threads.{nowhere, thread_at, thread_of}
+use Rattle.recorder_threads.specs.Threads.{nowhere}
 use Rattle.recorder_threads.proofs.Places.{count_is, rests, thread_is}
 use Rattle.recorder_state.specs.declared.state.RunState.{RunState}
 use Rattle.recorder_state.specs.Turns.{IsAtStep}

@@ -4,7 +4,8 @@
 mod calls_back;
 mod making;
 mod pool;
+mod refusals;
 mod room;
 
 pub use calls_back::up_return;
-pub use pool::alloc;
+pub use pool::{alloc, free};

@@ -1,4 +1,4 @@
-use Rattle.std.proofs.Common.{refl, sym, ◌∙◌}
+use Rattle.std.proofs.Common.{sym, ◌∙◌}
 use Rattle.recorder_events.proofs.Few.{thread_few}
 use Rattle.recorder_events.proofs.UpReturns.{with_frame, with_none}
 use Rattle.recorder_events.proofs.calls_back.make_up_return.Goals as goal

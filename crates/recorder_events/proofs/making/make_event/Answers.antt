@@ -1,4 +1,4 @@
-use Rattle.std.proofs.Common.{◌≤◌, refl, sym, ◌∙◌, subst, arith}
+use Rattle.std.proofs.Common.{refl, arith}
 use Rattle.recorder_events.proofs.Results.{on_ok}
 use Rattle.recorder_events.proofs.Few.{thread_few, events_few, book_few}
 use Rattle.recorder_events.proofs.Recorded.{distinct, in_full_form, event_recorded}
