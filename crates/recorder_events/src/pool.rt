@@ -119,6 +119,7 @@ pub fn free(
 ) -> Result<(), Stop>
     requires { IsAtStep (world_of inputs) state.old thread Replay (wants.Free addr) }
     ensures made { OnOk result (IsReached (world_of inputs.entry) state.new) }
+    ensures steps { OnOk result (state.new.steps ≡ state.old.steps + 1) }
     ensures stopped { IfErr result (IsStopped (world_of inputs.entry) state.new) }
 {
     let event = Event::Free { addr };

@@ -1,4 +1,4 @@
-use Rattle.std.proofs.Common.{refl, ap}
+use Rattle.std.proofs.Common.{ap}
 use Rattle.recorder_state.specs.declared.state.RunState.{RunState}
 use Rattle.recorder_events.proofs.Few.{thread_few}
 use Rattle.recorder_events.proofs.Steps.{watch_few}

@@ -1,4 +1,4 @@
-use Rattle.std.proofs.Common.{◌+◌, refl, ap, ◌∙◌}
+use Rattle.std.proofs.Common.{◌+◌, ap, ◌∙◌}
 use Rattle.marks.specs.Wants.{Allocs, Value}
 use Rattle.recorder_threads.specs.Answers.{IsNoCall}
 use Rattle.recorder_state.specs.declared.state.RunState.{RunState}

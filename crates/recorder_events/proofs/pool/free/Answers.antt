@@ -1,8 +1,9 @@
-use Rattle.std.proofs.Common.{sym, subst}
+use Rattle.std.proofs.Common.{◌+◌, sym, ap, ◌∙◌, subst}
 use Rattle.marks.specs.declared.side.Side.TheVariants.{Replay}
 use Rattle.marks.specs.Wants.{Frees, Go}
 use Rattle.recorder_threads.specs.Answers.{IsNoCall}
 use Rattle.recorder_state.specs.Ends.{IsRefused}
+use Rattle.recorder_state.specs.declared.state.RunState.{RunState}
 use Rattle.recorder_state.specs.Inputs.{world_of}
 use Rattle.recorder_events.proofs.Few.{thread_few}
 use Rattle.recorder_events.proofs.Steps.{watch_few}
@@ -45,3 +46,9 @@ end_step-requires c =
     let recorded = c.in_default-make_event.ensures (coming_so _ s c.args.thread c.args.addr h size q.passes q.block c.free_above.new.self) in
     let made = made_so _ s c.args.thread c.args.addr h size q.passes q.block c.free_above.new.self _ q.made c.in_default.ensures recorded in
     step_told _ _ c.args.thread (Frees c.args.addr) Go made _ (c.go.ensures (plain_answer _ _ c.args.thread (Frees c.args.addr) Go made IsNoCall (λ z. z)))
+
+pub returns-clause-steps : goal.returns-clause-steps
+returns-clause-steps c =
+    let q = c.in_default-free_above.ensures in
+    let recorded = c.in_default-make_event.ensures (coming_so _ c.args.state.now c.args.thread c.args.addr c.requires c.in_default-free_above.field-0 q.passes q.block c.free_above.new.self) in
+    c.end_step.ensures.steps ∙ ap (λ (z : RunState). z.steps + 1) recorded.rest
