@@ -1,6 +1,6 @@
 //! A Call of which all is said, and whose functions keep their modes.
 
-ghost use Rattle.std.specs.Prelude.{IfErr, OnOk};
+ghost use Rattle.std.specs.Prelude.{◌≡◌, ◌+◌, IfErr, OnOk};
 ghost use Rattle.recorder_state.specs.Inputs.{world_of};
 ghost use Rattle.recorder_state.specs.Stands.{IsReached};
 ghost use Rattle.recorder_state.specs.Ends.{IsStopped};
@@ -27,6 +27,7 @@ pub fn call_said(
 ) -> Result<(), Stop>
     requires { IsCallNext (world_of inputs) state.old thread regions.now keys.now event }
     ensures made { OnOk result (IsReached (world_of inputs.entry) state.new) }
+    ensures steps { OnOk result (state.new.steps ≡ state.old.steps + 1) }
     ensures stopped { IfErr result (IsStopped (world_of inputs.entry) state.new) }
 {
     match full(&state.book, &event, keys.len()) {

@@ -1,6 +1,6 @@
 //! Calls that are made.
 
-ghost use Rattle.std.specs.Prelude.{None, length, IfErr, OnOk};
+ghost use Rattle.std.specs.Prelude.{◌≡◌, ◌+◌, None, length, IfErr, OnOk};
 ghost use Rattle.recorder_state.specs.Inputs.{world_of};
 ghost use Rattle.recorder_state.specs.Stands.{IsReached};
 ghost use Rattle.recorder_state.specs.Ends.{IsStopped};
@@ -28,6 +28,7 @@ pub fn make(
     requires next { IsCallNext (world_of inputs) state.old thread regions.now keys.now event }
     requires room { IsRoomOrEnd state.old.book event (length keys.now) None }
     ensures made { OnOk result (IsReached (world_of inputs.entry) state.new) }
+    ensures steps { OnOk result (state.new.steps ≡ state.old.steps + 1) }
     ensures stopped { IfErr result (IsStopped (world_of inputs.entry) state.new) }
 {
     let spaces = &state.memory.above.spaces;

@@ -1,4 +1,4 @@
-use Rattle.std.proofs.Common.{◌≡◌, ◌++◌, length, refl, sym, ap, ◌∙◌, subst, arith}
+use Rattle.std.proofs.Common.{◌≡◌, ◌+◌, ◌++◌, length, refl, sym, ap, ◌∙◌, subst, arith}
 use Rattle.marks.specs.declared.side.Side.TheVariants.{Replay}
 use Rattle.marks.specs.Wants.{Calls, Go}
 use Rattle.steps_above_interface.specs.Stands.{CountsCall}
@@ -67,3 +67,8 @@ pub end_step-requires : goal.end_step-requires
 end_step-requires c =
     let d = told (goal.at.end_step-requires c).After-register in
     step_told _ _ c.args.thread _ Go d _ (c.cross.ensures (plain_answer _ _ c.args.thread _ Go d IsCall tt))
+
+pub returns-clause-steps : goal.returns-clause-steps
+returns-clause-steps c =
+    let r = c.in_default-make_event.ensures (coming_so _ c.args.state.now c.args.thread c.args.regions.now c.args.keys.now c.args.event c.requires.next c.call.new.self.spaces c.in_default-call.ensures.spaces c.in_default-call.ensures.passes (record { above = c.call.new.self })) in
+    c.end_step.ensures.steps ∙ ap (λ (z : RunState). z.steps + 1) r.rest
