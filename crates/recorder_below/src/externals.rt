@@ -8,7 +8,7 @@ ghost use Rattle.recorder_state.specs.Inputs.{world_of};
 ghost use Rattle.recorder_state.specs.Stands.{IsReached};
 ghost use Rattle.recorder_state.specs.Turns.{IsAtStep};
 ghost use Rattle.recorder_state.specs.Ends.{IsStopped};
-ghost use Rattle.recorder_below.specs.Externals.{IsAtAnswer};
+ghost use Rattle.recorder_below.specs.Externals.{IsAtAnswer, IsWritten};
 
 use crate::targets::targets;
 use c_code::Side;
@@ -17,7 +17,7 @@ use recorder_state::{Inputs, RunState, Stop};
 use recorder_system::Given;
 use run_events::Bytes;
 use std::alloc::Global;
-use stub_calls::Done;
+use stub_calls::{Done, Prepared};
 use system_side::{Scripted, SysFile};
 
 /// The step in which the thread calls the external with this number. One that a pointer names must be one that may run below the
@@ -91,7 +91,25 @@ fn come_to(
     if let Err(refusal) = answered {
         return Err(Stop::of(thread, Side::System, refusal));
     }
-    state.prepared.note(done.prepares())?;
+    give(state, alloc, inputs, done.prepares(), thread, func, value)
+}
+
+// What the external prepares is noted, and the thread is given the value.
+fn give(
+    state: &mut RunState,
+    alloc: Global,
+    inputs: Inputs<'_>,
+    prepares: &[Prepared],
+    thread: u8,
+    func: u16,
+    value: u64,
+) -> Result<(), Stop>
+    requires { IsWritten (world_of inputs) state.old thread func value prepares.now }
+    ensures made { OnOk result (IsReached (world_of inputs.entry) state.new) }
+    ensures steps { OnOk result (state.new.steps ≡ state.old.steps + 1) }
+    ensures stopped { IfErr result (IsStopped (world_of inputs.entry) state.new) }
+{
+    state.prepared.note(prepares)?;
     state.give(alloc, inputs, thread, func, value)?;
     Ok(())
 }
