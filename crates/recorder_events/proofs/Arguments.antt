@@ -1,5 +1,5 @@
 -- The arguments of a call can stand in a record: they are few, and words of 64 bits.
-use Rattle.std.proofs.Common.{◌≡◌, ℕ, ◌^◌, ◌<◌, ◌≤◌, ◌&&◌, true, ℤ, pos, negsuc, List, [], ◌∷◌, length, Option, Some, None, refl, sym, subst, arith, eqb-true}
+use Rattle.std.proofs.Common.{◌≡◌, ℕ, ◌^◌, ◌<◌, true, ℤ, pos, negsuc, List, [], ◌∷◌, length, Option, Some, None, refl, sym, subst, arith, eqb-true}
 use Rattle.std.specs.List.{AllByRecursion}
 use Rattle.std.proofs.lemmas.Bool.{and_parts, ltb-true, true≢false}
 use Rattle.std.proofs.lemmas.Nat.{pow_pos}

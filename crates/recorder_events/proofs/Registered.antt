@@ -10,7 +10,7 @@ use Rattle.marks.specs.declared.side.Side.TheVariants.{Replay}
 use Rattle.marks.specs.declared.range.Range.{Range}
 use Rattle.marks.specs.Ranges.{Piece, Prepared}
 use Rattle.marks.specs.Marks.{EventKind, Call, Ret, Up, UpRet, Alloc, Free, Stop, Event, Act, Turn, Load, Store, Enter, Leave, Step, Fault, Made, Mark}
-use Rattle.marks.specs.Wants.{Want, Outside, Turns, Loads, Stores, Enters, Leaves, Allocs, Frees, Calls, Below, Gives, Returns, CallsBack, UpReturns, Steps, Fails, Go, answer_if, answer_to, event_answer, same_numbers}
+use Rattle.marks.specs.Wants.{Want, Outside, Turns, Loads, Stores, Enters, Leaves, Allocs, Frees, Calls, Below, Gives, Returns, CallsBack, UpReturns, Steps, Fails, Go, answer_to, event_answer, same_numbers}
 use Rattle.marks.proofs.Touched.{or_true_left, or_true_right}
 use Rattle.c_code.specs.MarkLists.{same_side}
 use Rattle.c_code.specs.Typed.{AreArguments, CarriesValues}
