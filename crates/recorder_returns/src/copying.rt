@@ -78,14 +78,14 @@ fn add_commit(
     ensures { OnOk result (AddsCommit spaces.now commit pieces.old.items ranges.old.items
         pieces.new.items ranges.new.items) }
 {
-    let Some(Committing { key, used }) = commit else {
+    let Some(committing) = commit else {
         return Ok(());
     };
-    let Some(used) = used else {
+    let Some(used) = committing.used else {
         pieces.push(Bytes::new(alloc))?;
         return Ok(());
     };
-    let Some(region) = spaces.prepared(key) else {
+    let Some(region) = spaces.prepared(committing.key) else {
         unreachable!("a key that is committed is in use");
     };
     let piece = copy(spaces, alloc, thread, region, used)?;

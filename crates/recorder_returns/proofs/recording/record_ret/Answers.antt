@@ -1,3 +1,4 @@
+use Rattle.std.proofs.Math.Facts.{Fits-lt-pow}
 use Rattle.recorder_returns.proofs.Allowed.{may_commit, may_copy, sizes}
 use Rattle.recorder_returns.proofs.Recorded.{next_so}
 use Rattle.recorder_returns.proofs.recording.record_ret.Goals as goal
