@@ -20,6 +20,8 @@ use Rattle.recorder_memory.specs.Steps.{IsMarked, next_mark}
 use Rattle.recorder_threads.specs.declared.wants.Want.TheVariants as told
 use Rattle.recorder_threads.specs.Threads.{args_at}
 use Rattle.recorder_state.specs.declared.state.RunState.{RunState}
+use Rattle.recorder_state.specs.declared.prepared.PreparedBelow.{PreparedBelow}
+use Rattle.recorder_state.specs.Prepared.{ArePreparedBelow}
 use Rattle.recorder_state.specs.Stands.{IsAroundAfter}
 use Rattle.recorder_state.specs.Turns.{IsAtStep}
 use Rattle.recorder_state.specs.Plain.{IsResultStep}
@@ -50,12 +52,12 @@ module _ (w : World) (s : RunState) (t : ℕ) (i : Bool) (f : ℕ) (at : IsAtSte
     abbrev pub act : Act
     act = Step f args v ins pieces freed
 
-    abbrev m : Mark
+    abbrev pub m : Mark
     m = next_mark w at.reached.past at.step.thread at.step.side act
 
-    -- of the state it changes memory, and what was printed below the cut
-    pub gives : (s' : RunState) → s' ≡ record s { memory = new; system_output = s'.system_output } → s'.system_output.items ≡ s.system_output.items ++ printed_below f ins → IsMarked w at.reached.past at.step act new → IsResultStep w s' t f v (Value v)
-    gives s' is printed marked = subst (λ z. IsResultStep w z t f v (Value v)) (sym is) (record {
+    -- of the state it changes memory, and what was prepared and printed below the cut
+    pub gives : (regions : PreparedBelow) (s' : RunState) → s' ≡ record s { memory = new; prepared = regions; system_output = s'.system_output } → ArePreparedBelow w (m ∷ at.reached.past) regions → s'.system_output.items ≡ s.system_output.items ++ printed_below f ins → IsMarked w at.reached.past at.step act new → IsResultStep w s' t f v (Value v)
+    gives regions s' is kept printed marked = subst (λ z. IsResultStep w z t f v (Value v)) (sym is) (record {
       marked = record {
         fit = at.reached.fit;
         past = at.reached.past;
@@ -74,6 +76,7 @@ module _ (w : World) (s : RunState) (t : ℕ) (i : Bool) (f : ℕ) (at : IsAtSte
           system_output = printed ∙ ap (λ xs. xs ++ printed_below f ins) around.shown.system_output;
           interface = along (λ ms. functions.IsStateOf (interface w) (placed w) ms s.interface) around.interface;
           functions = around.functions;
+          prepared = kept;
         };
       };
       threads = around.shown.threads;
