@@ -5,7 +5,6 @@ use Rattle.std.specs.Option.{option_to_list}
 use Rattle.std.proofs.lemmas.List.{length-map}
 use Rattle.marks.specs.declared.side.Side.TheVariants.{Replay}
 use Rattle.marks.specs.declared.range.Range.{Range}
-use Rattle.marks.specs.Marks.{Mark}
 use Rattle.marks.specs.Wants.{Answer}
 use Rattle.replay_runs.specs.Interface.{Committing}
 use Rattle.replay_runs.specs.Pool.{in_use}
@@ -13,7 +12,7 @@ use Rattle.space_memory_access.specs.declared.holder.Region.{Region}
 use Rattle.space_memory_access.specs.Held.{innermost, prepared_region}
 use Rattle.space_memory.specs.Spaces.{SpaceState}
 use Rattle.space_memory.specs.Releases.{AllFilled, HasKey, IsFilled, committed, committed_size, outs_of}
-use Rattle.space_memory_laws.specs.Returns.{AreUsedSizes, used_at}
+use Rattle.space_memory_laws.specs.Returns.{used_at}
 use Rattle.stub_meaning.specs.Meaning.{first_of}
 use Rattle.whole_runs.specs.World.{World, begin, interface}
 use Rattle.whole_runs.specs.Sides.{seen}

@@ -1,5 +1,5 @@
 -- A Ret that comes next, with the bytes that memory shows, can be the step that its thread makes.
-use Rattle.std.proofs.Common.{◌≡◌, ℕ, Bool, ◌&&◌, List, ◌++◌, length, Option, Some, refl, sym, ap, ◌∙◌, subst}
+use Rattle.std.proofs.Common.{◌≡◌, ℕ, Bool, ◌&&◌, List, ◌++◌, length, Option, sym, ap, ◌∙◌, subst}
 use Rattle.std.specs.Prelude.{is_some}
 use Rattle.std.proofs.lemmas.List.{length-map}
 use Rattle.run_events.specs.declared.key.Class.{Class}
@@ -8,7 +8,6 @@ use Rattle.marks.specs.Ranges.{Piece, piece_bytes, piece_ranges}
 use Rattle.marks.specs.Marks.{Commit, EventKind, Mark, Ret, logged, released}
 use Rattle.marks.specs.Opens.{open_calls}
 use Rattle.marks.specs.Wants.{Answer}
-use Rattle.replay_runs.specs.Checks.{Passes}
 use Rattle.replay_runs.specs.Interface.{Interface}
 use Rattle.replay_runs.specs.Pool.{in_use}
 use Rattle.replay_runs.specs.Rules.{AreUsed, Closes, SharedEvent}

@@ -1,18 +1,16 @@
 -- Copies of what comes up with a Ret: that they may be made, what they are, and how long.
-use Rattle.std.proofs.Common.{◌≡◌, ℕ, zero, suc, ◌+◌, ◌^◌, ◌<◌, ◌≤◌, Bool, true, false, ◌&&◌, leb, ltb, List, [], ◌∷◌, ◌++◌, length, get_or, map, take, Option, Some, None, refl, sym, ap, ◌∙◌, subst, arith, append_assoc}
+use Rattle.std.proofs.Common.{◌≡◌, ℕ, zero, suc, ◌+◌, ◌<◌, ◌≤◌, Bool, true, false, ◌&&◌, leb, ltb, List, [], ◌∷◌, ◌++◌, length, get_or, take, Option, Some, None, refl, sym, ap, ◌∙◌, subst, arith}
 use Rattle.std.specs.Prelude.{option_map, slice_index}
 use Rattle.std.specs.List.{AllByRecursion}
-use Rattle.std.specs.Option.{option_to_list}
 use Rattle.std.proofs.lemmas.Bool.{and_parts, le-ltb, lt-ltb, ltb-false, ltb-true}
 use Rattle.std.proofs.lemmas.List.{append-nil, length-append, length-map, map-append, take_all, take_more}
-use Rattle.marks.specs.declared.side.Side.TheVariants.{Replay}
 use Rattle.marks.specs.declared.range.Range.{Range}
 use Rattle.marks.specs.Places.{constants, replay_globals, replay_end, system_globals, system_end, is_constant, is_replay, is_system}
 use Rattle.marks.specs.Ranges.{Piece, are_bytes, piece_bytes, piece_ranges}
-use Rattle.marks.specs.Marks.{Commit, Mark, NoRegion, Withheld, Released, logged, released}
+use Rattle.marks.specs.Marks.{Commit, NoRegion, Withheld, Released, logged, released}
 use Rattle.stub_meaning.specs.Meaning.{first_of}
 use Rattle.log_codec.specs.LogText.{IsPiece}
-use Rattle.space_memory_bytes.specs.Areas.{AreaState, IsDead, byte_at}
+use Rattle.space_memory_bytes.specs.Areas.{AreaState, IsDead}
 use Rattle.space_memory_bytes.specs.Numbers.{HasBytes}
 use Rattle.space_memory_access.specs.declared.access.Access.{Access}
 use Rattle.space_memory_access.specs.declared.holder.Region.{Region}
@@ -21,12 +19,11 @@ use Rattle.space_memory_access.specs.declared.refusal.Refusal.TheVariants.{NotLi
 use Rattle.space_memory_access.specs.Accesses.{IsAllowed, IsRefused}
 use Rattle.space_memory_access.specs.Held.{prepared_region}
 use Rattle.space_memory.specs.Spaces.{SpaceState}
-use Rattle.space_memory.specs.Releases.{AllFilled, IsFilled, committed_size}
-use Rattle.space_memory_laws.specs.Returns.{AreUsedSizes, ShowUsed, used_at}
-use Rattle.replay_runs.specs.Interface.{Committing}
+use Rattle.space_memory.specs.Releases.{committed_size}
+use Rattle.space_memory_laws.specs.Returns.{ShowUsed, used_at}
 use Rattle.recorder_returns.specs.declared.returning.Returning.{Returning}
 use Rattle.recorder_returns.specs.declared.copying.Brought.{Brought}
-use Rattle.recorder_returns.specs.Bringing.{HaveBytes, IsCommitOf, committing_of}
+use Rattle.recorder_returns.specs.Bringing.{HaveBytes, committing_of}
 use Rattle.recorder_returns.specs.Copies.{AddsCommit, AreCopies, IsBrought, IsCopy, MayBeCopied, MayCopy}
 
 -- ---- a copy that is allowed isn't refused

@@ -1,5 +1,5 @@
 -- What is kept of functions after a Ret.
-use Rattle.std.proofs.Common.{◌≡◌, ℕ, Bool, true, false, cond, ◌||◌, eqb, List, [], ◌∷◌, Option, Some, None, refl, sym, ap, ◌∙◌, eqb-true}
+use Rattle.std.proofs.Common.{◌≡◌, ℕ, Bool, true, false, cond, ◌||◌, eqb, List, ◌∷◌, Option, Some, refl, sym, ap, ◌∙◌, eqb-true}
 use Rattle.std.proofs.lemmas.Bool.{true≢false}
 use Rattle.run_events.specs.declared.key.Class.TheVariants.{Callback}
 use Rattle.marks.specs.Marks.{Mark}

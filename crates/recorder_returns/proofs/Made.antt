@@ -1,5 +1,5 @@
 -- A Ret that comes next: without room for it the run ends; once it was recorded, threads and system alone must be told of it.
-use Rattle.std.proofs.Common.{◌≡◌, ℕ, ◌≤◌, Bool, List, [], ◌∷◌, ◌++◌, length, map, Option, Some, None, refl, sym, ap, ◌∙◌, subst}
+use Rattle.std.proofs.Common.{◌≡◌, ℕ, ◌≤◌, Bool, List, [], ◌++◌, length, map, Option, Some, None, refl, sym, ap, ◌∙◌, subst}
 use Rattle.std.proofs.lemmas.List.{length-map}
 use Rattle.run_events.specs.declared.key.Key.{Key}
 use Rattle.run_events.specs.declared.key.KeyMark.{KeyMark}
@@ -16,7 +16,7 @@ use Rattle.steps_above_interface.specs.Stands.{IsReturnOf, IsStateOf}
 use Rattle.stub_meaning.specs.Meaning.{first_of}
 use Rattle.steps_above_stamps.specs.declared.stamps.EventStamp.{EventStamp}
 use Rattle.whole_runs.specs.declared.ending.Ending.{Ending}
-use Rattle.whole_runs.specs.World.{World, begin, interface}
+use Rattle.whole_runs.specs.World.{World, interface}
 use Rattle.whole_runs.specs.Sides.{events_by, seen}
 use Rattle.whole_runs.specs.Steps.{IsMade, Picked}
 use Rattle.whole_runs_laws.proofs.FaultsAbove.{events_seen}
@@ -183,6 +183,7 @@ module _ (w : World) (s : RunState) (t f v : ℕ) (x : Answer) (said : Returning
                 memory = makes w past (ret_mark q.stamp) (next_return used committing used_is committing_is);
                 stamps = q.stamps;
                 book = q.book;
+                prepared = r.around.prepared;
                 output = r.around.shown.output ∙ sym (same_output w past r.step q.stamp f bs v n.same n.up n.commit);
                 system_output = r.around.shown.system_output ∙ sym (same_system_output w past r.step q.stamp f bs v n.same n.up n.commit);
                 interface = counts (interface w) (placed w) (seen past) (ret_mark q.stamp) (cached_is ∙ n.is_said.cached) (mark_of index index_so)

@@ -1,4 +1,4 @@
-use Rattle.std.proofs.Common.{◌++◌, sym, ap, ◌∙◌, subst}
+use Rattle.std.proofs.Common.{◌∙◌, subst}
 use Rattle.marks.specs.declared.range.Range.{Range}
 use Rattle.replay_runs.specs.Interface.{Committing}
 use Rattle.std.specs.Prelude.{ℕ, List, Option}

@@ -1,4 +1,4 @@
-use Rattle.std.proofs.Common.{◌++◌, [], ◌∷◌, ◌+◌, take, sym, ap, ◌∙◌, subst, arith}
+use Rattle.std.proofs.Common.{[], ◌+◌, take, sym, subst, arith}
 use Rattle.marks.specs.declared.range.Range.{Range}
 use Rattle.recorder_returns.specs.Copies.{AreCopies}
 use Rattle.recorder_returns.proofs.Copied.{all_copied, copied_at, none_copied, one_more}

@@ -1,7 +1,5 @@
 use Rattle.std.proofs.Common.{ℕ, ◌<◌, length, sym, ap, ◌∙◌, subst}
 use Rattle.whole_runs.specs.Sides.{events_by}
-use Rattle.steps_above_interface.specs.Stands.{IsStateOf}
-use Rattle.recorder_memory.specs.Returns.{MakesReturn}
 use Rattle.recorder_state.specs.declared.state.RunState.{RunState}
 use Rattle.recorder_state.specs.Inputs.{world_of}
 use Rattle.recorder_events.proofs.Few.{thread_few}
