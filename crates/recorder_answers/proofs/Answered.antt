@@ -4,8 +4,7 @@ use Rattle.std.specs.Prelude.{IfSome, is_some, option_map}
 use Rattle.marks.specs.declared.side.Side.TheVariants.{Replay}
 use Rattle.marks.specs.declared.range.Range.{Range}
 use Rattle.marks.specs.Places.{thread_count}
-use Rattle.marks.specs.Ranges.{Piece}
-use Rattle.marks.specs.Marks.{Commit, Mark, Ret}
+use Rattle.marks.specs.Marks.{Mark, Ret}
 use Rattle.marks.specs.Wants.{Gives, Value, answer_if, event_answer, same_numbers}
 use Rattle.c_code.specs.Typed.{CarriesValues}
 use Rattle.replay_runs.specs.Checks.{Passes}
@@ -13,10 +12,9 @@ use Rattle.replay_runs.specs.Interface.{Committing}
 use Rattle.steps_above_memory.specs.declared.refusal.StepRefusal.{StepRefusal}
 use Rattle.steps_above_memory.specs.Refusals.{IsFound}
 use Rattle.whole_runs.specs.World.{World, interface}
-use Rattle.whole_runs.specs.Memory.{HasAll}
 use Rattle.whole_runs.specs.Picks.{asked}
 use Rattle.whole_runs.specs.Below.{ByPool, NoMore, Says, given}
-use Rattle.whole_runs.specs.Tests.{give_checks, ret_checks, tests, with_answer}
+use Rattle.whole_runs.specs.Tests.{give_checks, ret_checks, tests}
 use Rattle.whole_runs.specs.Steps.{Brings, BringsGiven}
 use Rattle.whole_runs.specs.Fits.{committed}
 use Rattle.whole_runs_memory.specs.Rets.{IsEnding}
@@ -24,10 +22,8 @@ use Rattle.whole_runs_seen.proofs.Threads.{threads_known}
 use Rattle.whole_runs_threads.proofs.Values.{given_suits}
 use Rattle.race_watch.specs.State.{WatchState}
 use Rattle.recorder_memory.specs.declared.memory.Memory.{Memory}
-use Rattle.recorder_memory.specs.Stands.{StandsForSeen}
 use Rattle.recorder_memory.specs.Answers.{Answers, IsAnswer, RefusesAnswer, regions_of}
 use Rattle.recorder_memory.specs.Below.{LeavesSeen}
-use Rattle.recorder_memory.specs.Laws.{HoldsCall}
 use Rattle.recorder_memory.specs.Returns.{PassesReturn}
 use Rattle.recorder_memory.proofs.Quiet.{calls_held}
 use Rattle.recorder_system.specs.declared.given.Given.{Given}
@@ -43,7 +39,7 @@ use Rattle.recorder_plain.proofs.Steps.{carries, stops}
 use Rattle.recorder_events.proofs.Marked.{around_with}
 use Rattle.recorder_events.proofs.Steps.{watch_few}
 use Rattle.recorder_returns.specs.Bringing.{committing_of}
-use Rattle.recorder_returns.specs.Coming.{IsOfInterface, IsReturning}
+use Rattle.recorder_returns.specs.Coming.{IsReturning}
 use Rattle.recorder_returns.proofs.Closing.{ends_so}
 use Rattle.recorder_returns.proofs.Said.{sizes_count}
 use Rattle.recorder_answers.specs.Giving.{IsGiving}

@@ -1,12 +1,12 @@
 -- A call below the cut whose result is waited for is one of a function of the interface without a body.
-use Rattle.std.proofs.Common.{◌≡◌, ℕ, ◌<◌, Bool, true, false, ◌&&◌, List, length, Option, Some, None, refl, sym, ap, ◌∙◌, subst, arith}
+use Rattle.std.proofs.Common.{◌≡◌, ℕ, ◌<◌, Bool, true, false, List, length, Option, Some, None, refl, ap, ◌∙◌, subst, arith}
 use Rattle.std.proofs.lemmas.Bool.{and_parts}
 use Rattle.std.proofs.lemmas.List.Elements.{All-get_or}
 use Rattle.marks.specs.declared.side.Side.{Side}
 use Rattle.marks.specs.declared.side.Side.TheVariants.{Replay, System}
 use Rattle.marks.specs.Marks.{Mark}
 use Rattle.marks.specs.Wants.{Want, Gives, Answer}
-use Rattle.c_code.specs.Machine.{Laid, Pending, Config, Under, Action, Silent, Asks, Pends, Awaits, Starts, Over, Stuck, action, entry, is_face}
+use Rattle.c_code.specs.Machine.{Laid, Pending, Config, Action, Silent, Asks, Pends, Awaits, Starts, Over, Stuck, action, entry, is_face}
 use Rattle.c_code.specs.MarkLists.{Split, called, entered_below, below, next_of, same_side, started, want_of}
 use Rattle.c_code.specs.Valid.{IsValid}
 use Rattle.c_machine.specs.Makes.{IsCut}

@@ -1,5 +1,5 @@
 -- What a call that is given this value and these pieces has: its function is of the interface, and there is a piece for each region.
-use Rattle.std.proofs.Common.{◌≡◌, ℕ, ◌+◌, ◌≤◌, Bool, true, false, eqb, List, [], length, map, Option, Some, None, refl, sym, ap, ◌∙◌, subst, arith}
+use Rattle.std.proofs.Common.{◌≡◌, ℕ, ◌+◌, ◌≤◌, true, false, eqb, List, [], length, map, Option, Some, None, refl, sym, ap, ◌∙◌, subst, arith}
 use Rattle.std.specs.Prelude.{is_some, slice_get, filter}
 use Rattle.std.proofs.lemmas.Bool.{true≢false}
 use Rattle.marks.specs.declared.side.Side.TheVariants.{System}

@@ -1,11 +1,9 @@
 -- What is done at the Ret of a builtin or external: its regions and keys are few, and it is given a piece for each region.
 use Rattle.std.proofs.Common.{◌≡◌, ℕ, zero, suc, ◌+◌, ◌-◌, ◌<◌, ◌≤◌, Bool, true, false, cond, ltb, ltb-true, List, [], ◌∷◌, ◌++◌, length, map, Option, Some, None, refl, sym, ap, ◌∙◌, subst, arith}
 use Rattle.std.specs.Prelude.{is_some, slice_get}
-use Rattle.std.proofs.lemmas.Bool.{true≢false}
 use Rattle.std.proofs.lemmas.List.{length-append, length-map}
 use Rattle.marks.specs.declared.side.Side.TheVariants.{Replay, System}
 use Rattle.marks.specs.Places.{builtin_count}
-use Rattle.marks.specs.declared.range.Range.{Range}
 use Rattle.marks.specs.Marks.{Mark, NoRegion}
 use Rattle.c_builtins.specs.declared.builtin.Builtin.{Builtin}
 use Rattle.c_builtins.specs.declared.builtin.Builtin.TheVariants.{Malloc, Free, Spawn, Join, Lock, Unlock, Print}
@@ -18,15 +16,15 @@ use Rattle.stub_operations.specs.declared.operation.StubOp.{StubOp}
 use Rattle.stub_operations.specs.declared.purpose.Purpose.TheVariants.{Record}
 use Rattle.stub_operations.specs.Builtins.{builtin_operations}
 use Rattle.stub_operations.specs.Operations.{passed}
-use Rattle.stub_operations.specs.Stubs.{Stubs, added_at, or_none}
+use Rattle.stub_operations.specs.Stubs.{added_at, or_none}
 use Rattle.stub_meaning.specs.Calls.{Called, Done, done}
 use Rattle.stub_meaning.specs.Meaning.{called, first_of, type_of}
 use Rattle.replay_runs.specs.Interface.{Committing}
-use Rattle.replay_runs.specs.Keys.{commit_keys, sorted_keys}
-use Rattle.whole_runs.specs.World.{World, interface, interface_on, interface_with, stubs_below}
+use Rattle.replay_runs.specs.Keys.{commit_keys}
+use Rattle.whole_runs.specs.World.{World, interface, interface_on, interface_with}
 use Rattle.whole_runs.specs.Outcomes.{builtin_of}
-use Rattle.whole_runs.specs.Below.{To, Target, commit_target, targets}
-use Rattle.whole_runs.specs.Fits.{IsFit, IsFitAnswer, committed}
+use Rattle.whole_runs.specs.Below.{To, commit_target, targets}
+use Rattle.whole_runs.specs.Fits.{IsFit, committed}
 use Rattle.recorder_system.proofs.Numbers.{number_is}
 use Rattle.recorder_returns.specs.Coming.{IsOfInterface}
 use Rattle.recorder_returns.proofs.Few.{keys_few, regions_few}

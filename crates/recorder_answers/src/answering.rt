@@ -32,7 +32,10 @@ pub fn answer(
 {
     let outs = returning.ranges.as_slice();
     let used = returning.done.used();
-    match state.memory.answer_above(thread, outs, used, returning.commit(), pieces) {
+    match state
+        .memory
+        .answer_above(thread, outs, used, returning.commit(), pieces)
+    {
         Ok(()) => Ok(()),
         Err(refusal) => Err(Stop::of(thread, Side::Replay, refusal)),
     }

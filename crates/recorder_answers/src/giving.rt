@@ -37,7 +37,16 @@ pub fn give(
         Given::Answer(place) => {
             let said = answer_at(inputs.file, place);
             let pieces = said.pieces.as_slice();
-            give_this(state, alloc, inputs, returning, thread, func, said.result, pieces)
+            give_this(
+                state,
+                alloc,
+                inputs,
+                returning,
+                thread,
+                func,
+                said.result,
+                pieces,
+            )
         }
         Given::NoMore => Err(Stop::for_lack(func)),
         Given::ByPool => unreachable!("the calls of memory are events of the pool"),

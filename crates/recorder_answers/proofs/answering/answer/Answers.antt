@@ -1,5 +1,4 @@
-use Rattle.std.proofs.Common.{◌≡◌, ap, ◌∙◌}
-use Rattle.recorder_threads.specs.Threads.{args_at}
+use Rattle.std.proofs.Common.{ap, ◌∙◌}
 use Rattle.recorder_state.specs.Inputs.{world_of}
 use Rattle.recorder_returns.specs.Bringing.{committing_of}
 use Rattle.recorder_answers.proofs.Answered.{few, refused, returning, said_one_more, said_pieces, said_regions, said_sizes}
