@@ -1,11 +1,10 @@
 -- A step of a builtin or external that memory made: the rest of the state is told of its result.
-use Rattle.std.proofs.Common.{◌≡◌, ℕ, Bool, true, false, cond, eqb, List, [], ◌∷◌, ◌++◌, Some, None, refl, sym, ap, ◌∙◌, subst}
-use Rattle.marks.specs.declared.side.Side.{Side}
+use Rattle.std.proofs.Common.{◌≡◌, ℕ, Bool, true, false, cond, eqb, List, [], ◌∷◌, ◌++◌, refl, sym, ap, ◌∙◌, subst}
 use Rattle.marks.specs.declared.side.Side.TheVariants.{System}
 use Rattle.marks.specs.declared.range.Range.{Range}
 use Rattle.marks.specs.Ranges.{Piece}
 use Rattle.marks.specs.Marks.{Act, Mark, Step}
-use Rattle.marks.specs.Wants.{Steps, Value, answer_to}
+use Rattle.marks.specs.Wants.{Value, answer_to}
 use Rattle.c_builtins.specs.declared.builtin.Builtin.TheVariants.{Print}
 use Rattle.c_builtins.specs.Table.{number_of}
 use Rattle.replay_runs.specs.Records.{pieces_in_a_row}

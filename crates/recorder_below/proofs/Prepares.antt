@@ -1,5 +1,5 @@
 -- A builtin prepares no region below the cut.
-use Rattle.std.proofs.Common.{◌≡◌, ℕ, ◌<◌, ◌≤◌, Bool, true, false, cond, List, [], ◌++◌, Option, Some, None, is_some, refl, sym, ap, ◌∙◌, subst, arith}
+use Rattle.std.proofs.Common.{◌≡◌, ℕ, ◌<◌, Bool, true, false, cond, List, [], ◌++◌, Option, Some, is_some, refl, sym, ap, ◌∙◌, subst, arith}
 use Rattle.marks.specs.declared.side.Side.TheVariants.{System}
 use Rattle.marks.specs.Ranges.{Prepared}
 use Rattle.c_builtins.specs.declared.builtin.Builtin.{Builtin}
@@ -11,11 +11,11 @@ use Rattle.stub_operations.specs.declared.operation.StubOp.{StubOp}
 use Rattle.stub_operations.specs.declared.purpose.Purpose.TheVariants.{Record}
 use Rattle.stub_operations.specs.Builtins.{builtin_operations}
 use Rattle.stub_operations.specs.Operations.{passed}
-use Rattle.stub_operations.specs.Stubs.{Stubs, added_at, or_none}
+use Rattle.stub_operations.specs.Stubs.{added_at, or_none}
 use Rattle.stub_meaning.specs.Calls.{Called, done}
 use Rattle.stub_meaning.specs.Meaning.{called}
 use Rattle.stub_meaning.specs.Fits.{IsOutside}
-use Rattle.whole_runs.specs.World.{World, interface_on, stubs_below}
+use Rattle.whole_runs.specs.World.{World, interface_on}
 use Rattle.whole_runs.specs.Outcomes.{builtin_of}
 use Rattle.whole_runs.specs.Fits.{IsFit}
 use Rattle.recorder_system.proofs.Numbers.{number_is}

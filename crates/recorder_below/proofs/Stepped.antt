@@ -1,35 +1,32 @@
 -- Steps of builtins.
-use Rattle.std.proofs.Common.{◌≡◌, ℕ, ◌≤◌, Bool, true, false, cond, eqb, eq-eqb, List, [], ◌∷◌, ◌++◌, length, Option, Some, None, refl, sym, ap, ◌∙◌, subst, arith}
+use Rattle.std.proofs.Common.{◌≡◌, ℕ, ◌≤◌, Bool, true, false, cond, eq-eqb, List, [], ◌∷◌, ◌++◌, length, Some, None, refl, sym, ap, ◌∙◌, subst, arith}
 use Rattle.std.specs.Option.{option_or}
 use Rattle.marks.specs.declared.side.Side.TheVariants.{System}
 use Rattle.marks.specs.declared.breach.BreachKind.TheVariants.{Mode}
-use Rattle.marks.specs.Places.{function_address, thread_count}
+use Rattle.marks.specs.Places.{function_address}
 use Rattle.marks.specs.declared.range.Range.{Range}
 use Rattle.marks.specs.Ranges.{Piece}
 use Rattle.marks.specs.Bytes.{granted}
-use Rattle.marks.specs.Marks.{Mark, Step}
+use Rattle.marks.specs.Marks.{Mark}
 use Rattle.marks.specs.Wants.{Steps, Value}
 use Rattle.c_builtins.specs.declared.builtin.Builtin.{Builtin}
 use Rattle.c_builtins.specs.declared.builtin.Builtin.TheVariants as builtins
 use Rattle.c_builtins.specs.Table.{number_of}
 use Rattle.c_code.specs.Machine.{first}
 use Rattle.c_code.specs.Typed.{AreArguments, CarriesValues}
-use Rattle.replay_runs.specs.Checks.{Finds}
 use Rattle.replay_runs.specs.Records.{pieces_in_a_row}
 use Rattle.steps_above_memory.specs.declared.refusal.StepRefusal.{StepRefusal}
 use Rattle.steps_above_memory.specs.declared.refusal.StepRefusal.TheVariants as refusal
 use Rattle.whole_runs.specs.World.{World, interface, interface_on, may_run}
 use Rattle.whole_runs.specs.Log.{printed_below}
-use Rattle.whole_runs.specs.Outcomes.{builtin_of, started}
-use Rattle.whole_runs.specs.Below.{Says, block_at, given, last_under, prepared_below}
+use Rattle.whole_runs.specs.Outcomes.{builtin_of}
+use Rattle.whole_runs.specs.Below.{block_at, given, last_under, prepared_below}
 use Rattle.whole_runs.specs.Tests.{step_checks}
 use Rattle.whole_runs.specs.Steps.{zeros}
 use Rattle.whole_runs_seen.proofs.Threads.{threads_known}
 use Rattle.recorder_memory.specs.declared.memory.Memory.{Memory}
 use Rattle.recorder_memory.specs.Below.{ComesToBuiltin, FreesBlock, GivesBlock, IsForThreads, Prints, RefusesFree, RefusesPrint}
 use Rattle.recorder_memory.proofs.Quiet.{steps_of_threads}
-use Rattle.system_side.specs.System.{SystemState}
-use Rattle.recorder_system.specs.declared.given.Given.{Given}
 use Rattle.recorder_system.specs.declared.given.Given.TheVariants as shown
 use Rattle.recorder_system.specs.Calls.{IsGiven}
 use Rattle.recorder_system.specs.Shown.{given_in}

@@ -1,12 +1,13 @@
 //! A Ret of which all is known but its bytes: they are copied, and it is recorded.
 
-ghost use Rattle.std.specs.Prelude.{◌≡◌, ◌<◌, ℕ, length, IfErr, OnOk};
+ghost use Rattle.std.specs.Prelude.{◌≡◌, ◌<◌, ℕ, length, IfErr, None, OnOk};
 ghost use Rattle.marks.specs.Places.{thread_count};
 ghost use Rattle.marks.specs.Wants.{Answer};
 ghost use Rattle.recorder_threads.specs.Threads.{args_at};
 ghost use Rattle.recorder_state.specs.Inputs.{world_of};
 ghost use Rattle.recorder_state.specs.Ends.{IsStopped};
 ghost use Rattle.recorder_state.specs.Plain.{IsResultStep};
+ghost use Rattle.recorder_events.specs.Room.{IsRoomOrEnd};
 ghost use Rattle.recorder_returns.specs.Saying.{IsSaid};
 ghost use Rattle.recorder_returns.specs.Coming.{IsReturning};
 ghost use Rattle.recorder_returns.specs.Recording.{CountsIfCached, IsIndexNext, IsRetNext, IsSmallRun};
@@ -18,7 +19,7 @@ use recorder_book::Book;
 use recorder_events::{full, make_event};
 use recorder_state::{Inputs, RunState, Stop};
 use run_events::{Event, Pieces};
-use std::alloc::Global;
+use std::alloc::{AllocError, Global};
 use steps_above_interface::InterfaceState;
 
 /// Records the Ret of the thread's call of the function, which comes to this value: the tests of the Ret passed, and memory has the
@@ -75,20 +76,46 @@ fn make(
     ensures stopped { IfErr result (IsStopped (world_of inputs.entry) state.new) }
 {
     let keys = returning.keys.as_slice();
-    if let Some(ending) = full(&state.book, &event, keys.len()) {
-        return Err(Stop::Ended(ending));
+    match full(&state.book, &event, keys.len()) {
+        Some(ending) => Err(Stop::Ended(ending)),
+        None => match put(state, inputs, alloc, returning, thread, func, ranges, event) {
+            Ok(()) => Ok(()),
+            Err(_) => Err(Stop::Memory),
+        },
     }
+}
+
+// Records it where there is room: memory and functions are told of it.
+fn put(
+    state: &mut RunState,
+    inputs: Inputs<'_>,
+    alloc: Global,
+    returning: &Returning,
+    thread: u8,
+    func: u16,
+    ranges: &[Range],
+    event: Event,
+) -> Result<(), AllocError>
+    requires next { (v : ℕ) × (x : Answer) ×
+        IsRetNext (world_of inputs) state.old thread func v x returning.now ranges.now event }
+    requires room { IsRoomOrEnd state.old.book event (length returning.now.keys.items) None }
+    ensures made { (v : ℕ) (x : Answer) →
+        IsRetNext (world_of inputs.entry) state.old thread func v x returning.now ranges.now event →
+        OnOk result (IsResultStep (world_of inputs.entry) state.new thread func v x) }
+    ensures steps { OnOk result (state.new.steps ≡ state.old.steps) }
+{
+    let keys = returning.keys.as_slice();
     let used = returning.done.used();
     // Its tests passed.
     if let Err(_) = state
         .memory
         .return_above(thread, used, returning.commit(), ranges, keys)
     {
-        return Err(Stop::Memory);
+        return Err(AllocError);
     }
     let index = next_index(&state.book, thread);
     if let Err(_) = make_event(state, inputs, alloc, thread, keys, event) {
-        return Err(Stop::Memory);
+        return Err(AllocError);
     }
     let cached = returning.done.is_cached();
     note(&mut state.interface, cached, thread, func, index);
