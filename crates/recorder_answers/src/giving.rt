@@ -77,13 +77,17 @@ fn give_this(
     ensures steps { OnOk result (state.new.steps ≡ state.old.steps + 1) }
     ensures stopped { IfErr result (IsStopped (world_of inputs.entry) state.new) }
 {
-    returning.read(inputs, func, state.threads.args(thread), value)?;
+    if let Err(_) = returning.read(inputs, func, state.threads.args(thread), value) {
+        return Err(Stop::Memory);
+    }
     if let Err(stop) = answer(state, inputs, returning, thread, func, value, pieces) {
         return Err(stop);
     }
     if let Err(stop) = record_ret(state, inputs, alloc, returning, thread, func, value) {
         return Err(stop);
     }
-    state.give(alloc, inputs, thread, func, value)?;
-    Ok(())
+    match state.give(alloc, inputs, thread, func, value) {
+        Ok(()) => Ok(()),
+        Err(_) => Err(Stop::Memory),
+    }
 }

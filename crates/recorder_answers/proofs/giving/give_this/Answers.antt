@@ -9,4 +9,4 @@ pub args-requires : goal.args-requires
 args-requires c = is_started (world_of c.args.inputs) c.args.state.now c.args.thread Replay (told.Give c.args.func) c.requires.at
 
 pub give-requires : goal.give-requires
-give-requires c = c.in_default-record_ret.ensures.made (Value c.args.value) c.in_default.ensures.passes
+give-requires c = c.in_default-record_ret.ensures.made (Value c.args.value) c.in_default-answer.ensures.passes
