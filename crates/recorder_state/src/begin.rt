@@ -1,14 +1,17 @@
 //! The state before a run.
 
-ghost use Rattle.std.specs.Prelude.{◌≡◌, ◌≤◌, [], IfOk, length, ltb};
+ghost use Rattle.std.specs.Prelude.{◌≡◌, ◌+◌, ◌≤◌, [], IfOk, length, ltb};
+ghost use Rattle.marks.specs.Places.{builtin_count};
 ghost use Rattle.marks.specs.Wants.{same_numbers};
 ghost use Rattle.c_code.specs.Machine.{func_of};
-ghost use Rattle.whole_runs.specs.World.{is_main as is_main_named, main_of as main_at};
+ghost use Rattle.whole_runs.specs.World.{interface as interface_in, is_main as is_main_named, main_of as main_at};
 ghost use Rattle.whole_runs.specs.Fits.{IsFit};
 ghost use Rattle.recorder_state.specs.Inputs.{world_of};
-ghost use Rattle.recorder_memory.specs.Stands.{StandsForRun};
+ghost use Rattle.recorder_memory.specs.Stands.{placed};
 ghost use Rattle.recorder_threads.specs.Threads.{AreThreadsOf};
 ghost use Rattle.recorder_system.specs.Stands.{IsSystemOf};
+ghost use Rattle.steps_above_stamps.specs.Stamps.{AreStampsOf};
+ghost use Rattle.steps_above_interface.specs.Stands as functions;
 ghost use Rattle.recorder_state.specs.Stands.{IsReached};
 ghost use Rattle.recorder_state.specs.Inputs.{is_main_in};
 
@@ -36,30 +39,51 @@ impl RunState {
         requires { IsFit (world_of inputs) }
         ensures { IfOk result (IsReached (world_of inputs.entry)) }
     {
-        let threads = Threads::new(alloc, inputs.code, main_of(inputs.code))?;
-        let system = RunSystem::new(alloc, inputs.file)?;
-        let memory = Memory::new(alloc, inputs.placed)?;
-        with(alloc, inputs, threads, system, memory)
+        let stamps = Stamps::new(alloc)?;
+        let interface = InterfaceState::new(alloc, u32::from(FIRST_SOURCE) + sources(inputs.code))?;
+        with(alloc, inputs, stamps, interface)
     }
 }
 
-// The state with these threads, this system and this memory, before the first mark of the run.
+// The state with these numbers of events and this of functions, before the first mark of the run.
 fn with(
     alloc: Global,
     inputs: Inputs<'_>,
-    threads: Threads,
-    system: RunSystem,
-    memory: Memory,
+    stamps: Stamps,
+    interface: InterfaceState,
 ) -> Result<RunState, AllocError>
     requires fit { IsFit (world_of inputs) }
-    requires threads { AreThreadsOf (world_of inputs) [] threads }
-    requires system { IsSystemOf (world_of inputs) [] system }
-    requires memory { StandsForRun (world_of inputs) [] memory }
+    requires stamps { AreStampsOf (placed (world_of inputs)) [] stamps }
+    requires interface { functions.IsStateOf (interface_in (world_of inputs)) (placed (world_of inputs)) []
+        interface }
+    requires functions { length interface.registered ≡ builtin_count + length inputs.code.now.sources }
     ensures { IfOk result (IsReached (world_of inputs.entry)) }
 {
-    let stamps = Stamps::new(alloc)?;
-    let interface = InterfaceState::new(alloc, u32::from(FIRST_SOURCE) + sources(inputs.code))?;
+    let threads = Threads::new(alloc, inputs.code, main_of(inputs.code))?;
+    let system = RunSystem::new(alloc, inputs.file)?;
+    complete(alloc, inputs, stamps, interface, threads, system)
+}
+
+// The same with these threads and this system.
+fn complete(
+    alloc: Global,
+    inputs: Inputs<'_>,
+    stamps: Stamps,
+    interface: InterfaceState,
+    threads: Threads,
+    system: RunSystem,
+) -> Result<RunState, AllocError>
+    requires fit { IsFit (world_of inputs) }
+    requires stamps { AreStampsOf (placed (world_of inputs)) [] stamps }
+    requires interface { functions.IsStateOf (interface_in (world_of inputs)) (placed (world_of inputs)) []
+        interface }
+    requires functions { length interface.registered ≡ builtin_count + length inputs.code.now.sources }
+    requires threads { AreThreadsOf (world_of inputs) [] threads }
+    requires system { IsSystemOf (world_of inputs) [] system }
+    ensures { IfOk result (IsReached (world_of inputs.entry)) }
+{
     let book = Book::new(alloc, inputs.file.chunk)?;
+    let memory = Memory::new(alloc, inputs.placed)?;
     Ok(RunState {
         threads,
         system,

@@ -1,27 +1,13 @@
-use Rattle.std.proofs.Common.{[], refl, ◌∙◌, arith}
+use Rattle.std.proofs.Common.{get_or, refl, arith}
 use Rattle.recorder_state.specs.Inputs.{world_of}
+use Rattle.recorder_state.proofs.Begun.{same_get}
 use Rattle.recorder_state.proofs.begin.with.Goals as goal
 
-pub returns : goal.returns
-returns c =
-    let w = world_of c.args.inputs in
-    record {
-      fit = c.requires.fit;
-      past = [];
-      follows = tt;
-      steps = refl;
-      memory = c.requires.memory;
-      around = record {
-        shown = record {
-          threads = c.requires.threads;
-          stamps = c.in_ok-stamps.ensures _;
-          book = c.in_ok-book.ensures w refl;
-          output = c.new-5.ensures.items;
-          system_output = c.new-6.ensures.items;
-        };
-        system = c.requires.system;
-        interface = c.in_ok-interface.ensures.begins _ _;
-        functions = c.in_ok-interface.ensures.functions ∙ (let f = c.from.ensures in let n = c.sources.ensures.count in omega (arith, f, n));
-        prepared = c.new-4.ensures;
-      };
-    }
+pub new-requires-2-clause-counts : goal.new-requires-2-clause-counts
+new-requires-2-clause-counts c = λ k d lt. let some = (c.requires.fit.file.items (get_or c.args.inputs.file.now.schedule k d) (k, lt, same_get c.args.inputs.file.now.schedule k (get_or c.args.inputs.file.now.schedule k d) d lt)).some in omega (arith, some)
+
+pub complete-requires-clause-threads : goal.complete-requires-clause-threads
+complete-requires-clause-threads c = c.in_ok-threads.ensures (world_of c.args.inputs) refl
+
+pub complete-requires-clause-system : goal.complete-requires-clause-system
+complete-requires-clause-system c = c.in_ok-system.ensures (world_of c.args.inputs) refl
