@@ -1,5 +1,5 @@
 -- What a line says of an answer of a function.
-use Rattle.std.specs.Prelude.{ℕ, ◌-◌, ◌^◌, ◌==◌, if◌then◌else◌, List, [], ◌∷◌, length, Option, Some, None}
+use Rattle.std.specs.Prelude.{ℕ, ◌-◌, ◌^◌, ◌==◌, if◌then◌else◌, List, [], ◌∷◌, length, Option, None}
 use Rattle.std.specs.Option.{option_map, option_and_then}
 use Rattle.system_side.specs.declared.file.Scripted.{Scripted}
 use Rattle.sys_script_lines.specs.declared.externals.External.{External}

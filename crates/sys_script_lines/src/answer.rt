@@ -8,7 +8,8 @@ ghost use Rattle.sys_script_lines.specs.Says.{Says, same};
 
 use crate::cut::cut;
 use crate::error::Wrong;
-use crate::externals::{External, Externals};
+use crate::externals::External;
+use crate::finder::Finder;
 use crate::number::number;
 use crate::piece::pieces;
 use run_events::{Bytes, Pieces};
@@ -59,13 +60,18 @@ fn answer_of(alloc: Global, external: External, words: &[u8]) -> Result<Scripted
 }
 
 /// The answer whose words these are: the function's name, its result, and its pieces.
-pub(crate) fn answer(alloc: Global, externals: &Externals, words: &[u8]) -> Result<Scripted, Wrong>
-    ensures { Says same result (answer (named_in externals.now) (parts 32 words.now)) }
+pub(crate) fn answer<'a>(
+    alloc: Global,
+    finder: &mut Finder<'a>,
+    words: &'a [u8],
+) -> Result<Scripted, Wrong>
+    ensures answer { Says same result (answer (named_in finder.old.externals.now) (parts 32 words.now)) }
+    ensures same { finder.new.externals.now ≡ finder.old.externals.now }
 {
     let Some((name, rest)) = cut(words, b' ') else {
         return Err(Wrong::Text);
     };
-    let Some(external) = externals.find(name) else {
+    let Some(external) = finder.find(name) else {
         return Err(Wrong::Text);
     };
     answer_of(alloc, external, rest)

@@ -30,9 +30,7 @@ pub(crate) fn cut_near(text: &[u8], end: u8) -> Option<(&[u8], &[u8])>
     ensures shorter { IfSome result (λ x. length x.1.now < length text.now) }
 {
     match text {
-        [first, second, ..] if *first != end && *second == end => {
-            Some((&text[..1], &text[2..]))
-        }
+        [first, second, ..] if *first != end && *second == end => { Some((&text[..1], &text[2..])) }
         _ => cut(text, end),
     }
 }

@@ -8,7 +8,7 @@ ghost use Rattle.sys_script_lines.specs.Says.{Says, same};
 use crate::answer::answer;
 use crate::cut::cut;
 use crate::error::Wrong;
-use crate::externals::Externals;
+use crate::finder::Finder;
 use crate::number::number;
 use crate::turns::turns;
 use std::alloc::Global;
@@ -53,8 +53,14 @@ fn chunk_line(text: &[u8]) -> Result<Item, Wrong>
 }
 
 /// What a line says that begins with this word, where this follows after a blank.
-fn said_by(alloc: Global, externals: &Externals, word: &[u8], rest: &[u8]) -> Result<Item, Wrong>
-    ensures { Says same result (said_by (named_in externals.now) word.now rest.now) }
+fn said_by<'a>(
+    alloc: Global,
+    finder: &mut Finder<'a>,
+    word: &[u8],
+    rest: &'a [u8],
+) -> Result<Item, Wrong>
+    ensures said { Says same result (said_by (named_in finder.old.externals.now) word.now rest.now) }
+    ensures same { finder.new.externals.now ≡ finder.old.externals.now }
 {
     if word == b"budget".as_slice() {
         budget_line(rest)
@@ -63,7 +69,7 @@ fn said_by(alloc: Global, externals: &Externals, word: &[u8], rest: &[u8]) -> Re
     } else if word == b"schedule".as_slice() {
         Ok(Item::Schedule(Schedule::from(turns(alloc, rest)?)))
     } else if word == b"answer".as_slice() {
-        Ok(Item::Answer(answer(alloc, externals, rest)?))
+        Ok(Item::Answer(answer(alloc, finder, rest)?))
     } else {
         Err(Wrong::Text)
     }
@@ -80,16 +86,21 @@ fn answer_words(line: &[u8]) -> Option<&[u8]>
 }
 
 /// What a line says, without the byte that ends it.
-pub(crate) fn item_of(alloc: Global, externals: &Externals, line: &[u8]) -> Result<Item, Wrong>
-    ensures { Says same result (says (named_in externals.now) line.now) }
+pub(crate) fn item_of<'a>(
+    alloc: Global,
+    finder: &mut Finder<'a>,
+    line: &'a [u8],
+) -> Result<Item, Wrong>
+    ensures says { Says same result (says (named_in finder.old.externals.now) line.now) }
+    ensures same { finder.new.externals.now ≡ finder.old.externals.now }
 {
     if let Some(words) = answer_words(line) {
-        return Ok(Item::Answer(answer(alloc, externals, words)?));
+        return Ok(Item::Answer(answer(alloc, finder, words)?));
     }
     match line {
         [] | [b'#', ..] => Ok(Item::Nothing),
         _ => match cut(line, b' ') {
-            Some((word, rest)) => said_by(alloc, externals, word, rest),
+            Some((word, rest)) => said_by(alloc, finder, word, rest),
             None => Err(Wrong::Text),
         },
     }

@@ -5,6 +5,7 @@ mod answer;
 mod cut;
 mod error;
 mod externals;
+mod finder;
 mod item;
 mod laws;
 mod number;

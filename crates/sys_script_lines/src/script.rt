@@ -8,21 +8,24 @@ ghost use Rattle.sys_script_lines.specs.Scripts.{IsRead, after_line, script_of};
 use crate::cut::cut_far;
 use crate::error::{ScriptError, Wrong};
 use crate::externals::Externals;
+use crate::finder::Finder;
 use crate::item::item_of;
 use crate::said::Said;
 use std::alloc::Global;
 use system_side::SysFile;
 
 // Takes what one more line says.
-fn take_line(
+fn take_line<'a>(
     said: &mut Said,
     alloc: Global,
-    externals: &Externals,
-    line: &[u8],
+    finder: &mut Finder<'a>,
+    line: &'a [u8],
 ) -> Result<(), Wrong>
-    ensures { Says (λ _. said.new) result (after_line (named_in externals.now) said.old line.now) }
+    ensures taken { Says (λ _. said.new) result
+        (after_line (named_in finder.old.externals.now) said.old line.now) }
+    ensures same { finder.new.externals.now ≡ finder.old.externals.now }
 {
-    let item = item_of(alloc, externals, line)?;
+    let item = item_of(alloc, finder, line)?;
     said.hear(item)
 }
 
@@ -39,10 +42,11 @@ pub fn read_lines(
     ensures { IsRead (script_of (named_in externals.now) bytes.now) result }
 {
     let mut said = Said::new(alloc);
+    let mut finder = Finder::new(externals, b"".as_slice());
     let mut rest = bytes;
     let mut number = 1;
     while let Some((line, after)) = cut_far(rest, b'\n') {
-        match take_line(&mut said, alloc, externals, line) {
+        match take_line(&mut said, alloc, &mut finder, line) {
             Ok(()) => {
                 rest = after;
                 number += 1;
