@@ -127,6 +127,7 @@ module _ (w : World) (s : RunState) (t f v : ℕ) (h : IsAtStep w s t Replay (to
             system_output = h.reached.around.shown.system_output ∙ sym (same_system_output w past h.step r.stamp f bs v same up commit);
             interface = subst (functions.IsStateOf (interface w) (placed w) (seen (ret_mark r.stamp ∷ past))) (sym is) stands;
             functions = ap (λ (k : KeptState). length k.registered) is ∙ count;
+            prepared = h.reached.around.prepared;
           };
         };
         threads = h.reached.around.shown.threads;
