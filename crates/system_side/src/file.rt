@@ -1,6 +1,7 @@
 //! What a system file says.
 
-use crate::lists::{Answers, Schedule};
+use crate::answer_list::Answers;
+use crate::lists::Schedule;
 use run_events::Pieces;
 
 /// What the system side of a run is to do: how many steps it may make, how many records a chunk of the log has, which
