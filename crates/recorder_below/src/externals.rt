@@ -2,6 +2,7 @@
 
 ghost use Rattle.std.specs.Prelude.{◌+◌, ◌<◌, ◌≡◌, None, Some, length, slice_get, IfErr, OnOk};
 ghost use Rattle.marks.specs.declared.side.Side.TheVariants.{System};
+ghost use Rattle.system_side.specs.AnswerLists.{as_scripted};
 ghost use Rattle.whole_runs.specs.Outcomes.{builtin_of};
 ghost use Rattle.recorder_threads.specs.declared.wants.Want.TheVariants as want;
 ghost use Rattle.recorder_state.specs.Inputs.{world_of};
@@ -18,7 +19,7 @@ use recorder_system::Given;
 use run_events::Bytes;
 use std::alloc::Global;
 use stub_calls::Done;
-use system_side::{Scripted, SysFile};
+use system_side::{Answer, SysFile};
 
 /// The step in which the thread calls the external with this number. One that a pointer names must be one that may run below the
 /// cut. It comes to the next answer that the file has of it: its pieces are written, one after the other, and what it prepares is
@@ -44,7 +45,7 @@ pub fn external(
     match state.system.given(thread, func, state.threads.args(thread)) {
         Given::Answer(place) => {
             let answer = answer_at(inputs.file, place);
-            let pieces = answer.pieces.as_slice();
+            let pieces = answer.pieces;
             come_to(
                 state,
                 alloc,
@@ -63,11 +64,11 @@ pub fn external(
 }
 
 // The answer at this place of the file.
-fn answer_at(file: &SysFile, place: usize) -> &Scripted
+fn answer_at(file: &SysFile, place: usize) -> Answer<'_>
     requires { place < length file.now.answers }
-    ensures { slice_get file.now.answers place ≡ Some result.now }
+    ensures { slice_get file.now.answers place ≡ Some (as_scripted result) }
 {
-    &file.answers.as_slice()[place]
+    file.answers.get(place)
 }
 
 // The step in which the external comes to this value, and these pieces are written.

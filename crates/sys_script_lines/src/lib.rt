@@ -6,7 +6,6 @@ mod cut;
 mod error;
 mod externals;
 mod finder;
-mod item;
 mod laws;
 mod number;
 mod piece;

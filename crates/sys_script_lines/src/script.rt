@@ -2,32 +2,15 @@
 
 ghost use Rattle.std.specs.Prelude.{◌≡◌, ◌≤◌, length};
 ghost use Rattle.sys_script_lines.specs.Externals.{named_in};
-ghost use Rattle.sys_script_lines.specs.Says.{Says};
-ghost use Rattle.sys_script_lines.specs.Scripts.{IsRead, after_line, script_of};
+ghost use Rattle.sys_script_lines.specs.Scripts.{IsRead, script_of};
 
 use crate::cut::cut_far;
-use crate::error::{ScriptError, Wrong};
+use crate::error::ScriptError;
 use crate::externals::Externals;
 use crate::finder::Finder;
-use crate::item::item_of;
 use crate::said::Said;
 use std::alloc::Global;
 use system_side::SysFile;
-
-// Takes what one more line says.
-fn take_line<'a>(
-    said: &mut Said,
-    alloc: Global,
-    finder: &mut Finder<'a>,
-    line: &'a [u8],
-) -> Result<(), Wrong>
-    ensures taken { Says (λ _. said.new) result
-        (after_line (named_in finder.old.externals.now) said.old line.now) }
-    ensures same { finder.new.externals.now ≡ finder.old.externals.now }
-{
-    let item = item_of(alloc, finder, line)?;
-    said.hear(item)
-}
 
 /// The system file whose bytes these are, where these functions have no body.
 ///
@@ -46,7 +29,7 @@ pub fn read_lines(
     let mut rest = bytes;
     let mut number = 1;
     while let Some((line, after)) = cut_far(rest, b'\n') {
-        match take_line(&mut said, alloc, &mut finder, line) {
+        match said.hear(alloc, &mut finder, line) {
             Ok(()) => {
                 rest = after;
                 number += 1;
