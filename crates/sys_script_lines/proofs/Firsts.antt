@@ -56,6 +56,6 @@ begins_with end text x h lt there start =
     let n = length x in
     let rest = drop (n + 1) text in
     let whole : x ++ end ∷ rest ≡ text =
-        ap (λ ws. ws ++ end ∷ rest) (sym start)
-        ∙ (ap (λ b. take n text ++ b ∷ rest) (sym there) ∙ (ap (λ ws. take n text ++ ws) (sym (drop_more text n 0 lt)) ∙ take-append-drop n text)) in
+    ap (λ ws. ws ++ end ∷ rest) (sym start)
+    ∙ (ap (λ b. take n text ++ b ∷ rest) (sym there) ∙ (ap (λ ws. take n text ++ ws) (sym (drop_more text n 0 lt)) ∙ take-append-drop n text)) in
     sym (ap (parts end) whole) ∙ (part_then end x rest h ∙ ap (λ r. x ∷ parts end r) (sym (take_rest text (n + 1))))

@@ -29,11 +29,7 @@ fn result_of(external: External, text: &[u8]) -> Option<u64>
 }
 
 /// Ends the answer whose pieces these are so far.
-fn end_answer(
-    answers: &mut AnswersSoFar,
-    external: External,
-    number: &[u8],
-) -> Result<(), Wrong>
+fn end_answer(answers: &mut AnswersSoFar, external: External, number: &[u8]) -> Result<(), Wrong>
     ensures { Says (λ _. answers.new.ended) result
         (with_answer answers.old.ended (answer_by external number.now answers.old.begun)) }
 {

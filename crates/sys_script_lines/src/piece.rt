@@ -74,11 +74,7 @@ fn add_piece(alloc: Global, answers: &mut AnswersSoFar, word: &[u8]) -> Result<(
 }
 
 /// Begins an answer with the pieces of several words.
-pub(crate) fn pieces(
-    alloc: Global,
-    answers: &mut AnswersSoFar,
-    words: &[u8],
-) -> Result<(), Wrong>
+pub(crate) fn pieces(alloc: Global, answers: &mut AnswersSoFar, words: &[u8]) -> Result<(), Wrong>
     ensures pieces { Says (λ _. answers.new.begun) result (each piece (parts 32 words.now)) }
     ensures same { answers.new.ended ≡ answers.old.ended }
 {

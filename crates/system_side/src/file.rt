@@ -15,7 +15,7 @@ pub struct SysFile {
 }
 
 /// One answer of the function with this number: its result, a 64-bit two's complement pattern, and the bytes that it
-/// writes, one piece for each region.
+/// writes, one piece for each region. Contracts see the answers of a list as such.
 #[derive(Drop)]
 pub struct Scripted {
     pub func: u16,
