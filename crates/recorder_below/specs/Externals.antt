@@ -2,7 +2,9 @@
 use Rattle.std.specs.Prelude.{◌≡◌, ℕ, Bool, true, List, Option, None, option_to_list}
 use Rattle.marks.specs.declared.side.Side.TheVariants.{System}
 use Rattle.marks.specs.declared.range.Range.{Range}
+use Rattle.marks.specs.Ranges.{Prepared}
 use Rattle.marks.specs.Marks.{Mark}
+use Rattle.marks.specs.Wants.{Value}
 use Rattle.replay_runs.specs.Interface.{Committing}
 use Rattle.whole_runs.specs.World.{World, may_run}
 use Rattle.whole_runs.specs.Outcomes.{builtin_of}
@@ -13,7 +15,9 @@ use Rattle.recorder_memory.specs.Below.{target_of, targets_of}
 use Rattle.recorder_threads.specs.declared.wants.Want.TheVariants as told
 use Rattle.recorder_threads.specs.Threads.{args_at}
 use Rattle.recorder_state.specs.declared.state.RunState.{RunState}
-use Rattle.recorder_state.specs.Prepared.{ArePreparedBelow}
+use Rattle.recorder_state.specs.declared.prepared.PreparedBelow.{PreparedBelow}
+use Rattle.recorder_state.specs.Prepared.{ArePreparedBelow, Prepares}
+use Rattle.recorder_state.specs.Plain.{IsResultStep}
 use Rattle.recorder_state.specs.Turns.{IsAtStep}
 
 -- the next step of the run is the thread's call of the external with this number, which keeps its mode
@@ -27,6 +31,11 @@ pub record IsAtExternal (w : World) (s : RunState) (t f : ℕ) : Type 0 where
 pub record IsAtAnswer (w : World) (s : RunState) (t f value : ℕ) (pieces : List (List ℕ)) : Type 0 where
   pub to : IsAtExternal w s t f
   pub says : given w to.at.reached.past t f (args_at s.threads t) ≡ Says value pieces
+
+-- its pieces are written: once these regions are noted too, the thread is to be given the value
+abbrev pub IsWritten : World → RunState → (thread func value : ℕ) → List Prepared → Type 0
+IsWritten w s t f v prepares = (regions : PreparedBelow) → Prepares prepares s.prepared regions →
+    IsResultStep w (record s { prepared = regions }) t f v (Value v)
 
 -- ---- where pieces go: in whatever run the state's memory is of, and its regions that were prepared
 

@@ -2,14 +2,13 @@
 
 ghost use Rattle.std.specs.Prelude.{◌+◌, ◌<◌, ◌≡◌, None, Some, length, slice_get, IfErr, OnOk};
 ghost use Rattle.marks.specs.declared.side.Side.TheVariants.{System};
-ghost use Rattle.system_side.specs.AnswerLists.{as_scripted};
 ghost use Rattle.whole_runs.specs.Outcomes.{builtin_of};
 ghost use Rattle.recorder_threads.specs.declared.wants.Want.TheVariants as want;
 ghost use Rattle.recorder_state.specs.Inputs.{world_of};
 ghost use Rattle.recorder_state.specs.Stands.{IsReached};
 ghost use Rattle.recorder_state.specs.Turns.{IsAtStep};
 ghost use Rattle.recorder_state.specs.Ends.{IsStopped};
-ghost use Rattle.recorder_below.specs.Externals.{IsAtAnswer};
+ghost use Rattle.recorder_below.specs.Externals.{IsAtAnswer, IsWritten};
 
 use crate::targets::targets;
 use c_code::Side;
@@ -18,8 +17,7 @@ use recorder_state::{Inputs, RunState, Stop};
 use recorder_system::Given;
 use run_events::Bytes;
 use std::alloc::Global;
-use stub_calls::Done;
-use system_side::{Answer, SysFile};
+use stub_calls::{Done, Prepared};
 
 /// The step in which the thread calls the external with this number. One that a pointer names must be one that may run below the
 /// cut. It comes to the next answer that the file has of it: its pieces are written, one after the other, and what it prepares is
@@ -44,7 +42,7 @@ pub fn external(
     }
     match state.system.given(thread, func, state.threads.args(thread)) {
         Given::Answer(place) => {
-            let answer = answer_at(inputs.file, place);
+            let answer = inputs.file.answers.get(place);
             let pieces = answer.pieces;
             come_to(
                 state,
@@ -61,14 +59,6 @@ pub fn external(
         Given::NoMore => Err(Stop::for_lack(func)),
         Given::ByPool => unreachable!("an external is given what the file says"),
     }
-}
-
-// The answer at this place of the file.
-fn answer_at(file: &SysFile, place: usize) -> Answer<'_>
-    requires { place < length file.now.answers }
-    ensures { slice_get file.now.answers place ≡ Some (as_scripted result) }
-{
-    file.answers.get(place)
 }
 
 // The step in which the external comes to this value, and these pieces are written.
@@ -92,7 +82,25 @@ fn come_to(
     if let Err(refusal) = answered {
         return Err(Stop::of(thread, Side::System, refusal));
     }
-    state.prepared.note(done.prepares())?;
+    give(state, alloc, inputs, done.prepares(), thread, func, value)
+}
+
+// What the external prepares is noted, and the thread is given the value.
+fn give(
+    state: &mut RunState,
+    alloc: Global,
+    inputs: Inputs<'_>,
+    prepares: &[Prepared],
+    thread: u8,
+    func: u16,
+    value: u64,
+) -> Result<(), Stop>
+    requires { IsWritten (world_of inputs) state.old thread func value prepares.now }
+    ensures made { OnOk result (IsReached (world_of inputs.entry) state.new) }
+    ensures steps { OnOk result (state.new.steps ≡ state.old.steps + 1) }
+    ensures stopped { IfErr result (IsStopped (world_of inputs.entry) state.new) }
+{
+    state.prepared.note(prepares)?;
     state.give(alloc, inputs, thread, func, value)?;
     Ok(())
 }

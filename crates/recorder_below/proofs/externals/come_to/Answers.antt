@@ -28,6 +28,6 @@ returns-in-Err-clause-stopped c =
     c.in-Err.refusal c.of.result c.answer_below-answered.new.self c.of.ensures c.in-Err.ensures.refused c.answer_below-answered.ensures.seen
 
 pub give-requires : goal.give-requires
-give-requires c =
+give-requires c = λ regions noted.
     answer_gives (world_of c.args.inputs) c.args.state.now c.args.thread c.args.func c.args.value c.args.pieces.now c.requires c.as_slice.result.now (are (goal.at.give-requires c).After-as_slice)
-    c.prepares.result.now (c.prepares.ensures ∙ c.in_ok-places.ensures.prepares) c.answer_below-answered.new.self c.note.new.self c.in_default.ensures.answered c.in_ok-note.ensures
+    c.prepares.result.now (c.prepares.ensures ∙ c.in_ok-places.ensures.prepares) c.answer_below-answered.new.self regions c.in_default.ensures.answered noted
