@@ -25,7 +25,7 @@ fn line(alloc: Global, bytes: &[u8]) -> Result<String, AllocError> {
     match read_lines(alloc, bytes, &externals) {
         Ok(file) => {
             let turns = file.schedule.as_slice().len();
-            let answers = file.answers.as_slice().len();
+            let answers = file.answers.len();
             format!(in alloc; "turns {turns} answers {answers}")
         }
         Err(ScriptError::Line(number)) => format!(in alloc; "line {number}"),

@@ -15,7 +15,6 @@ use recorder_state::{Inputs, RunState, Stop};
 use recorder_system::Given;
 use run_events::Bytes;
 use std::alloc::Global;
-use system_side::{Scripted, SysFile};
 
 /// The thread's call of the builtin or external, which code above the cut made, comes to its result: what the system gives it, with the
 /// bytes of the file's next answer, if it is an external. `returning` is filled with what is said of its Ret.
@@ -35,8 +34,8 @@ pub fn give(
     match state.system.given(thread, func, state.threads.args(thread)) {
         Given::Value(value) => give_this(state, alloc, inputs, returning, thread, func, value, &[]),
         Given::Answer(place) => {
-            let said = answer_at(inputs.file, place);
-            let pieces = said.pieces.as_slice();
+            let said = inputs.file.answers.get(place);
+            let pieces = said.pieces;
             give_this(
                 state,
                 alloc,
@@ -51,14 +50,6 @@ pub fn give(
         Given::NoMore => Err(Stop::for_lack(func)),
         Given::ByPool => unreachable!("the calls of memory are events of the pool"),
     }
-}
-
-// The answer at this place of the file.
-fn answer_at(file: &SysFile, place: usize) -> &Scripted
-    requires { place < length file.now.answers }
-    ensures { Some result.now ≡ slice_get file.now.answers place }
-{
-    &file.answers.as_slice()[place]
 }
 
 // The thread's call comes to this value, and these pieces are written, one for each region of the Ret.

@@ -18,7 +18,6 @@ use recorder_system::Given;
 use run_events::Bytes;
 use std::alloc::Global;
 use stub_calls::{Done, Prepared};
-use system_side::{Scripted, SysFile};
 
 /// The step in which the thread calls the external with this number. One that a pointer names must be one that may run below the
 /// cut. It comes to the next answer that the file has of it: its pieces are written, one after the other, and what it prepares is
@@ -43,8 +42,8 @@ pub fn external(
     }
     match state.system.given(thread, func, state.threads.args(thread)) {
         Given::Answer(place) => {
-            let answer = answer_at(inputs.file, place);
-            let pieces = answer.pieces.as_slice();
+            let answer = inputs.file.answers.get(place);
+            let pieces = answer.pieces;
             come_to(
                 state,
                 alloc,
@@ -60,14 +59,6 @@ pub fn external(
         Given::NoMore => Err(Stop::for_lack(func)),
         Given::ByPool => unreachable!("an external is given what the file says"),
     }
-}
-
-// The answer at this place of the file.
-fn answer_at(file: &SysFile, place: usize) -> &Scripted
-    requires { place < length file.now.answers }
-    ensures { slice_get file.now.answers place ≡ Some result.now }
-{
-    &file.answers.as_slice()[place]
 }
 
 // The step in which the external comes to this value, and these pieces are written.

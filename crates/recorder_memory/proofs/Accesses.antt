@@ -38,7 +38,9 @@ module _ (old new : Memory) (t addr width : ℕ) (origin : Option ℕ) (lt : t <
   pub load_made : (value : ℕ) → Allowed false → HasNumber old.above.spaces.bytes addr width value → Makes old t System (Loads origin addr width) (Load origin addr (bytes_of_number width value)) old
   load_made value ok has w past to =
       let act = Load origin addr (bytes_of_number width value) in
-      let mark : IsWholeMark w past (Loads origin addr width) (next_mark w past t System act) old.above.spaces = whole_plain.loads w past old.above.spaces (next_mark w past t System act) (Loads origin addr width) origin addr width value to.stands.whole has refl in
+      let mark : IsWholeMark w past (Loads origin addr width) (next_mark w past t System act) old.above.spaces =
+      whole_plain.loads w past old.above.spaces (next_mark w past t System act)
+      (Loads origin addr width) origin addr width value to.stands.whole has refl in
       below_marked w past old old t (Loads origin addr width) to act refl (load_answers origin addr width value) mark.agrees
       ((touches w past old.above.spaces t false r to.stands.whole lt small).passes.1 ok)
       (below_stands w past old old (next_mark w past t System act) refl to.stands refl mark.stands)
@@ -48,16 +50,20 @@ module _ (old new : Memory) (t addr width : ℕ) (origin : Option ℕ) (lt : t <
       subst (IsFound (touch_checks w past t false r Done)) (sym is)
       (as_found (touch_checks w past t false r Done) refused ((touches w past old.above.spaces t false r to.stands.whole lt small).of_refused refused p))
 
-  pub store_made : (value : ℕ) → Allowed true → HasNumber new.above.spaces.bytes addr width value → SameOutside r old.above.spaces.bytes new.above.spaces.bytes → new.above.spaces ≡ record old.above.spaces { bytes = new.above.spaces.bytes } → new.above.watch ≡ old.above.watch → Makes old t System (Stores origin addr (bytes_of_number width value)) (Store origin addr (bytes_of_number width value)) new
+  pub store_made : (value : ℕ) → Allowed true → HasNumber new.above.spaces.bytes addr width value →
+      SameOutside r old.above.spaces.bytes new.above.spaces.bytes →
+      new.above.spaces ≡ record old.above.spaces { bytes = new.above.spaces.bytes } → new.above.watch ≡ old.above.watch →
+      Makes old t System (Stores origin addr (bytes_of_number width value)) (Store origin addr (bytes_of_number width value)) new
   store_made value ok has outside rest same w past to =
       let bytes = bytes_of_number width value in
       let act = Store origin addr bytes in
       below_marked w past old new t (Stores origin addr bytes) to act refl (store_answers origin addr bytes) tt
       (subst (λ n. Passes (touch_checks w past t true (range addr n) Done)) (sym (bytes_of width value).count) ((touches w past old.above.spaces t true r to.stands.whole lt small).passes.1 ok))
       (below_stands w past old new (next_mark w past t System act) refl to.stands same
-      (whole.stores w past old.above.spaces new.above.spaces (next_mark w past t System act) origin t addr width value to.stands.whole refl small has outside rest ok refl))
+      (whole.stores w past old.above.spaces new.above.spaces (next_mark w past t System act) origin t addr width value to.stands.whole refl small (record { allowed = ok; number = has; others = outside; rest = rest }) refl))
 
-  pub store_refused : (value : ℕ) (refused : Refusal) (found : StepRefusal) → Refused true refused → found ≡ refusal_of refused → Refuses old t System (Stores origin addr (bytes_of_number width value)) found
+  pub store_refused : (value : ℕ) (refused : Refusal) (found : StepRefusal) → Refused true refused → found ≡ refusal_of refused →
+      Refuses old t System (Stores origin addr (bytes_of_number width value)) found
   store_refused value refused found p is w past to =
       subst (λ n. IsFound (touch_checks w past t true (range addr n) Done) found) (sym (bytes_of width value).count)
       (subst (IsFound (touch_checks w past t true r Done)) (sym is)

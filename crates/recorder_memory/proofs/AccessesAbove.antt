@@ -5,7 +5,7 @@ use Rattle.marks.specs.Ranges.{bytes_of_number}
 use Rattle.marks.specs.Marks.{Load, Store, Turn}
 use Rattle.marks.specs.Wants.{Loads, Stores, Turns}
 use Rattle.space_memory_bytes.specs.Numbers.{HasNumber}
-use Rattle.steps_above_memory.specs.Spaces.{IsStored}
+use Rattle.space_memory_laws.specs.Changes.{IsStored}
 use Rattle.steps_above_memory.specs.Steps as above
 use Rattle.steps_above_memory.proofs.Turning.{turned}
 use Rattle.whole_runs.specs.World.{program_of}
@@ -21,7 +21,9 @@ use Rattle.recorder_memory.proofs.Replies.{turn_answers, load_answers, store_ans
 use Rattle.recorder_memory.proofs.MarkingAbove.{is_wanted, above_marked}
 
 module _ (old new : Memory) (t addr width value : ℕ) (origin : Option ℕ) where
-  pub load_made : above.Makes old.above t (Loads origin addr width) (Load origin addr (bytes_of_number width value)) new.above → HasNumber old.above.spaces.bytes addr width value → new.above.spaces ≡ old.above.spaces → Makes old t Replay (Loads origin addr width) (Load origin addr (bytes_of_number width value)) new
+  pub load_made : above.Makes old.above t (Loads origin addr width) (Load origin addr (bytes_of_number width value)) new.above →
+      HasNumber old.above.spaces.bytes addr width value → new.above.spaces ≡ old.above.spaces →
+      Makes old t Replay (Loads origin addr width) (Load origin addr (bytes_of_number width value)) new
   load_made makes has same w past to =
       let want = Loads origin addr width in
       let act = Load origin addr (bytes_of_number width value) in
@@ -31,7 +33,10 @@ module _ (old new : Memory) (t addr width value : ℕ) (origin : Option ℕ) whe
       (made.stands (is_wanted w past old t want to refl))
       (subst (StandsForWhole w (next_mark w past t Replay act ∷ past)) (sym same) mark.stands)
 
-  pub store_made : addr < 2 ^ 64 → above.Makes old.above t (Stores origin addr (bytes_of_number width value)) (Store origin addr (bytes_of_number width value)) new.above → IsStored old.above.spaces new.above.spaces t addr width value → Makes old t Replay (Stores origin addr (bytes_of_number width value)) (Store origin addr (bytes_of_number width value)) new
+  pub store_made : addr < 2 ^ 64 →
+      above.Makes old.above t (Stores origin addr (bytes_of_number width value)) (Store origin addr (bytes_of_number width value)) new.above →
+      IsStored Replay old.above.spaces new.above.spaces t addr width value →
+      Makes old t Replay (Stores origin addr (bytes_of_number width value)) (Store origin addr (bytes_of_number width value)) new
   store_made small makes stored w past to =
       let bytes = bytes_of_number width value in
       let want = Stores origin addr bytes in
@@ -39,7 +44,7 @@ module _ (old new : Memory) (t addr width value : ℕ) (origin : Option ℕ) whe
       let made = makes (program_of w) (placed w) (seen past) to.stands.above to.modes in
       above_marked w past old t want to refl new act refl (store_answers origin addr bytes) tt made.passes
       (made.stands (is_wanted w past old t want to refl))
-      (whole.stores w past old.above.spaces new.above.spaces (next_mark w past t Replay act) origin t addr width value to.stands.whole refl small stored.number stored.others stored.rest stored.allowed refl)
+      (whole.stores w past old.above.spaces new.above.spaces (next_mark w past t Replay act) origin t addr width value to.stands.whole refl small stored refl)
 
 pub turns_above : TurnsAboveLeaveMemory
 turns_above memory t lt w past to =

@@ -55,11 +55,15 @@ fit_nowhere (Missing ∷ xs) (c ∷ bs) b e fits = fit_nowhere xs bs b (omega (a
 -- ---- one piece
 
 -- a piece that was written is one more of the step
-put_step : (w : World) (past : List Mark) (old new : SpaceState) (t : ℕ) (xs : List Target) (bs : List (List ℕ)) (r : Range) (b : List ℕ) → length xs ≡ length bs → InStep w past (pieces_for xs bs) old → IsPut old new t r b → InStep w past (pieces_for (xs ++ To r ∷ []) (bs ++ b ∷ [])) new
+put_step : (w : World) (past : List Mark) (old new : SpaceState) (t : ℕ) (xs : List Target) (bs : List (List ℕ)) (r : Range) (b : List ℕ) →
+    length xs ≡ length bs → InStep w past (pieces_for xs bs) old → IsPut old new t r b →
+    InStep w past (pieces_for (xs ++ To r ∷ []) (bs ++ b ∷ [])) new
 put_step w past old new t xs bs r b e step put = subst (λ ps. InStep w past ps new) (sym (grow xs bs (To r) b e))
-    (writes w past old new t (pieces_for xs bs) r b step put.small put.fits put.written put.others put.rest put.allowed)
+    (writes w past old new t (pieces_for xs bs) r b step put.small put.fits (record { allowed = put.allowed; bytes_are = put.written; others = put.others; rest = put.rest }))
 
-pub part_more : (w : World) (past : List Mark) (old new : Memory) (t : ℕ) (outs : List Range) (bs : List (List ℕ)) (r : Range) (b : List ℕ) → length outs ≡ length bs → new.above.watch ≡ old.above.watch → IsPartly w past outs bs old → IsPut old.above.spaces new.above.spaces t r b → IsPartly w past (outs ++ r ∷ []) (bs ++ b ∷ []) new
+pub part_more : (w : World) (past : List Mark) (old new : Memory) (t : ℕ) (outs : List Range) (bs : List (List ℕ)) (r : Range) (b : List ℕ) →
+    length outs ≡ length bs → new.above.watch ≡ old.above.watch → IsPartly w past outs bs old →
+    IsPut old.above.spaces new.above.spaces t r b → IsPartly w past (outs ++ r ∷ []) (bs ++ b ∷ []) new
 part_more w past old new t outs bs r b e same part put =
     let n : length (map To outs) ≡ length bs = length-map outs To ∙ e in
     let step : InStep w past (pieces_for (map To outs ++ To r ∷ []) (bs ++ b ∷ [])) new.above.spaces = put_step w past old.above.spaces new.above.spaces t (map To outs) bs r b n part.step put in
@@ -70,32 +74,41 @@ part_more w past old new t outs bs r b e same part put =
     }
 
 -- where one is too long
-found_long : (w : World) (past : List Mark) (func : ℕ) (args : List ℕ) (result : ℕ) (pieces : List (List ℕ)) (memory : SpaceState) (t : ℕ) (used : List ℕ) (n addr : ℕ) (found : Option ℕ) → LongPieceIsFound w past func args result pieces memory (take n (regions_of memory t)) used addr → IsFirstSpoiled memory t used n found → IsFound (ret_checks w past func args result pieces) (refusal_of (Size (unwrap_or found addr)))
+found_long : (w : World) (past : List Mark) (func : ℕ) (args : List ℕ) (result : ℕ) (pieces : List (List ℕ)) (memory : SpaceState) (t : ℕ) (used : List ℕ) (n addr : ℕ) (found : Option ℕ) →
+    LongPieceIsFound w past func args result pieces memory (take n (regions_of memory t)) used addr → IsFirstSpoiled memory t used n found →
+    IsFound (ret_checks w past func args result pieces) (refusal_of (Size (unwrap_or found addr)))
 found_long w past func args result pieces memory t used n addr None is spoiled = is.filled spoiled
 found_long w past func args result pieces memory t used n addr (Some x) is spoiled = is.unfilled x spoiled
 
 -- ---- the regions that the call holds
 
-module _ (w : World) (past : List Mark) (t func : ℕ) (args : List ℕ) (result : ℕ) (outs : List Range) (used : List ℕ) (committing : Option (ℕ × ℕ)) (pieces : List (List ℕ)) (a : IsAnswer w past t func args result outs used committing pieces) where
+module _ (w : World) (past : List Mark) (t func : ℕ) (args : List ℕ) (result : ℕ) (outs : List Range) (used : List ℕ)
+    (committing : Option (ℕ × ℕ)) (pieces : List (List ℕ)) (a : IsAnswer w past t func args result outs used committing pieces) where
   abbrev last : List Target
   last = commit_target w Replay past ((interface w).commits func args result)
 
   pub targets_are : targets w Replay past func args result ≡ map To outs ++ last
   targets_are = ap (λ os. map To os ++ last) a.outs_are
 
-  pub not_put : (memory : Memory) (i : ℕ) (d : Range) (b e : List ℕ) (refusal : StepRefusal) → i < length outs → i < length pieces → b ≡ get_or pieces i e → HasKey memory.above.spaces.held.regions committing → IsPartly w past (take i outs) (take i pieces) memory → IsNotPut memory.above.spaces t used i (get_or outs i d) b refusal → IsFound (ret_checks w past func args result pieces) refusal
+  pub not_put : (memory : Memory) (i : ℕ) (d : Range) (b e : List ℕ) (refusal : StepRefusal) → i < length outs → i < length pieces →
+      b ≡ get_or pieces i e → HasKey memory.above.spaces.held.regions committing → IsPartly w past (take i outs) (take i pieces) memory →
+      IsNotPut memory.above.spaces t used i (get_or outs i d) b refusal → IsFound (ret_checks w past func args result pieces) refusal
   not_put memory i d b e refusal lt lt' is key part (inl long) =
       subst (IsFound (ret_checks w past func args result pieces)) (sym long.refusal_is)
       (found_long w past func args result pieces memory.above.spaces t used i (get_or outs i d).addr long.found
       (subst (λ n. LongPieceIsFound w past func args result pieces memory.above.spaces (take n (regions_of memory.above.spaces t)) used (get_or outs i d).addr) (length-take-le i outs (omega arith))
-      (subst (λ ps. LongPieceIsFound w past func args result ps memory.above.spaces (take (length (take i outs)) (regions_of memory.above.spaces t)) used (get_or outs i d).addr) (sym (split_at pieces i e lt' ∙ ap (λ q. take i pieces ++ q ∷ drop (suc i) pieces) (sym is)))
+      (subst (λ ps. LongPieceIsFound w past func args result ps memory.above.spaces
+      (take (length (take i outs)) (regions_of memory.above.spaces t)) used (get_or outs i d).addr)
+      (sym (split_at pieces i e lt' ∙ ap (λ q. take i pieces ++ q ∷ drop (suc i) pieces) (sym is)))
       (long_outs w past memory.above.spaces t func args result used committing (take i outs) (drop (suc i) outs) (get_or outs i d) (take i pieces) (drop (suc i) pieces) b part.step a.ending key
       (a.outs_are ∙ split_at outs i d lt)
       (length-take-le i outs (omega arith) ∙ sym (length-take-le i pieces (omega arith)))
       part.fits long.long)))
       long.spoiled)
   not_put memory i d b e refusal lt lt' is key part (inr not) =
-      absurd (not.forbidden (may_touch w past memory.above.spaces t func args result used committing (pieces_for (map To (take i outs)) (take i pieces)) (map To (take i outs)) (map To (drop (suc i) outs) ++ last) true (get_or outs i d) (length b) part.step a.ending
+      absurd (not.forbidden (may_touch w past memory.above.spaces t func args result used committing
+      (pieces_for (map To (take i outs)) (take i pieces)) (map To (take i outs)) (map To (drop (suc i) outs) ++ last) true
+      (get_or outs i d) (length b) part.step a.ending
       (targets_are
       ∙ ap (λ os. map To os ++ last) (split_at outs i d lt)
       ∙ ap (λ xs. xs ++ last) (map-append To (take i outs) (get_or outs i d ∷ drop (suc i) outs))
@@ -108,19 +121,24 @@ module _ (old : Memory) (t : ℕ) (outs : List Range) (used : List ℕ) (committ
   pub none_put : PutsOuts old t outs used committing pieces 0 old
   none_put w past func args result h a key = record { fits = tt; step = steps_begin w past old.above.spaces h.whole; above = h.above }
 
-  pub one_more_put : (mid new : Memory) (i : ℕ) (d : Range) (b e : List ℕ) → i < length outs → i < length pieces → b ≡ get_or pieces i e → new.above.watch ≡ mid.above.watch → PutsOuts old t outs used committing pieces i mid → IsPut mid.above.spaces new.above.spaces t (get_or outs i d) b → PutsOuts old t outs used committing pieces (i + 1) new
+  pub one_more_put : (mid new : Memory) (i : ℕ) (d : Range) (b e : List ℕ) → i < length outs → i < length pieces → b ≡ get_or pieces i e →
+      new.above.watch ≡ mid.above.watch → PutsOuts old t outs used committing pieces i mid →
+      IsPut mid.above.spaces new.above.spaces t (get_or outs i d) b → PutsOuts old t outs used committing pieces (i + 1) new
   one_more_put mid new i d b e lt lt' is same before put w past func args result h a key =
       subst (λ os. IsPartly w past os (take (i + 1) pieces) new) (sym (take_more outs i d lt))
       (subst (λ ps. IsPartly w past (take i outs ++ get_or outs i d ∷ []) ps new) (sym (take_more pieces i e lt' ∙ ap (λ q. take i pieces ++ q ∷ []) (sym is)))
       (part_more w past mid new t (take i outs) (take i pieces) (get_or outs i d) b (length-take-le i outs (omega arith) ∙ sym (length-take-le i pieces (omega arith))) same (before w past func args result h a key) put))
 
-  pub put_refused : (mid : Memory) (i : ℕ) (d : Range) (b e : List ℕ) (refusal : StepRefusal) → i < length outs → i < length pieces → b ≡ get_or pieces i e → mid.above.spaces.held ≡ old.above.spaces.held → PutsOuts old t outs used committing pieces i mid → IsNotPut mid.above.spaces t used i (get_or outs i d) b refusal → RefusesPut old t outs used committing pieces refusal
+  pub put_refused : (mid : Memory) (i : ℕ) (d : Range) (b e : List ℕ) (refusal : StepRefusal) → i < length outs → i < length pieces →
+      b ≡ get_or pieces i e → mid.above.spaces.held ≡ old.above.spaces.held → PutsOuts old t outs used committing pieces i mid →
+      IsNotPut mid.above.spaces t used i (get_or outs i d) b refusal → RefusesPut old t outs used committing pieces refusal
   put_refused mid i d b e refusal lt lt' is held before not key w past func args result h a =
       not_put w past t func args result outs used committing pieces a mid i d b e refusal lt lt' is (subst (λ q. HasKey q.regions committing) (sym held) key) (before w past func args result h a key) not
 
 -- ---- the key
 
-pub key_lacking : (old : Memory) (t : ℕ) (outs : List Range) (used : List ℕ) (committing : Option (ℕ × ℕ)) (pieces : List (List ℕ)) (refusal : StepRefusal) → IsLacking old.above.spaces.held.regions committing refusal → RefusesAnswer old t outs used committing pieces refusal
+pub key_lacking : (old : Memory) (t : ℕ) (outs : List Range) (used : List ℕ) (committing : Option (ℕ × ℕ)) (pieces : List (List ℕ)) (refusal : StepRefusal) →
+    IsLacking old.above.spaces.held.regions committing refusal → RefusesAnswer old t outs used committing pieces refusal
 key_lacking old t outs used committing pieces refusal l w past func args result h a =
     subst (IsFound (ret_checks w past func args result pieces)) (sym l.2)
     (lacking w past old.above.spaces t func args result used committing [] pieces l.0 (steps_begin w past old.above.spaces h.whole) a.ending l.1)
@@ -130,7 +148,8 @@ key_lacking old t outs used committing pieces refusal l w past func args result 
 pub put_seen : (old mid new : Memory) (t : ℕ) (r : Range) (b : List ℕ) → new.above.watch ≡ mid.above.watch → LeavesSeen old mid → IsPut mid.above.spaces new.above.spaces t r b → LeavesSeen old new
 put_seen old mid new t r b same before put w past h =
     let seen_mid = before w past h in
-    still_seen w past mid new seen_mid same (written (begin w) (seen past) mid.above.spaces new.above.spaces t r.addr b seen_mid.spaces put.small put.written put.others put.rest put.allowed)
+    still_seen w past mid new seen_mid same (written (begin w) (seen past) mid.above.spaces new.above.spaces t r.addr b seen_mid.spaces put.small
+    (record { allowed = put.allowed; bytes_are = put.written; others = put.others; rest = put.rest }))
 
 -- ---- the region that is committed
 
@@ -192,7 +211,11 @@ no_range regions c key e = go (prepared_region regions c.0) refl e
 one_left : (pieces : List (List ℕ)) (n : ℕ) → length pieces ≡ n + 1 → pieces ≡ take n pieces ++ get_or pieces n [] ∷ []
 one_left pieces n e = sym (take_all (n + 1) pieces (omega (arith, e))) ∙ take_more pieces n [] (omega (arith, e))
 
-module _ (w : World) (past : List Mark) (old mid : Memory) (t func : ℕ) (args : List ℕ) (result : ℕ) (outs : List Range) (used : List ℕ) (committing : Option (ℕ × ℕ)) (pieces : List (List ℕ)) (h : StandsForRun w past old) (a : IsAnswer w past t func args result outs used committing pieces) (le : length outs ≤ length pieces) (held : mid.above.spaces.held ≡ old.above.spaces.held) (part' : IsPartly w past (take (length outs) outs) (take (length outs) pieces) mid) where
+module _ (w : World) (past : List Mark) (old mid : Memory) (t func : ℕ) (args : List ℕ) (result : ℕ) (outs : List Range) (used : List ℕ)
+    (committing : Option (ℕ × ℕ)) (pieces : List (List ℕ)) (h : StandsForRun w past old)
+    (a : IsAnswer w past t func args result outs used committing pieces) (le : length outs ≤ length pieces)
+    (held : mid.above.spaces.held ≡ old.above.spaces.held)
+    (part' : IsPartly w past (take (length outs) outs) (take (length outs) pieces) mid) where
   abbrev n : ℕ
   n = length outs
 
@@ -212,7 +235,9 @@ module _ (w : World) (past : List Mark) (old mid : Memory) (t func : ℕ) (args 
   some_taken = length-map outs To ∙ sym (length-take-le n pieces le)
 
   -- all are in their regions, where the last target is none, nowhere, or this region
-  answered_with : (new : Memory) (xs : List Target) → ends ≡ xs → AllFit (map To outs ++ xs) pieces → InStep w past (pieces_for (map To outs ++ xs) pieces) new.above.spaces → StandsForSeen w past new → IsAnswered w past func args result pieces new
+  answered_with : (new : Memory) (xs : List Target) → ends ≡ xs → AllFit (map To outs ++ xs) pieces →
+      InStep w past (pieces_for (map To outs ++ xs) pieces) new.above.spaces → StandsForSeen w past new →
+      IsAnswered w past func args result pieces new
   answered_with new xs e fits step there = record {
     fits = subst (λ ys. AllFit ys pieces) (sym (all_targets ∙ ap (λ ys. map To outs ++ ys) e)) fits;
     step = subst (λ ys. InStep w past (pieces_for ys pieces) new.above.spaces) (sym (all_targets ∙ ap (λ ys. map To outs ++ ys) e)) step;
@@ -255,13 +280,16 @@ module _ (w : World) (past : List Mark) (old mid : Memory) (t func : ℕ) (args 
     pub answered_some : (new : Memory) → new.above.watch ≡ mid.above.watch → IsPut mid.above.spaces new.above.spaces t r (get_or pieces n []) → IsAnswered w past func args result pieces new
     answered_some new same put =
         let all : pieces ≡ take n pieces ++ get_or pieces n [] ∷ [] = one_left pieces n (counted (To r ∷ []) ends_are) in
-        let step : InStep w past (pieces_for (map To outs ++ To r ∷ []) (take n pieces ++ get_or pieces n [] ∷ [])) new.above.spaces = put_step w past mid.above.spaces new.above.spaces t (map To outs) (take n pieces) r (get_or pieces n []) some_taken part.step put in
+        let step : InStep w past (pieces_for (map To outs ++ To r ∷ []) (take n pieces ++ get_or pieces n [] ∷ [])) new.above.spaces =
+        put_step w past mid.above.spaces new.above.spaces t (map To outs) (take n pieces) r
+        (get_or pieces n []) some_taken part.step put in
         answered_with new (To r ∷ []) ends_are
         (subst (AllFit (map To outs ++ To r ∷ [])) (sym all) (fit_more (map To outs) (take n pieces) r (get_or pieces n []) some_taken part.fits put.fits))
         (subst (λ ps. InStep w past (pieces_for (map To outs ++ To r ∷ []) ps) new.above.spaces) (sym all) step)
         (still_seen w past mid new part.above same step.stands.above)
 
-    pub last_not_put : (refusal : StepRefusal) → map (λ (q : Region). q.range) (regions_of mid.above.spaces t) ≡ outs → IsNotPut mid.above.spaces t used n r (get_or pieces n []) refusal → IsFound (ret_checks w past func args result pieces) refusal
+    pub last_not_put : (refusal : StepRefusal) → map (λ (q : Region). q.range) (regions_of mid.above.spaces t) ≡ outs →
+        IsNotPut mid.above.spaces t used n r (get_or pieces n []) refusal → IsFound (ret_checks w past func args result pieces) refusal
     last_not_put refusal are (inl long) =
         let all : pieces ≡ take n pieces ++ get_or pieces n [] ∷ [] = one_left pieces n (counted (To r ∷ []) ends_are) in
         let count : length (regions_of mid.above.spaces t) ≡ length outs = count_of (regions_of mid.above.spaces t) outs are in
@@ -284,8 +312,12 @@ module _ (w : World) (past : List Mark) (old mid : Memory) (t func : ℕ) (args 
 -- ---- all of them
 
 module _ (old mid : Memory) (t : ℕ) (outs : List Range) (used : List ℕ) (pieces : List (List ℕ)) (le : length outs ≤ length pieces) (held : mid.above.spaces.held ≡ old.above.spaces.held) where
-  pub all_answered : (committing : Option (ℕ × ℕ)) (region : Option Range) (new : Memory) → region ≡ committed_range old.above.spaces.held.regions committing → HasKey old.above.spaces.held.regions committing → PutsOuts old t outs used committing pieces (length outs) mid → PutsLast mid t (length outs) region pieces new → Answers old t outs used committing pieces new
-  all_answered None None new is key before put w past func args result h a = subst (IsAnswered w past func args result pieces) (sym put) (answered_none w past old mid t func args result outs used None pieces h a le held (before w past func args result h a key) refl)
+  pub all_answered : (committing : Option (ℕ × ℕ)) (region : Option Range) (new : Memory) →
+      region ≡ committed_range old.above.spaces.held.regions committing → HasKey old.above.spaces.held.regions committing →
+      PutsOuts old t outs used committing pieces (length outs) mid → PutsLast mid t (length outs) region pieces new →
+      Answers old t outs used committing pieces new
+  all_answered None None new is key before put w past func args result h a = subst (IsAnswered w past func args result pieces) (sym put)
+      (answered_none w past old mid t func args result outs used None pieces h a le held (before w past func args result h a key) refl)
   all_answered None (Some r) new is key before put w past func args result h a = absurd (other is)
     where
       other : ◌≡◌ {A = Option Range} (Some r) None → ⊥
@@ -293,24 +325,32 @@ module _ (old mid : Memory) (t : ℕ) (outs : List Range) (used : List ℕ) (pie
   all_answered (Some c) None new is key before put w past func args result h a = absurd (no_range old.above.spaces.held.regions c key is)
   all_answered (Some c) (Some r) new is key before put w past func args result h a = answered_some w past old mid t func args result outs used (Some c) pieces h a le held (before w past func args result h a key) c r refl is new put.1 put.0
 
-  pub last_refused : (committing : Option (ℕ × ℕ)) (region : Option Range) (refusal : StepRefusal) → region ≡ committed_range old.above.spaces.held.regions committing → HasKey old.above.spaces.held.regions committing → map (λ (q : Region). q.range) (regions_of mid.above.spaces t) ≡ outs → PutsOuts old t outs used committing pieces (length outs) mid → RefusesLast mid t used (length outs) region pieces refusal → RefusesAnswer old t outs used committing pieces refusal
+  pub last_refused : (committing : Option (ℕ × ℕ)) (region : Option Range) (refusal : StepRefusal) →
+      region ≡ committed_range old.above.spaces.held.regions committing → HasKey old.above.spaces.held.regions committing →
+      map (λ (q : Region). q.range) (regions_of mid.above.spaces t) ≡ outs → PutsOuts old t outs used committing pieces (length outs) mid →
+      RefusesLast mid t used (length outs) region pieces refusal → RefusesAnswer old t outs used committing pieces refusal
   last_refused committing None refusal is key are before put w past func args result h a = absurd put
   last_refused None (Some r) refusal is key are before put w past func args result h a = absurd (other is)
     where
       other : ◌≡◌ {A = Option Range} (Some r) None → ⊥
       other e = absurd cc
-  last_refused (Some c) (Some r) refusal is key are before put w past func args result h a = last_not_put w past old mid t func args result outs used (Some c) pieces h a le held (before w past func args result h a key) c r refl is refusal are put
+  last_refused (Some c) (Some r) refusal is key are before put w past func args result h a =
+      last_not_put w past old mid t func args result outs used (Some c) pieces h a le held
+      (before w past func args result h a key) c r refl is refusal are put
 
 pub last_seen : (old mid new : Memory) (t n : ℕ) (region : Option Range) (pieces : List (List ℕ)) → LeavesSeen old mid → PutsLast mid t n region pieces new → LeavesSeen old new
 last_seen old mid new t n None pieces before put = subst (LeavesSeen old) (sym put) before
 last_seen old mid new t n (Some r) pieces before put = put_seen old mid new t r (get_or pieces n []) put.1 before put.0
 
 -- the tests of the Ret after all of them
-pub answer_refused : (old new : Memory) (t : ℕ) (outs : List Range) (used : List ℕ) (committing : Option (ℕ × ℕ)) (pieces : List (List ℕ)) (refusal : StepRefusal) → Answers old t outs used committing pieces new → RefusesReturn new t used committing refusal → RefusesAnswer old t outs used committing pieces refusal
+pub answer_refused : (old new : Memory) (t : ℕ) (outs : List Range) (used : List ℕ) (committing : Option (ℕ × ℕ)) (pieces : List (List ℕ)) (refusal : StepRefusal) →
+    Answers old t outs used committing pieces new → RefusesReturn new t used committing refusal →
+    RefusesAnswer old t outs used committing pieces refusal
 answer_refused old new t outs used committing pieces refusal answers refuses w past func args result h a = refuses w past func args result pieces (answers w past func args result h a) a.ending
 
 -- a region is there only where one is committed
-pub region_wanted : (regions : List Region) (committing : Option (ℕ × ℕ)) (region : Option Range) (P : Type 0) → region ≡ committed_range regions committing → IfSome committing (λ c. P) → IfSome region (λ r. P)
+pub region_wanted : (regions : List Region) (committing : Option (ℕ × ℕ)) (region : Option Range) (P : Type 0) →
+    region ≡ committed_range regions committing → IfSome committing (λ c. P) → IfSome region (λ r. P)
 region_wanted regions None region P is p = subst (λ o. IfSome o (λ r. P)) (sym is) tt
 region_wanted regions (Some c) None P is p = tt
 region_wanted regions (Some c) (Some r) P is p = p

@@ -27,7 +27,8 @@ live Dead not_dead not_held = absurd (not_dead refl)
 live (Live v) not_dead not_held = tt
 live (Held v) not_dead not_held = absurd (not_held tt)
 
-module _ (i : Interface) (s : Start) (past : List Mark) (memory : SpaceState) (t a size : ℕ) (h : StandsFor s past memory) (block : length_at memory.sides.replay.pool.blocks (suc a) ≡ Some size) (passes : Passes (checks i s past t (Frees (suc a)))) where
+module _ (i : Interface) (s : Start) (past : List Mark) (memory : SpaceState) (t a size : ℕ) (h : StandsFor s past memory)
+    (block : length_at memory.sides.replay.pool.blocks (suc a) ≡ Some size) (passes : Passes (checks i s past t (Frees (suc a)))) where
   abbrev n : ℕ
   n = (byte s (suc a) past).block
 
@@ -61,8 +62,8 @@ pub block_there : (old : Memory) (spaces : SpaceState) (t addr size : ℕ) → I
 block_there old spaces t zero size (inl g) takes w past to = absurd (omega (arith, g.some))
 block_there old spaces t (suc a) size (inl g) takes w past to =
     record {
-      asks = block_asks (interface w) (begin w) (seen past) old.above.spaces t a size to.stands.whole.above g.block (takes w past to);
-      null = block_null (interface w) (begin w) (seen past) old.above.spaces t a size to.stands.whole.above g.block (takes w past to);
+      asks = block_asks (interface w) (begin w) (seen past) old.above.spaces t a size to.stands.whole.above g.back.block (takes w past to);
+      null = block_null (interface w) (begin w) (seen past) old.above.spaces t a size to.stands.whole.above g.back.block (takes w past to);
     }
 block_there old spaces t addr size (inr g) takes w past to =
     subst (λ n. IsBlock w past n size) (sym g.addr_is) (subst (λ n. IsBlock w past 0 n) (sym g.size_is) (record { asks = λ x e. absurd (null_asks x e); null = refl }))

@@ -28,7 +28,9 @@ use Rattle.recorder_memory.specs.Stands.{placed}
 use Rattle.recorder_memory.specs.Calls.{LeavesAll, MakesCall}
 use Rattle.recorder_memory.proofs.Events.{stands_above, allowed, mark_is, made_mark}
 
-pub call_made : (old new : Memory) (t : ℕ) (regions : CallRegions) (keys : List Key) → above.MakesCall old.above t regions keys new.above → above.HasParts old.above t (parts_of regions.ins.now regions.outs.now (above.prepares regions)) new.above.spaces → MakesCall old t regions keys new
+pub call_made : (old new : Memory) (t : ℕ) (regions : CallRegions) (keys : List Key) → above.MakesCall old.above t regions keys new.above →
+    above.HasParts old.above t (parts_of regions.ins.now regions.outs.now (above.prepares regions)) new.above.spaces →
+    MakesCall old t regions keys new
 call_made old new t regions keys makes parts w past m stands c = record { whole = whole'; above = seen' }
   where
     kind : EventKind

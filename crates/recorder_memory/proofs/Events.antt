@@ -58,7 +58,14 @@ module _ (w : World) (past : List Mark) (t : ℕ) (keys : List Key) (kind : Even
       ∙ ap (λ n. let q : Mark = record { thread = m.thread; side = Replay; index = n; act = m.act } in q) allowed.index
       ∙ ap (λ u. let q : Mark = record { thread = u; side = Replay; index = length (events_with (begin w) (OfThread u) (seen past)); act = m.act } in q) h.thread
       ∙ ap (λ a. let q : Mark = record { thread = t; side = Replay; index = length (events_with (begin w) (OfThread t) (seen past)); act = a } in q) h.act_is
-      ∙ ap (λ k. let e : Event = record { kind = k; steps = h.event.steps; keys = h.event.keys; clock = h.event.clock } in let q : Mark = record { thread = t; side = Replay; index = length (events_with (begin w) (OfThread t) (seen past)); act = Made e } in q) h.kind_is
+      ∙ ap (λ k. let e : Event = record { kind = k; steps = h.event.steps; keys = h.event.keys; clock = h.event.clock } in let q : Mark =
+      record {
+        thread = t;
+        side = Replay;
+        index = length (events_with (begin w) (OfThread t) (seen past));
+        act =
+            Made e;
+      } in q) h.kind_is
 
   -- and memory above the cut stands for the run with it
   pub event_seen : (old new : Memory) → StandsForSeen w past old → above.MakesEvent old.above t keys kind new.above → StandsForAbove (program_of w) (placed w) (seen (m ∷ past)) new.above
@@ -78,7 +85,8 @@ module _ (old new : Memory) (t : ℕ) where
   pool_keyed : (kind : EventKind) (w : World) (past : List Mark) (m : Mark) → IsNextEvent w past t (key Pool 0 ∷ []) kind m → has m (OfKey (key Pool 0)) ≡ true
   pool_keyed kind w past m h = ap (λ a. is_listed (keys_of a) (key Pool 0)) h.act_is ∙ has_key h.event.keys h.keys_are
 
-  pub alloc_made : (size addr : ℕ) → above.MakesEvent old.above t (key Pool 0 ∷ []) (Alloc addr size) new.above → IsGiven old.above.spaces new.above.spaces size addr → Makes old t (key Pool 0 ∷ []) (Alloc addr size) new
+  pub alloc_made : (size addr : ℕ) → above.MakesEvent old.above t (key Pool 0 ∷ []) (Alloc addr size) new.above →
+      IsGiven old.above.spaces new.above.spaces size addr → Makes old t (key Pool 0 ∷ []) (Alloc addr size) new
   alloc_made size addr makes given w past m stands h = record {
     whole = go given;
     above = event_seen w past t (key Pool 0 ∷ []) (Alloc addr size) m h old new stands.above makes;
@@ -88,10 +96,11 @@ module _ (old new : Memory) (t : ℕ) where
       side = stands_above w past t (key Pool 0 ∷ []) (Alloc addr size) m h
 
       go : IsGiven old.above.spaces new.above.spaces size addr → StandsForWhole w (m ∷ past) new.above.spaces
-      go (inl g) = whole.allocs w past old.above.spaces new.above.spaces m h.event size addr stands.whole side g.least g.some g.sides g.fills g.held h.act_is h.kind_is (pool_keyed (Alloc addr size) w past m h)
+      go (inl g) = whole.allocs w past old.above.spaces new.above.spaces m h.event size addr stands.whole side g h.act_is h.kind_is (pool_keyed (Alloc addr size) w past m h)
       go (inr g) = subst (StandsForWhole w (m ∷ past)) (sym g.same) (whole.refused_allocs w past old.above.spaces m h.event size stands.whole side g.none h.act_is (h.kind_is ∙ ap (λ a. Alloc a size) g.addr_is))
 
-  pub free_made : (addr size : ℕ) → above.MakesEvent old.above t (key Pool 0 ∷ []) (Free addr size) new.above → IsFreed old.above.spaces new.above.spaces addr size → Makes old t (key Pool 0 ∷ []) (Free addr size) new
+  pub free_made : (addr size : ℕ) → above.MakesEvent old.above t (key Pool 0 ∷ []) (Free addr size) new.above →
+      IsFreed old.above.spaces new.above.spaces addr size → Makes old t (key Pool 0 ∷ []) (Free addr size) new
   free_made addr size makes freed w past m stands h = record {
     whole = go freed;
     above = event_seen w past t (key Pool 0 ∷ []) (Free addr size) m h old new stands.above makes;
@@ -101,5 +110,5 @@ module _ (old new : Memory) (t : ℕ) where
       side = stands_above w past t (key Pool 0 ∷ []) (Free addr size) m h
 
       go : IsFreed old.above.spaces new.above.spaces addr size → StandsForWhole w (m ∷ past) new.above.spaces
-      go (inl g) = whole.frees w past old.above.spaces new.above.spaces m h.event addr size stands.whole side g.block g.sides g.dead g.held g.free h.act_is h.kind_is (pool_keyed (Free addr size) w past m h)
+      go (inl g) = whole.frees w past old.above.spaces new.above.spaces m h.event addr size stands.whole side g.back g.free h.act_is h.kind_is (pool_keyed (Free addr size) w past m h)
       go (inr g) = subst (StandsForWhole w (m ∷ past)) (sym g.same) (whole.frees_of_null w past old.above.spaces m h.event stands.whole side h.act_is (h.kind_is ∙ (ap (λ a. Free a size) g.addr_is ∙ ap (Free 0) g.size_is)))

@@ -18,7 +18,9 @@ module _ (bytes : List AreaState) where
   all_filled (r ∷ rs) [] (suc n) le le' h = absurd (omega (arith, le'))
   all_filled (r ∷ rs) (u ∷ us) (suc n) le le' h = (h 0 (omega arith), all_filled rs us n (omega (arith, le)) (omega (arith, le')) (λ k lt. h (suc k) (omega (arith, lt))))
 
-  pub first_unfilled : (rs : List Region) (outs : List Range) (used : List ℕ) (n j : ℕ) (d : Range) → map (λ (r : Region). r.range) rs ≡ outs → j < n → n ≤ length rs → n ≤ length used → ((k : ℕ) → k < j → IsFilledAt rs used k) → (IsFilledAt rs used j → ⊥) → FirstUnfilled bytes (take n rs) used (get_or outs j d).addr
+  pub first_unfilled : (rs : List Region) (outs : List Range) (used : List ℕ) (n j : ℕ) (d : Range) →
+      map (λ (r : Region). r.range) rs ≡ outs → j < n → n ≤ length rs → n ≤ length used → ((k : ℕ) → k < j → IsFilledAt rs used k) →
+      (IsFilledAt rs used j → ⊥) → FirstUnfilled bytes (take n rs) used (get_or outs j d).addr
   first_unfilled rs outs used zero j d are lt le le' h not = absurd (omega (arith, lt))
   first_unfilled [] outs used (suc n) j d are lt le le' h not = absurd (omega (arith, le))
   first_unfilled (r ∷ rs) outs [] (suc n) j d are lt le le' h not = absurd (omega (arith, le'))

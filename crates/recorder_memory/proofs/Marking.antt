@@ -43,7 +43,8 @@ other_side : System ≡ Replay → ⊥
 other_side e = absurd cc
 
 -- what isn't told to the watch leaves memory above the cut as a replay sees it
-pub still_seen : (w : World) (past : List Mark) (old new : Memory) → StandsForSeen w past old → new.above.watch ≡ old.above.watch → StandsFor (begin w) (seen past) new.above.spaces → StandsForSeen w past new
+pub still_seen : (w : World) (past : List Mark) (old new : Memory) → StandsForSeen w past old → new.above.watch ≡ old.above.watch →
+    StandsFor (begin w) (seen past) new.above.spaces → StandsForSeen w past new
 still_seen w past old new h same spaces = record {
   goes_well = h.goes_well;
   spaces = spaces;
@@ -51,7 +52,8 @@ still_seen w past old new h same spaces = record {
 }
 
 -- and so does a mark below the cut
-pub below_stands : (w : World) (past : List Mark) (old new : Memory) (m : Mark) → m.side ≡ System → StandsForRun w past old → new.above.watch ≡ old.above.watch → StandsForWhole w (m ∷ past) new.above.spaces → StandsForRun w (m ∷ past) new
+pub below_stands : (w : World) (past : List Mark) (old new : Memory) (m : Mark) → m.side ≡ System → StandsForRun w past old →
+    new.above.watch ≡ old.above.watch → StandsForWhole w (m ∷ past) new.above.spaces → StandsForRun w (m ∷ past) new
 below_stands w past old new m below h same whole = record {
   whole = whole;
   above = subst (λ ps. StandsForAbove (program_of w) (placed w) ps new.above) (sym (seen_below w m past below))
@@ -64,7 +66,9 @@ module _ (w : World) (past : List Mark) (memory : Memory) (t : ℕ) (side : Side
   along P p = subst (λ u. P u to.step.side to.step.want) (sym to.thread) (subst (λ d. P t d to.step.want) (sym to.side_is) (subst (λ v. P t side v) (sym to.want_is) p))
 
 -- a mark that answers, agrees with the run and passes its tests is the next one
-pub below_marked : (w : World) (past : List Mark) (old new : Memory) (t : ℕ) (want : Want) (to : ComesTo w past old t System want) (act : Act) → is_event act ≡ false → is_some (answer_to want act) ≡ true → Agrees w past t System want act → Passes (tests w past t System want) → StandsForRun w (next_mark w past t System act ∷ past) new → IsMarked w past to.step act new
+pub below_marked : (w : World) (past : List Mark) (old new : Memory) (t : ℕ) (want : Want) (to : ComesTo w past old t System want) (act : Act) →
+    is_event act ≡ false → is_some (answer_to want act) ≡ true → Agrees w past t System want act → Passes (tests w past t System want) →
+    StandsForRun w (next_mark w past t System act ∷ past) new → IsMarked w past to.step act new
 below_marked w past old new t want to act plain answers agrees passes stands = record {
   made = record {
     mark = record { of_thread = refl; index = refl; above = λ e. absurd (other_side (sym to.side_is ∙ e)) };
@@ -76,7 +80,8 @@ below_marked w past old new t want to act plain answers agrees passes stands = r
 }
 
 -- memory with its own state in place of it, whatever says that its watch is for all threads
-pub with_spaces : (old : Memory) (spaces : SpaceState) (threads : length old.above.watch.rows ≡ THREADS) → spaces ≡ old.above.spaces → record { above = record { spaces = spaces; watch = old.above.watch; threads = threads } } ≡ old
+pub with_spaces : (old : Memory) (spaces : SpaceState) (threads : length old.above.watch.rows ≡ THREADS) → spaces ≡ old.above.spaces →
+    record { above = record { spaces = spaces; watch = old.above.watch; threads = threads } } ≡ old
 with_spaces old spaces threads e =
     ap (λ q. let m : Memory = record { above = record { spaces = q; watch = old.above.watch; threads = threads } } in m) e
     ∙ ap (λ k. let m : Memory = record { above = record { spaces = old.above.spaces; watch = old.above.watch; threads = k } } in m) (ℕ_set (length old.above.watch.rows) THREADS threads old.above.threads)

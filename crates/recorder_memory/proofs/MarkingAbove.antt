@@ -40,7 +40,10 @@ module _ (w : World) (past : List Mark) (old : Memory) (t : ℕ) (want : Want) (
     pub same_mark : above.next_mark (placed w) (seen past) t act ≡ next_mark w past t Replay act
     same_mark = ap (λ n. let m : Mark = record { thread = t; side = Replay; index = n; act = act } in m) (sym (ap length (events_seen w past to.follows (OfThread t))))
 
-    pub above_marked : is_event act ≡ false → is_some (answer_to want act) ≡ true → Agrees w past t Replay want act → Passes (tests w past t Replay want) → StandsForAbove (program_of w) (placed w) (above.next_mark (placed w) (seen past) t act ∷ seen past) new.above → StandsForWhole w (next_mark w past t Replay act ∷ past) new.above.spaces → IsMarked w past to.step act new
+    pub above_marked : is_event act ≡ false → is_some (answer_to want act) ≡ true → Agrees w past t Replay want act →
+        Passes (tests w past t Replay want) →
+        StandsForAbove (program_of w) (placed w) (above.next_mark (placed w) (seen past) t act ∷ seen past) new.above →
+        StandsForWhole w (next_mark w past t Replay act ∷ past) new.above.spaces → IsMarked w past to.step act new
     above_marked plain answers agrees passes stands whole = record {
       made = record {
         mark = record { of_thread = refl; index = refl; above = λ e. along w past old t Replay want to (λ u d v. Allowed (rules_above (interface w) (begin w) v) (begin w) (seen past) (next_mark w past u d act)) allowed };

@@ -31,11 +31,13 @@ module _ (i : Interface) (f : ℕ) (cs : Checks) where
 
 module _ (w : World) (past : List Mark) (t f : ℕ) (args : List ℕ) where
   -- a frame
-  pub frame_passes : (how : Calling) (bytes : List ℕ) → MayRunBelow w past (frame_want how f args bytes) → Passes (full_check w past t (length bytes)) → Passes (tests w past t System (frame_want how f args bytes))
+  pub frame_passes : (how : Calling) (bytes : List ℕ) → MayRunBelow w past (frame_want how f args bytes) →
+      Passes (full_check w past t (length bytes)) → Passes (tests w past t System (frame_want how f args bytes))
   frame_passes (Plainly i) bytes may p = indirect_passes (interface w) f (full_check w past t (length bytes)) i may p
   frame_passes ThroughPointer bytes may p = subst (λ b. Passes (back_checks w past t f bytes b)) (sym may.0) (mode_passes (interface w) f (full_check w past t (length bytes)) may.1 p)
 
-  pub frame_finds : (how : Calling) (bytes : List ℕ) (g : Finding) → MayRunBelow w past (frame_want how f args bytes) → Finds (full_check w past t (length bytes)) g → Finds (tests w past t System (frame_want how f args bytes)) g
+  pub frame_finds : (how : Calling) (bytes : List ℕ) (g : Finding) → MayRunBelow w past (frame_want how f args bytes) →
+      Finds (full_check w past t (length bytes)) g → Finds (tests w past t System (frame_want how f args bytes)) g
   frame_finds (Plainly i) bytes g may p = indirect_finds (interface w) f (full_check w past t (length bytes)) i g may p
   frame_finds ThroughPointer bytes g may p = subst (λ b. Finds (back_checks w past t f bytes b) g) (sym may.0) (mode_finds (interface w) f (full_check w past t (length bytes)) g may.1 p)
 

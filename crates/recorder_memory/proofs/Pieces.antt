@@ -43,7 +43,10 @@ module _ (old new : Memory) (t : ℕ) (r : Range) (bytes : List ℕ) (small : r.
   abbrev front : Range
   front = record { addr = r.addr; len = length bytes }
 
-  pub piece_written : length bytes ≤ r.len → IsAllowed old.above.spaces.bytes old.above.spaces.held.regions (access_below t true front) → HasBytes new.above.spaces.bytes r.addr bytes → SameOutside front old.above.spaces.bytes new.above.spaces.bytes → new.above.spaces ≡ record old.above.spaces { bytes = new.above.spaces.bytes } → new.above.watch ≡ old.above.watch → WritesPiece old t (To r) bytes new
+  pub piece_written : length bytes ≤ r.len → IsAllowed old.above.spaces.bytes old.above.spaces.held.regions (access_below t true front) →
+      HasBytes new.above.spaces.bytes r.addr bytes → SameOutside front old.above.spaces.bytes new.above.spaces.bytes →
+      new.above.spaces ≡ record old.above.spaces { bytes = new.above.spaces.bytes } → new.above.watch ≡ old.above.watch →
+      WritesPiece old t (To r) bytes new
   piece_written fits ok has outside rest same w past places pieces h = record {
     at = record {
       step = step;
@@ -56,9 +59,11 @@ module _ (old new : Memory) (t : ℕ) (r : Range) (bytes : List ℕ) (small : r.
     where
       step : InStep w past (pieces_for (places ++ To r ∷ []) (pieces ++ bytes ∷ [])) new.above.spaces
       step = subst (λ ps. InStep w past ps new.above.spaces) (sym (grow places pieces (To r) bytes h.at.count))
-          (writes w past old.above.spaces new.above.spaces t (pieces_for places pieces) r bytes h.at.step small fits has outside rest ok)
+          (writes w past old.above.spaces new.above.spaces t (pieces_for places pieces) r bytes h.at.step small fits (record { allowed = ok; bytes_are = has; others = outside; rest = rest }))
 
-  pub piece_refused : length bytes ≤ r.len → (refused : Refusal) (found : StepRefusal) → IsRefused old.above.spaces.bytes old.above.spaces.held.regions (access_below t true front) refused → found ≡ refusal_of refused → RefusesPiece old t (To r) bytes found
+  pub piece_refused : length bytes ≤ r.len → (refused : Refusal) (found : StepRefusal) →
+      IsRefused old.above.spaces.bytes old.above.spaces.held.regions (access_below t true front) refused → found ≡ refusal_of refused →
+      RefusesPiece old t (To r) bytes found
   piece_refused fits refused found p is w past places more pieces rest h =
       subst (IsFound (piece_checks w past t (places ++ To r ∷ more) (pieces ++ bytes ∷ rest))) (sym is)
       (as_found (piece_checks w past t (places ++ To r ∷ more) (pieces ++ bytes ∷ rest)) refused
@@ -92,7 +97,9 @@ none_written old t lt w past h = record {
 places_more : (xs : List PieceTarget) (i : ℕ) (d : PieceTarget) → i < length xs → targets_of (take (i + 1) xs) ≡ targets_of (take i xs) ++ target_of (get_or xs i d) ∷ []
 places_more xs i d lt = ap targets_of (take_more xs i d lt) ∙ map-append target_of (take i xs) (get_or xs i d ∷ [])
 
-pub one_more_written : (old mid new : Memory) (t : ℕ) (xs : List PieceTarget) (bs : List (List ℕ)) (i : ℕ) (d : PieceTarget) (b e : List ℕ) → i < length xs → i < length bs → b ≡ get_or bs i e → WritesAll old t (targets_of (take i xs)) (take i bs) mid → WritesPiece mid t (target_of (get_or xs i d)) b new → WritesAll old t (targets_of (take (i + 1) xs)) (take (i + 1) bs) new
+pub one_more_written : (old mid new : Memory) (t : ℕ) (xs : List PieceTarget) (bs : List (List ℕ)) (i : ℕ) (d : PieceTarget) (b e : List ℕ) →
+    i < length xs → i < length bs → b ≡ get_or bs i e → WritesAll old t (targets_of (take i xs)) (take i bs) mid →
+    WritesPiece mid t (target_of (get_or xs i d)) b new → WritesAll old t (targets_of (take (i + 1) xs)) (take (i + 1) bs) new
 one_more_written old mid new t xs bs i d b e lt lt' is before one w past h =
     subst (λ ps. IsWriting w past t ps (take (i + 1) bs) new) (sym (places_more xs i d lt))
     (subst (λ qs. IsWriting w past t (targets_of (take i xs) ++ target_of (get_or xs i d) ∷ []) qs new) (sym (take_more bs i e lt' ∙ ap (λ q. take i bs ++ q ∷ []) (sym is)))
@@ -111,7 +118,8 @@ found_in cs ds go (Breach kind addr other) p = go (BreachFound kind addr other) 
 found_in cs ds go refusal.Memory p = tt
 
 -- the tests of the step are those of its pieces
-module _ (w : World) (past : List Mark) (old : Memory) (t : ℕ) (indirect : Bool) (func : ℕ) (args : List ℕ) (result : ℕ) (places : List Target) (pieces : List (List ℕ)) (e : ComesToExternal w past old t indirect func args result places pieces) where
+module _ (w : World) (past : List Mark) (old : Memory) (t : ℕ) (indirect : Bool) (func : ℕ) (args : List ℕ) (result : ℕ)
+    (places : List Target) (pieces : List (List ℕ)) (e : ComesToExternal w past old t indirect func args result places pieces) where
   pieces_pass : Passes (piece_checks w past t places pieces) → Passes (tests w past t System (Steps indirect func args))
   pieces_pass p = step_passes w past t func args indirect e.to.modes
       (subst (λ o. Passes (step_checks w past t func args o)) (sym e.external)
@@ -124,7 +132,9 @@ module _ (w : World) (past : List Mark) (old : Memory) (t : ℕ) (indirect : Boo
       (subst (λ a. Finds (external_checks w past t func args a) g) (sym e.says)
       (subst (λ ps. Finds (piece_checks w past t ps pieces) g) (sym e.places_are) p)))
 
-pub piece_found : (old mid : Memory) (t : ℕ) (xs : List PieceTarget) (bs : List (List ℕ)) (i : ℕ) (d : PieceTarget) (b e : List ℕ) (found : StepRefusal) → i < length xs → i < length bs → b ≡ get_or bs i e → WritesAll old t (targets_of (take i xs)) (take i bs) mid → RefusesPiece mid t (target_of (get_or xs i d)) b found → RefusesAnswer old t (targets_of xs) bs found
+pub piece_found : (old mid : Memory) (t : ℕ) (xs : List PieceTarget) (bs : List (List ℕ)) (i : ℕ) (d : PieceTarget) (b e : List ℕ) (found : StepRefusal) →
+    i < length xs → i < length bs → b ≡ get_or bs i e → WritesAll old t (targets_of (take i xs)) (take i bs) mid →
+    RefusesPiece mid t (target_of (get_or xs i d)) b found → RefusesAnswer old t (targets_of xs) bs found
 piece_found old mid t xs bs i d b e found lt lt' is before one w past indirect func args result x =
     found_in (piece_checks w past t (targets_of xs) bs) (tests w past t System (Steps indirect func args)) (pieces_find w past old t indirect func args result (targets_of xs) bs x) found
     (subst (λ ps. IsFound (piece_checks w past t ps bs) found) (sym (splits xs i d lt))
@@ -162,7 +172,8 @@ answered old new t places pieces same all w past indirect func args result e =
     done = all w past e.to.stands
 
 -- at the end of the loop all were written
-pub all_written : (old new : Memory) (t : ℕ) (xs : List PieceTarget) (bs : List (List ℕ)) (i : ℕ) → length xs ≤ i → length bs ≤ i → WritesAll old t (targets_of (take i xs)) (take i bs) new → WritesAll old t (targets_of xs) bs new
+pub all_written : (old new : Memory) (t : ℕ) (xs : List PieceTarget) (bs : List (List ℕ)) (i : ℕ) → length xs ≤ i → length bs ≤ i →
+    WritesAll old t (targets_of (take i xs)) (take i bs) new → WritesAll old t (targets_of xs) bs new
 all_written old new t xs bs i le le' all =
     subst (λ ys. WritesAll old t (targets_of ys) bs new) (take_all i xs le)
     (subst (λ cs. WritesAll old t (targets_of (take i xs)) cs new) (take_all i bs le') all)

@@ -1,13 +1,12 @@
 -- The pool below the cut.
-use Rattle.std.proofs.Common.{◌≡◌, ◌↔◌, ◌⊎◌, ℕ, zero, suc, ◌<◌, ◌≤◌, [], length, Some, None, Result, Ok, Err, refl, sym, subst, arith}
+use Rattle.std.proofs.Common.{◌≡◌, ◌↔◌, ℕ, zero, suc, ◌<◌, [], length, Some, None, Result, Ok, Err, refl, sym, subst, arith}
 use Rattle.marks.specs.declared.side.Side.TheVariants.{System}
 use Rattle.marks.specs.Marks.{Act, Step}
 use Rattle.marks.specs.Bytes.{granted}
 use Rattle.marks.specs.Wants.{Steps}
 use Rattle.memory_map.specs.declared.areas.TheConstants.{THREADS}
 use Rattle.c_code.specs.Machine.{first}
-use Rattle.pool_list.specs.Blocks.{length_at, with_block, without_block}
-use Rattle.pool_list.specs.Places.{IsPlace, IsLeastPlace}
+use Rattle.pool_list.specs.Blocks.{length_at, without_block}
 use Rattle.space_memory_bytes.specs.Numbers.{FillsWith}
 use Rattle.space_memory_access.specs.declared.refusal.Refusal.{Refusal}
 use Rattle.space_memory.specs.Sides.{with_blocks}
@@ -31,23 +30,12 @@ use Rattle.recorder_memory.specs.Below.{GivesBlock, FreesBlock, RefusesFree}
 use Rattle.recorder_memory.proofs.Replies.{step_answers}
 use Rattle.recorder_memory.proofs.Modes.{step_passes, step_finds}
 use Rattle.recorder_memory.proofs.Marking.{below_stands, below_marked, with_spaces}
+use Rattle.space_memory_laws.specs.Changes.{IsTaken, GivesNone, IsGivenBack}
 
 -- ---- blocks that are given
 
--- a block that the pool gave
-pub record IsTaken (old new : SpaceState) (size addr : ℕ) : Type 0 where
-  pub least : IsLeastPlace old.sides.system.pool size addr
-  pub some : 1 ≤ size
-  pub sides : new.sides ≡ with_side old.sides System (with_blocks old.sides.system (with_block old.sides.system.pool.blocks (record { addr = addr; len = size })))
-  pub fills : FillsWith (record { addr = addr; len = size }) (Some 0) old.bytes new.bytes
-  pub held : new.held ≡ old.held
-
--- it gives none of this size
-abbrev pub GivesNone : SpaceState → ℕ → Type 0
-GivesNone memory size = (size ≡ 0) ⊎ ((addr : ℕ) → IsPlace memory.sides.system.pool size addr → ⊥)
-
 module _ (old new : Memory) (size addr : ℕ) (same : new.above.watch ≡ old.above.watch) where
-  pub taken_given : IsTaken old.above.spaces new.above.spaces size addr → GivesBlock old size addr new
+  pub taken_given : IsTaken System old.above.spaces new.above.spaces size addr → GivesBlock old size addr new
   taken_given taken w past t indirect func args b e =
       subst (λ n. IsMarked w past b.to.step (Step func args addr [] (zeros addr (granted addr n)) []) new) e
       (below_marked w past old new t (Steps indirect func args) b.to act refl (step_answers indirect func args addr [] (zeros addr (granted addr (first args))) [])
@@ -58,13 +46,13 @@ module _ (old new : Memory) (size addr : ℕ) (same : new.above.watch ≡ old.ab
       act : Act
       act = Step func args addr [] (zeros addr (granted addr (first args))) []
 
-      given : IsTaken old.above.spaces new.above.spaces (first args) addr
-      given = subst (λ n. IsTaken old.above.spaces new.above.spaces n addr) (sym e) taken
+      given : IsTaken System old.above.spaces new.above.spaces (first args) addr
+      given = subst (λ n. IsTaken System old.above.spaces new.above.spaces n addr) (sym e) taken
 
       mark : IsWholeMark w past (Steps indirect func args) (next_mark w past t System act) new.above.spaces
-      mark = whole.allocs w past old.above.spaces new.above.spaces (next_mark w past t System act) (Steps indirect func args) func args addr b.to.stands.whole refl b.builtin given.least given.some given.sides given.fills given.held refl
+      mark = whole.allocs w past old.above.spaces new.above.spaces (next_mark w past t System act) (Steps indirect func args) func args addr b.to.stands.whole refl b.builtin given refl
 
-pub none_given : (old : Memory) (size : ℕ) → GivesNone old.above.spaces size → GivesBlock old size 0 old
+pub none_given : (old : Memory) (size : ℕ) → GivesNone System old.above.spaces size → GivesBlock old size 0 old
 none_given old size none w past t indirect func args b e =
     subst (λ n. IsMarked w past b.to.step (Step func args 0 [] (zeros 0 (granted 0 n)) []) old) e
     (below_marked w past old old t (Steps indirect func args) b.to act refl (step_answers indirect func args 0 [] (zeros 0 (granted 0 (first args))) [])
@@ -76,16 +64,9 @@ none_given old size none w past t indirect func args b e =
     act = Step func args 0 [] (zeros 0 (granted 0 (first args))) []
 
     mark : IsWholeMark w past (Steps indirect func args) (next_mark w past t System act) old.above.spaces
-    mark = whole.refused_allocs w past old.above.spaces (next_mark w past t System act) (Steps indirect func args) func args b.to.stands.whole refl b.builtin (subst (GivesNone old.above.spaces) (sym e) none) refl
+    mark = whole.refused_allocs w past old.above.spaces (next_mark w past t System act) (Steps indirect func args) func args b.to.stands.whole refl b.builtin (subst (GivesNone System old.above.spaces) (sym e) none) refl
 
 -- ---- blocks that are freed
-
--- a block that the pool took back
-pub record IsGivenBack (old new : SpaceState) (addr size : ℕ) : Type 0 where
-  pub block : length_at old.sides.system.pool.blocks addr ≡ Some size
-  pub sides : new.sides ≡ with_side old.sides System (with_blocks old.sides.system (without_block old.sides.system.pool.blocks addr))
-  pub fills : FillsWith (record { addr = addr; len = size }) None old.bytes new.bytes
-  pub held : new.held ≡ old.held
 
 -- memory refuses to free the block for this
 abbrev pub IsRefusedFree : SpaceState → ℕ → Refusal → Type 0
@@ -105,7 +86,7 @@ null_freed old w past t indirect func args b e =
     mark = whole.frees_of_null w past old.above.spaces (next_mark w past t System act) (Steps indirect func args) func args b.to.stands.whole refl b.builtin e refl
 
 module _ (old new : Memory) (addr size : ℕ) (same : new.above.watch ≡ old.above.watch) where
-  pub block_freed : 0 < addr → IsGivenBack old.above.spaces new.above.spaces addr size → ((r : Refusal) → IsRefusedFree old.above.spaces addr r → ⊥) → FreesBlock old addr new
+  pub block_freed : 0 < addr → IsGivenBack System old.above.spaces new.above.spaces addr size → ((r : Refusal) → IsRefusedFree old.above.spaces addr r → ⊥) → FreesBlock old addr new
   block_freed some back free' w past t indirect func args b e =
       subst (λ a. IsMarked w past b.to.step (Step func args 0 [] [] (block_at a past)) new) e
       (below_marked w past old new t (Steps indirect func args) b.to act refl (step_answers indirect func args 0 [] [] (block_at (first args) past))
@@ -116,30 +97,39 @@ module _ (old new : Memory) (addr size : ℕ) (same : new.above.watch ≡ old.ab
       act : Act
       act = Step func args 0 [] [] (block_at (first args) past)
 
-      given : IsGivenBack old.above.spaces new.above.spaces (first args) size
-      given = subst (λ a. IsGivenBack old.above.spaces new.above.spaces a size) (sym e) back
+      given : IsGivenBack System old.above.spaces new.above.spaces (first args) size
+      given = subst (λ a. IsGivenBack System old.above.spaces new.above.spaces a size) (sym e) back
 
       mark : IsWholeMark w past (Steps indirect func args) (next_mark w past t System act) new.above.spaces
-      mark = whole.frees w past old.above.spaces new.above.spaces (next_mark w past t System act) (Steps indirect func args) func args size b.to.stands.whole refl b.builtin given.block given.sides given.fills given.held refl
+      mark = whole.frees w past old.above.spaces new.above.spaces (next_mark w past t System act) (Steps indirect func args) func args size b.to.stands.whole refl b.builtin given refl
 
       passes : (a : ℕ) → 0 < a → ((r : Refusal) → IsRefusedFree old.above.spaces a r → ⊥) → Passes (free_checks w past a)
       passes zero lt none = absurd (omega (arith, lt))
       passes (suc a) lt none = (free w past old.above.spaces a b.to.stands.whole).passes.1 none
 
-pub free_refused : (old : Memory) (addr : ℕ) (refused : Refusal) (found : StepRefusal) → 0 < addr → IsRefusedFree old.above.spaces addr refused → found ≡ refusal_of refused → RefusesFree old addr found
+pub free_refused : (old : Memory) (addr : ℕ) (refused : Refusal) (found : StepRefusal) → 0 < addr →
+    IsRefusedFree old.above.spaces addr refused → found ≡ refusal_of refused → RefusesFree old addr found
 free_refused old addr refused found some p is w past t indirect func args b e =
     subst (IsFound (tests w past t System (Steps indirect func args))) (sym is)
     (as_found (tests w past t System (Steps indirect func args)) refused
-    (step_finds w past t func args indirect _ b.to.modes (subst (λ o. Finds (step_checks w past t func args o) (finding_of refused)) (sym b.builtin) (subst (λ a. Finds (free_checks w past a) (finding_of refused)) (sym e) (finds addr some p)))))
+    (step_finds w past t func args indirect _ b.to.modes
+    (subst (λ o. Finds (step_checks w past t func args o) (finding_of refused)) (sym b.builtin)
+    (subst (λ a. Finds (free_checks w past a) (finding_of refused)) (sym e) (finds addr some p)))))
   where
     finds : (a : ℕ) → 0 < a → IsRefusedFree old.above.spaces a refused → Finds (free_checks w past a) (finding_of refused)
     finds zero lt q = absurd (omega (arith, lt))
     finds (suc a) lt q = (free w past old.above.spaces a b.to.stands.whole).of_refused refused q
 
 -- what `free_in` answers
-pub freed : (old : Memory) (spaces : SpaceState) (threads : length old.above.watch.rows ≡ THREADS) (addr size : ℕ) (result : Result ℕ Refusal) → result ≡ Ok size → (addr ≡ 0 → (result ≡ Ok 0) × (spaces ≡ old.above.spaces)) → (0 < addr → length_at old.above.spaces.sides.system.pool.blocks addr ≡ Some size) → (0 < addr → spaces.sides ≡ with_side old.above.spaces.sides System (with_blocks old.above.spaces.sides.system (without_block old.above.spaces.sides.system.pool.blocks addr))) → FillsWith (record { addr = addr; len = size }) None old.above.spaces.bytes spaces.bytes → spaces.held ≡ old.above.spaces.held → ((r : Refusal) → (result ≡ Err r) ↔ ((0 < addr) × IsRefusedFree old.above.spaces addr r)) → FreesBlock old addr (record { above = record { spaces = spaces; watch = old.above.watch; threads = threads } })
+pub freed : (old : Memory) (spaces : SpaceState) (threads : length old.above.watch.rows ≡ THREADS) (addr size : ℕ) (result : Result ℕ Refusal) →
+    result ≡ Ok size → (addr ≡ 0 → (result ≡ Ok 0) × (spaces ≡ old.above.spaces)) →
+    (0 < addr → length_at old.above.spaces.sides.system.pool.blocks addr ≡ Some size) →
+    (0 < addr → spaces.sides ≡ with_side old.above.spaces.sides System (with_blocks old.above.spaces.sides.system (without_block old.above.spaces.sides.system.pool.blocks addr))) →
+    FillsWith (record { addr = addr; len = size }) None old.above.spaces.bytes spaces.bytes → spaces.held ≡ old.above.spaces.held →
+    ((r : Refusal) → (result ≡ Err r) ↔ ((0 < addr) × IsRefusedFree old.above.spaces addr r)) →
+    FreesBlock old addr (record { above = record { spaces = spaces; watch = old.above.watch; threads = threads } })
 freed old spaces threads zero size result is null block sides fills held refused = subst (FreesBlock old 0) (sym (with_spaces old spaces threads (null refl).1)) (null_freed old)
 freed old spaces threads (suc a) size result is null block sides fills held refused =
     block_freed old (record { above = record { spaces = spaces; watch = old.above.watch; threads = threads } }) (suc a) size refl (omega arith)
-    (record { block = block (omega arith); sides = sides (omega arith); fills = fills; held = held })
+    (record { block = block (omega arith); sides = sides (omega arith); dead = fills; held = held })
     (λ r p. not_both result size r is ((refused r).1 (omega arith, p)))

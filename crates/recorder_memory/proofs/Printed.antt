@@ -49,7 +49,8 @@ in_a_row_more (q ∷ ps) p = ap (λ bs. q.bytes ++ bs) (in_a_row_more ps p) ∙ 
 pub none_read : (memory : SpaceState) (t : ℕ) → AreRead memory t [] []
 none_read memory t = record { pieces = []; ranges_are = refl; read = All-nil (IsRead memory t); bytes_are = refl }
 
-pub read_more : (memory : SpaceState) (t : ℕ) (ranges : List Range) (i : ℕ) (d : Range) (old new : List ℕ) → i < length ranges → AreRead memory t (take i ranges) old → ReadsOn memory t (get_or ranges i d) old new → AreRead memory t (take (i + 1) ranges) new
+pub read_more : (memory : SpaceState) (t : ℕ) (ranges : List Range) (i : ℕ) (d : Range) (old new : List ℕ) → i < length ranges →
+    AreRead memory t (take i ranges) old → ReadsOn memory t (get_or ranges i d) old new → AreRead memory t (take (i + 1) ranges) new
 read_more memory t ranges i d old new lt before one =
     let piece : Piece = record { range = get_or ranges i d; bytes = one.0 } in
     record {
@@ -109,14 +110,19 @@ printed memory t ranges bytes lt are w past indirect func args b is = record {
     agrees = print_agrees read_is (builtin_of func) refl b.builtin
 
     passes : Passes (step_checks w past t func args (builtin_of func))
-    passes = subst (λ o. Passes (step_checks w past t func args o)) (sym b.builtin) (subst (λ rs. Passes (read_checks w past t rs)) (sym is) (reads_pass w past memory.above.spaces t ranges b.to.stands.whole lt (all_may memory.above.spaces t ranges bytes are)))
+    passes = subst (λ o. Passes (step_checks w past t func args o)) (sym b.builtin)
+        (subst (λ rs. Passes (read_checks w past t rs)) (sym is)
+        (reads_pass w past memory.above.spaces t ranges b.to.stands.whole lt (all_may memory.above.spaces t ranges bytes are)))
 
 -- at the end of the loop all were read
-pub all_printed : (memory : declared.Memory) (t : ℕ) (ranges : List Range) (i : ℕ) (bytes : List ℕ) → t < thread_count → length ranges ≤ i → AreRead memory.above.spaces t (take i ranges) bytes → Prints memory t ranges bytes
+pub all_printed : (memory : declared.Memory) (t : ℕ) (ranges : List Range) (i : ℕ) (bytes : List ℕ) → t < thread_count → length ranges ≤ i →
+    AreRead memory.above.spaces t (take i ranges) bytes → Prints memory t ranges bytes
 all_printed memory t ranges i bytes lt le are = printed memory t ranges bytes lt (subst (λ rs. AreRead memory.above.spaces t rs bytes) (take_all i ranges le) are)
 
 -- a range that memory refuses, after those before it were read
-pub print_refused : (memory : declared.Memory) (t : ℕ) (ranges : List Range) (i : ℕ) (d : Range) (bytes : List ℕ) (found : StepRefusal) → t < thread_count → i < length ranges → AreRead memory.above.spaces t (take i ranges) bytes → RefusesOn memory.above.spaces t (get_or ranges i d) found → RefusesPrint memory t ranges found
+pub print_refused : (memory : declared.Memory) (t : ℕ) (ranges : List Range) (i : ℕ) (d : Range) (bytes : List ℕ) (found : StepRefusal) →
+    t < thread_count → i < length ranges → AreRead memory.above.spaces t (take i ranges) bytes →
+    RefusesOn memory.above.spaces t (get_or ranges i d) found → RefusesPrint memory t ranges found
 print_refused memory t ranges i d bytes found lt there before (inl is) w past indirect func args b e = subst (IsFound (tests w past t System (Steps indirect func args))) (sym is) tt
 print_refused memory t ranges i d bytes found lt there before (inr r) w past indirect func args b e =
     subst (IsFound (tests w past t System (Steps indirect func args))) (sym r.refusal_is)

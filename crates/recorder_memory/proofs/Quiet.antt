@@ -118,12 +118,15 @@ steps_of_threads memory w past t indirect func args b result c is says =
 
 -- ---- calls
 
-held_call : (memory : Memory) (t func : ℕ) (args : List ℕ) (outs : List Range) (calls : List OpenCall) → HoldsFor memory.above.spaces.held t calls → Closes calls func args outs → HoldsCall memory t outs
+held_call : (memory : Memory) (t func : ℕ) (args : List ℕ) (outs : List Range) (calls : List OpenCall) →
+    HoldsFor memory.above.spaces.held t calls → Closes calls func args outs → HoldsCall memory t outs
 held_call memory t func args outs [] h closes = absurd closes
 held_call memory t func args outs (c ∷ cs) h closes = record {
   depth = let d = h.depth in omega (arith, d);
   regions = h.outs (slice_index memory.above.spaces.held.depths t)
-      ∙ cond-true (eqb (slice_index memory.above.spaces.held.depths t) (suc (length cs))) c.outs (ranges_at (λ q. q.outs) (slice_index memory.above.spaces.held.depths t) cs) (eq-eqb (slice_index memory.above.spaces.held.depths t) (suc (length cs)) h.depth)
+      ∙ cond-true (eqb (slice_index memory.above.spaces.held.depths t) (suc (length cs))) c.outs
+      (ranges_at (λ q. q.outs) (slice_index memory.above.spaces.held.depths t) cs)
+      (eq-eqb (slice_index memory.above.spaces.held.depths t) (suc (length cs)) h.depth)
       ∙ sym closes.2;
 }
 

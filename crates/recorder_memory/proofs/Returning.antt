@@ -11,14 +11,14 @@ use Rattle.replay_runs.specs.Rules.{Carries, EventCarries, replay_rules}
 use Rattle.space_memory_access.specs.declared.refusal.Refusal.{Refusal}
 use Rattle.space_memory_access.specs.Held.{innermost}
 use Rattle.space_memory.specs.Releases.{AllReturned, HasKey, IsReleaseRefused}
-use Rattle.space_memory_laws.specs.Returns.{CommitsAs, IsRet, filled}
+use Rattle.space_memory_laws.specs.Returns.{CommitsAs, IsRet, filled, ShowsRet}
 use Rattle.space_memory_laws.proofs.ReturnChecks.{returns_found}
 use Rattle.space_memory_laws.proofs.Returns as landed
 use Rattle.steps_above_memory.specs.Above.{StandsForAbove}
 use Rattle.steps_above_memory.specs.declared.refusal.StepRefusal.{StepRefusal}
 use Rattle.steps_above_memory.specs.Refusals.{IsFound, refusal_of}
 use Rattle.steps_above_memory.specs.Returns as above
-use Rattle.steps_above_memory.specs.Spaces.{IsReleased}
+use Rattle.space_memory_laws.specs.Changes.{IsReleased}
 use Rattle.steps_above_memory.proofs.Ranges.{as_found}
 use Rattle.whole_runs.specs.World.{World, begin, interface, program_of}
 use Rattle.whole_runs.specs.Sides.{seen}
@@ -69,7 +69,9 @@ module _ (memory : Memory) (t : ℕ) (used : List ℕ) (committing : Option (ℕ
     seen_found refusal refuses = found_in (return_checks (interface w) (begin w) (seen past) (filled memory.above.spaces) func args result) (ret_checks w past func args result pieces) seen_finds refusal
         (refuses (program_of w) (placed w) (seen past) func args result a.above (record { closes = e.closes; sizes = e.sizes; commits = e.committed }))
 
-  pub allowed_passes : HasKey memory.above.spaces.held.regions committing → AllReturned memory.above.spaces.bytes memory.above.spaces.held.regions (innermost memory.above.spaces.held t) used committing → PassesReturn memory t used committing
+  pub allowed_passes : HasKey memory.above.spaces.held.regions committing →
+      AllReturned memory.above.spaces.bytes memory.above.spaces.held.regions (innermost memory.above.spaces.held t) used committing →
+      PassesReturn memory t used committing
   allowed_passes key all w past func args result pieces a e = (finds w past func args result pieces a e).passes.1 (key, all)
 
   pub refused_found : (refused : Refusal) (found : StepRefusal) → Refused refused → found ≡ refusal_of refused → RefusesReturn memory t used committing found
@@ -80,7 +82,9 @@ module _ (memory : Memory) (t : ℕ) (used : List ℕ) (committing : Option (ℕ
   pub above_found : (found : StepRefusal) → above.RefusesReturn memory.above t used committing found → RefusesReturn memory t used committing found
   above_found found refuses w past func args result pieces a e = seen_found w past func args result pieces a e found refuses
 
-pub return_made : (old new : Memory) (t : ℕ) (used : List ℕ) (committing : Option (ℕ × ℕ)) (ranges : List Range) (keys : List Key) → t < thread_count → above.MakesReturn old.above t used committing ranges keys new.above → IsReleased old.above.spaces new.above.spaces t used committing → MakesReturn old t used committing ranges keys new
+pub return_made : (old new : Memory) (t : ℕ) (used : List ℕ) (committing : Option (ℕ × ℕ)) (ranges : List Range) (keys : List Key) →
+    t < thread_count → above.MakesReturn old.above t used committing ranges keys new.above →
+    IsReleased old.above.spaces new.above.spaces t used committing → MakesReturn old t used committing ranges keys new
 return_made old new t used committing ranges keys lt makes done w past m r = record { whole = whole'; above = seen' }
   where
     kind : EventKind
@@ -102,11 +106,23 @@ return_made old new t used committing ranges keys lt makes done w past m r = rec
     small : m.thread < thread_count
     small = subst (λ u. u < thread_count) (sym r.next.thread) lt
 
+    shown : ShowsRet (begin w) (seen past) old.above.spaces m r.func r.args r.up r.commit used committing
+    shown = record {
+      event = r.next.event;
+      act = r.next.act_is;
+      result = r.result;
+      same = r.same;
+      kind = r.next.kind_is;
+      closes = carried.closes;
+      commits = r.commits;
+      shows = r.shows;
+    }
+
     is_ret : IsRet (begin w) (seen past) m r.up committing r.commit new.above.spaces
-    is_ret = landed.returns (begin w) (seen past) old.above.spaces new.above.spaces m r.next.event r.func r.args r.result r.same r.up r.commit used committing r.answered.step.stands.above small released_by.regions released_by.depths released_by.rest released_by.key released_by.returned r.next.act_is r.next.kind_is carried.closes r.commits r.shows
+    is_ret = landed.returns (begin w) (seen past) old.above.spaces new.above.spaces m r.func r.args r.up r.commit used committing r.answered.step.stands.above small released_by shown
 
     whole' : StandsForWhole w (m ∷ past) new.above.spaces
-    whole' = whole.returned w past old.above.spaces new.above.spaces m r.next.event r.func r.args r.result r.same r.up r.commit used committing (pieces_for (targets w Replay past r.func r.args r.result) r.answer) r.answered.step side small released_by.regions released_by.depths released_by.rest released_by.key released_by.returned r.next.act_is r.next.kind_is carried.closes r.commits r.shows
+    whole' = whole.returned w past old.above.spaces new.above.spaces m r.func r.args r.up r.commit used committing (pieces_for (targets w Replay past r.func r.args r.result) r.answer) r.answered.step side small released_by shown
         (whole.lie w past r.func r.args r.result r.up r.commit r.answer r.outs_are carried.committed is_ret.in_use)
 
     seen' : StandsForAbove (program_of w) (placed w) (seen (m ∷ past)) new.above

@@ -6,17 +6,17 @@ use Rattle.marks.specs.Places.{is_system}
 use Rattle.marks.specs.declared.range.Range.{Range}
 use Rattle.marks.specs.Ranges.{bytes_of_number, within, covers}
 use Rattle.marks.specs.Ranges as marks
-use Rattle.marks.specs.Marks.{Load, Store, Mark}
+use Rattle.marks.specs.Marks.{Mark}
 use Rattle.marks.specs.Bytes.{Live, IsLive, cell_after, block_after, Asks}
 use Rattle.space_memory_bytes.specs.Areas.{AreaState, byte_at, IsDead}
-use Rattle.space_memory_bytes.specs.Numbers.{HasNumber, SameOutside}
+use Rattle.space_memory_bytes.specs.Numbers.{HasNumber}
 use Rattle.space_memory_access.specs.declared.access.Access.{Access}
 use Rattle.space_memory_access.specs.Accesses.{IsAllowed}
 use Rattle.replay_runs.specs.Runs.{Start, byte}
 use Rattle.space_memory.specs.Spaces.{SpaceState}
 use Rattle.space_memory_laws.specs.Shown.{value_when_held, cell_of}
 use Rattle.space_memory_laws.specs.StandsFor.{StandsFor}
-use Rattle.space_memory_laws.specs.Marks.{IsQuiet, IsMark}
+use Rattle.space_memory_laws.specs.Marks.{IsQuiet, LoadsAreMarks, StoresAreMarks}
 use Rattle.space_memory_laws.proofs.Backs.{still_leaves, IsStill}
 use Rattle.space_memory_laws.proofs.Cells.{cover_cases, cover_parts, live_ends, not_system, unheld}
 use Rattle.space_memory_laws.proofs.Digits.{count, digit_is}
@@ -67,14 +67,15 @@ module _ (s : Start) (past : List Mark) (old : SpaceState) (thread addr width : 
       subst IsLive (sym o.cell) (live_cell (byte_at old.bytes x) o.live)
 
 -- a byte of a number in memory is one of the bytes of a mark
-pub number_byte : (bytes : List AreaState) (addr width value x : ℕ) → HasNumber bytes addr width value → covers (reach addr width) x ≡ true → byte_at bytes x ≡ Some (marks.byte_at addr (bytes_of_number width value) x)
+pub number_byte : (bytes : List AreaState) (addr width value x : ℕ) → HasNumber bytes addr width value → covers (reach addr width) x ≡ true →
+    byte_at bytes x ≡ Some (marks.byte_at addr (bytes_of_number width value) x)
 number_byte bytes addr width value x has c =
     let p = cover_parts (reach addr width) x c in
     let at : addr + (x - addr) ≡ x = omega (arith, p.0) in
     ap (byte_at bytes) (sym at) ∙ has (x - addr) (omega (arith, p.0, p.1)) ∙ ap (λ v. Some v) (sym (digit_is width value (x - addr) (omega (arith, p.0, p.1))))
 
-pub loads : (s : Start) (past : List Mark) (memory : SpaceState) (m : Mark) (origin : Option ℕ) (thread addr width value : ℕ) → StandsFor s past memory → addr < 2 ^ 64 → HasNumber memory.bytes addr width value → IsAllowed memory.bytes memory.held.regions (code_access thread addr width false) → m.act ≡ Load origin addr (bytes_of_number width value) → IsMark s past m memory
-loads s past memory m origin thread addr width value h small has ok is = record {
+pub loads : LoadsAreMarks
+loads s past memory m origin thread addr width value h small l is = record {
   asks = subst (λ a. Asks a (λ x. byte s x past)) (sym is) shown;
   stands = quiet s past memory m h (subst IsQuiet (sym is) tt);
 }
@@ -82,26 +83,29 @@ loads s past memory m origin thread addr width value h small has ok is = record 
     shown : (x : ℕ) → within addr (length (bytes_of_number width value)) x ≡ true → (byte s x past).cell ≡ Live (marks.byte_at addr (bytes_of_number width value) x)
     shown x w =
         let c : covers (reach addr width) x ≡ true = subst (λ n. within addr n x ≡ true) (count width value) w in
-        let o = open_byte s past memory thread addr width false h small ok x c in
-        o.cell ∙ ap (λ b. cell_of b None) (number_byte memory.bytes addr width value x has c)
+        let o = open_byte s past memory thread addr width false h small l.allowed x c in
+        o.cell ∙ ap (λ b. cell_of b None) (number_byte memory.bytes addr width value x l.number c)
 
-pub stores : (s : Start) (past : List Mark) (old new : SpaceState) (m : Mark) (origin : Option ℕ) (thread addr width value : ℕ) → StandsFor s past old → addr < 2 ^ 64 → HasNumber new.bytes addr width value → SameOutside (reach addr width) old.bytes new.bytes → new ≡ record old { bytes = new.bytes } → IsAllowed old.bytes old.held.regions (code_access thread addr width true) → m.act ≡ Store origin addr (bytes_of_number width value) → IsMark s past m new
-stores s past old new m origin thread addr width value h small has outside same ok is = record {
-  asks = subst (λ a. Asks a (λ x. byte s x past)) (sym is) (λ x w. open_live s past old thread addr width true h small ok x (subst (λ n. within addr n x ≡ true) (count width value) w));
+pub stores : StoresAreMarks
+stores s past old new m origin thread addr width value h small k is = record {
+  asks = subst (λ a. Asks a (λ x. byte s x past)) (sym is) (λ x w. open_live s past old thread addr width true h small k.allowed x (subst (λ n. within addr n x ≡ true) (count width value) w));
   stands = moved s m past old new h (still_leaves s m past (subst IsStill (sym is) (record { frames = λ fs. refl; calls = λ cs. refl; blocks = λ bs. refl; keys = λ k r. refl })))
-      (ap (λ (q : SpaceState). q.held) same) (ap (λ (q : SpaceState). q.sides) same)
+      (ap (λ (q : SpaceState). q.held) k.rest) (ap (λ (q : SpaceState). q.sides) k.rest)
       (λ x own. ap (λ a. cell_after a x (byte s x past).cell) is ∙ ap (λ n. cond (within addr n x) (Live (marks.byte_at addr (bytes_of_number width value) x)) (byte s x past).cell) (count width value) ∙ written x own)
       (λ x. ap (λ a. block_after a x (byte s x past).block) is)
       (λ x. elim (cover_cases (reach addr width) x) [
-        | inl in' ↦ ap is_some (number_byte new.bytes addr width value x has in'.is) ∙ sym (some_live (byte_at old.bytes x) (open_byte s past old thread addr width true h small ok x in'.is).live)
-        | inr out ↦ ap is_some (outside.bytes x out.is)
+        | inl in' ↦
+            ap is_some (number_byte new.bytes addr width value x k.number in'.is)
+            ∙ sym (some_live (byte_at old.bytes x) (open_byte s past old thread addr width true h small k.allowed x in'.is).live)
+        | inr out ↦ ap is_some (k.others.bytes x out.is)
       ]);
 }
   where
-    written : (x : ℕ) → is_system x ≡ false → cond (covers (reach addr width) x) (Live (marks.byte_at addr (bytes_of_number width value) x)) (byte s x past).cell ≡ cell_of (byte_at new.bytes x) (value_when_held old.held.regions x)
+    written : (x : ℕ) → is_system x ≡ false →
+        cond (covers (reach addr width) x) (Live (marks.byte_at addr (bytes_of_number width value) x)) (byte s x past).cell ≡ cell_of (byte_at new.bytes x) (value_when_held old.held.regions x)
     written x own = elim (cover_cases (reach addr width) x) [
       | inl in' ↦
-          let o = open_byte s past old thread addr width true h small ok x in'.is in
-          cond-true (covers (reach addr width) x) _ _ in'.is ∙ sym (ap (cell_of (byte_at new.bytes x)) o.free ∙ ap (λ b. cell_of b None) (number_byte new.bytes addr width value x has in'.is))
-      | inr out ↦ cond-false (covers (reach addr width) x) _ _ out.is ∙ h.bytes x own ∙ ap (λ b. cell_of b (value_when_held old.held.regions x)) (sym (outside.bytes x out.is))
+          let o = open_byte s past old thread addr width true h small k.allowed x in'.is in
+          cond-true (covers (reach addr width) x) _ _ in'.is ∙ sym (ap (cell_of (byte_at new.bytes x)) o.free ∙ ap (λ b. cell_of b None) (number_byte new.bytes addr width value x k.number in'.is))
+      | inr out ↦ cond-false (covers (reach addr width) x) _ _ out.is ∙ h.bytes x own ∙ ap (λ b. cell_of b (value_when_held old.held.regions x)) (sym (k.others.bytes x out.is))
     ]

@@ -32,7 +32,10 @@ abbrev pub writes_byte : ℕ → Part → Bool
 writes_byte x p = is_written p && covers (range_of p) x
 
 pub waits_as : (bytes : List AreaState) (call : OpenCall) (p : Part) (r : Region) (x : ℕ) → IsRegionOf bytes (range_of p) (holder_for call p) r → waits_at x r ≡ writes_byte x p
-waits_as bytes call p r x is = ap (λ (h : Holder). is_pending h && covers r.range x) is.holder_is ∙ ap (λ b. b && covers r.range x) (written_waits call p) ∙ ap (λ (q : Range). is_written p && covers q x) is.range_is
+waits_as bytes call p r x is =
+    ap (λ (h : Holder). is_pending h && covers r.range x) is.holder_is
+    ∙ ap (λ b. b && covers r.range x) (written_waits call p)
+    ∙ ap (λ (q : Range). is_written p && covers q x) is.range_is
 
 -- the bytes that wait
 pub held_is : (bytes : List AreaState) (call : OpenCall) (ps : List Part) (rs : List Region) (x : ℕ) → HaveRegions bytes call ps rs → is_held rs x ≡ list_any (writes_byte x) ps
@@ -42,7 +45,8 @@ held_is bytes call [] (r ∷ rs) x h = absurd h
 held_is bytes call (p ∷ ps) [] x h = absurd h
 
 -- their values are those of memory
-pub value_is : (bytes : List AreaState) (call : OpenCall) (ps : List Part) (rs : List Region) (x : ℕ) → HaveRegions bytes call ps rs → value_when_held rs x ≡ cond (list_any (writes_byte x) ps) (byte_at bytes x) None
+pub value_is : (bytes : List AreaState) (call : OpenCall) (ps : List Part) (rs : List Region) (x : ℕ) → HaveRegions bytes call ps rs →
+    value_when_held rs x ≡ cond (list_any (writes_byte x) ps) (byte_at bytes x) None
 value_is bytes call [] [] x h = refl
 value_is bytes call (p ∷ ps) (r ∷ rs) x h = elim (cases_Bool (waits_at x r)) [
   | inl waits ↦
@@ -68,11 +72,16 @@ value_is bytes call [] (r ∷ rs) x h = absurd h
 value_is bytes call (p ∷ ps) [] x h = absurd h
 
 -- the ranges of those that a test of holders finds
-pub ranges_are : (bytes : List AreaState) (call : OpenCall) (ps : List Part) (rs : List Region) (f : Holder → Bool) → HaveRegions bytes call ps rs → map (λ (r : Region). r.range) (filter (λ (r : Region). f r.holder) rs) ≡ map (λ p. range_of p) (filter (λ p. f (holder_for call p)) ps)
+pub ranges_are : (bytes : List AreaState) (call : OpenCall) (ps : List Part) (rs : List Region) (f : Holder → Bool) →
+    HaveRegions bytes call ps rs →
+    map (λ (r : Region). r.range) (filter (λ (r : Region). f r.holder) rs) ≡ map (λ p. range_of p) (filter (λ p. f (holder_for call p)) ps)
 ranges_are bytes call [] [] f h = refl
 ranges_are bytes call (p ∷ ps) (r ∷ rs) f h =
     ap (λ (q : Holder). map (λ (r : Region). r.range) (cond (f q) (r ∷ filter (λ (r : Region). f r.holder) rs) (filter (λ (r : Region). f r.holder) rs))) h.0.holder_is
-    ∙ elim (f (holder_for call p)) as (λ b. map (λ (r : Region). r.range) (cond b (r ∷ filter (λ (r : Region). f r.holder) rs) (filter (λ (r : Region). f r.holder) rs)) ≡ map (λ p. range_of p) (cond b (p ∷ filter (λ p. f (holder_for call p)) ps) (filter (λ p. f (holder_for call p)) ps))) [
+    ∙ elim (f (holder_for call p)) as
+    (λ b. map (λ (r : Region). r.range)
+    (cond b (r ∷ filter (λ (r : Region). f r.holder) rs) (filter (λ (r : Region). f r.holder) rs)) ≡ map (λ p. range_of p)
+    (cond b (p ∷ filter (λ p. f (holder_for call p)) ps) (filter (λ p. f (holder_for call p)) ps))) [
       | true ↦ ap (λ q. q ∷ map (λ (r : Region). r.range) (filter (λ (r : Region). f r.holder) rs)) h.0.range_is ∙ ap (λ qs. range_of p ∷ qs) (ranges_are bytes call ps rs f h.1)
       | false ↦ ranges_are bytes call ps rs f h.1
     ]
@@ -86,11 +95,16 @@ prepared_in (Reads r ∷ ps) k = prepared_in ps k
 prepared_in (Holds r ∷ ps) k = prepared_in ps k
 prepared_in (Prepares j r ∷ ps) k = cond (eqb j k) (Some r) (prepared_in ps k)
 
-key_is : (bytes : List AreaState) (call : OpenCall) (ps : List Part) (rs : List Region) (k : ℕ) → HaveRegions bytes call ps rs → option_map (λ (r : Region). r.range) (prepared_region rs k) ≡ prepared_in ps k
+key_is : (bytes : List AreaState) (call : OpenCall) (ps : List Part) (rs : List Region) (k : ℕ) → HaveRegions bytes call ps rs →
+    option_map (λ (r : Region). r.range) (prepared_region rs k) ≡ prepared_in ps k
 unfolding prepared_in
 key_is bytes call [] [] k h = refl
-key_is bytes call (Reads q ∷ ps) (r ∷ rs) k h = ap (λ (o : Holder). option_map (λ (r : Region). r.range) (cond (has_key k o) (Some r) (prepared_region rs k))) h.0.holder_is ∙ key_is bytes call ps rs k h.1
-key_is bytes call (Holds q ∷ ps) (r ∷ rs) k h = ap (λ (o : Holder). option_map (λ (r : Region). r.range) (cond (has_key k o) (Some r) (prepared_region rs k))) h.0.holder_is ∙ key_is bytes call ps rs k h.1
+key_is bytes call (Reads q ∷ ps) (r ∷ rs) k h =
+    ap (λ (o : Holder). option_map (λ (r : Region). r.range) (cond (has_key k o) (Some r) (prepared_region rs k))) h.0.holder_is
+    ∙ key_is bytes call ps rs k h.1
+key_is bytes call (Holds q ∷ ps) (r ∷ rs) k h =
+    ap (λ (o : Holder). option_map (λ (r : Region). r.range) (cond (has_key k o) (Some r) (prepared_region rs k))) h.0.holder_is
+    ∙ key_is bytes call ps rs k h.1
 key_is bytes call (Prepares j q ∷ ps) (r ∷ rs) k h =
     ap (λ (o : Holder). option_map (λ (r : Region). r.range) (cond (has_key k o) (Some r) (prepared_region rs k))) h.0.holder_is
     ∙ elim (eqb j k) as (λ b. option_map (λ (r : Region). r.range) (cond b (Some r) (prepared_region rs k)) ≡ cond b (Some q) (prepared_in ps k)) [

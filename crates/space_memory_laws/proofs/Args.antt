@@ -55,7 +55,9 @@ there frame (o ∷ os) (w ∷ ws) (a ∷ as') x v =
     ]
 
 -- a byte out of the frame is as before
-pub outside : (frame : Range) (offsets widths args : List ℕ) (x : ℕ) (byte : Option ℕ) → length widths ≡ length offsets → ((i : ℕ) → i < length offsets → get_or offsets i 0 + get_or widths i 0 ≤ frame.len) → (x < frame.addr) ⊎ (frame.addr + frame.len ≤ x) → with_args frame.addr offsets widths args x byte ≡ byte
+pub outside : (frame : Range) (offsets widths args : List ℕ) (x : ℕ) (byte : Option ℕ) → length widths ≡ length offsets →
+    ((i : ℕ) → i < length offsets → get_or offsets i 0 + get_or widths i 0 ≤ frame.len) → (x < frame.addr) ⊎ (frame.addr + frame.len ≤ x) →
+    with_args frame.addr offsets widths args x byte ≡ byte
 outside frame [] widths args x byte same fit out = refl
 outside frame (o ∷ os) [] args x byte same fit out = refl
 outside frame (o ∷ os) (w ∷ ws) [] x byte same fit out = refl
@@ -68,7 +70,11 @@ outside frame (o ∷ os) (w ∷ ws) (a ∷ as') x byte same fit out =
     ap (with_args frame.addr os ws as' x) (cond-false (covers (part frame.addr o w) x) (Some (digit a (x - (frame.addr + o)))) byte missed)
     ∙ outside frame os ws as' x byte (omega (arith, same)) (λ i lt. fit (suc i) (omega (arith, lt))) out
 
-pub arguments : (old entered new : List AreaState) (frame : Range) (offsets widths args : List ℕ) → FillsWith frame (Some 0) old entered → length widths ≡ length offsets → length args ≡ length offsets → ((i : ℕ) → i < length offsets → slice_index offsets i + slice_index widths i ≤ frame.len) → extents new ≡ extents entered → ((x : ℕ) → byte_at new x ≡ with_args frame.addr offsets widths args x (byte_at entered x)) → HasArgs frame.addr frame.len offsets widths args old new
+pub arguments : (old entered new : List AreaState) (frame : Range) (offsets widths args : List ℕ) → FillsWith frame (Some 0) old entered →
+    length widths ≡ length offsets → length args ≡ length offsets →
+    ((i : ℕ) → i < length offsets → slice_index offsets i + slice_index widths i ≤ frame.len) → extents new ≡ extents entered →
+    ((x : ℕ) → byte_at new x ≡ with_args frame.addr offsets widths args x (byte_at entered x)) →
+    HasArgs frame.addr frame.len offsets widths args old new
 arguments old entered new frame offsets widths args fills widths_same args_same fit areas set = record {
   bytes = λ i lt.
       let few : i < frame.len = omega (arith, lt, count) in
@@ -93,4 +99,5 @@ arguments old entered new frame offsets widths args fills widths_same args_same 
     byte_is : (i : ℕ) → i < frame.len → get_or (bytes_with_args frame.len offsets widths args) i 0 ≡ unwrap_or (with_args 0 offsets widths args i (Some 0)) 0
     byte_is i few =
         let at : get_or (range_with_len 0 frame.len) i 0 ≡ i = get_or-range_with_len 0 frame.len i 0 few ∙ omega arith in
-        get_or-map (λ i. unwrap_or (with_args 0 offsets widths args i (Some 0)) 0) (range_with_len 0 frame.len) i 0 0 (omega (arith, length-range_with_len 0 frame.len, few)) ∙ ap (λ j. unwrap_or (with_args 0 offsets widths args j (Some 0)) 0) at
+        get_or-map (λ i. unwrap_or (with_args 0 offsets widths args i (Some 0)) 0) (range_with_len 0 frame.len) i 0 0
+        (omega (arith, length-range_with_len 0 frame.len, few)) ∙ ap (λ j. unwrap_or (with_args 0 offsets widths args j (Some 0)) 0) at

@@ -1,6 +1,6 @@
 -- What code below the cut does isn't seen above it.
 use Rattle.std.proofs.Common.{◌≡◌, ◌⊎◌, ℕ, suc, ◌+◌, ◌-◌, ◌^◌, ◌<◌, ◌≤◌, Bool, true, false, ◌&&◌, ◌||◌, not, leb, ltb, List, [], ◌∷◌, ◌++◌, length, Option, Some, None, is_some, inl, inr, refl, ap, sym, ◌∙◌, subst, arith, All}
-use Rattle.std.specs.Prelude.{unwrap_or, option_map, slice_index, slice_get}
+use Rattle.std.specs.Prelude.{unwrap_or, option_map, slice_get}
 use Rattle.std.specs.List.{list_any}
 use Rattle.std.proofs.lemmas.Bool.{cases_Bool, cases_eq, cases_lt, true≢false, and_parts, and_from, le-leb, lt-ltb, or_cases, leb-true, ltb-true}
 use Rattle.std.proofs.lemmas.List.{length-set}
@@ -12,30 +12,27 @@ use Rattle.marks.specs.Ranges.{range, covers}
 use Rattle.marks.specs.Marks.{Mark}
 use Rattle.memory_map.specs.declared.areas.TheConstants.{STACK_SIZE}
 use Rattle.space_memory_bytes.specs.Areas.{byte_at, IsDead}
-use Rattle.space_memory_bytes.specs.Numbers.{SameOutside, FillsWith}
+use Rattle.space_memory_bytes.specs.Numbers.{SameOutside}
 use Rattle.space_memory.specs.StackFrames.{StackState, stack_of, end_of, LieInStack}
 use Rattle.pool_list.specs.declared.block.Block.{Block}
 use Rattle.pool_list.specs.Blocks.{length_at, with_block, without_block, LieBetween}
-use Rattle.pool_list.specs.Places.{IsLeastPlace}
 use Rattle.space_memory_access.specs.declared.holder.Region.{Region}
 use Rattle.space_memory_access.specs.declared.holder.Holder.{Holder}
 use Rattle.space_memory_access.specs.declared.holder.Holder.TheVariants.{In, Out, Key}
 use Rattle.space_memory_access.specs.Holders.{is_pending, serves}
 use Rattle.space_memory_access.specs.Held.{HeldState, IsPending, IsServed, prepared_region}
-use Rattle.space_memory_access.specs.declared.refusal.Refusal.{Refusal}
 use Rattle.space_memory_access.specs.declared.refusal.Refusal.TheVariants.{StackFull}
 use Rattle.space_memory_access.specs.Accesses.{IsAllowed}
 use Rattle.replay_runs.specs.Runs.{Start, marks_of}
 use Rattle.replay_runs.specs.Threads.{open_calls}
 use Rattle.space_memory.specs.declared.sides.Sides.{Sides}
-use Rattle.space_memory.specs.Sides.{SideState, frames_of, top_of, with_thread, with_blocks}
-use Rattle.space_memory.specs.Spaces.{SpaceState, with_side}
-use Rattle.space_memory.specs.Frames.{IsEnterRefused, with_args}
+use Rattle.space_memory.specs.Sides.{SideState, frames_of, with_thread, with_blocks}
+use Rattle.space_memory.specs.Spaces.{SpaceState}
 use Rattle.space_memory_laws.specs.Shown.{value_when_held, cell_of}
 use Rattle.space_memory_laws.specs.Held.{AreHeld}
 use Rattle.space_memory_laws.specs.Sound.{IsBelow, IsSound}
 use Rattle.space_memory_laws.specs.StandsFor.{HoldsFor, StandsFor}
-use Rattle.space_memory_laws.specs.Below.{StoresBelowAreUnseen, WritesBelowAreUnseen}
+use Rattle.space_memory_laws.specs.Below.{StoresBelowAreUnseen, WritesBelowAreUnseen, FramesBelowAreUnseen, ArgumentsBelowAreUnseen, LeavesBelowAreUnseen, AllocsBelowAreUnseen, FreesBelowAreUnseen}
 use Rattle.space_memory_laws.proofs.Cells.{cover_cases, cover_parts, held_by, live_ends, below_system, dead_as}
 use Rattle.space_memory_laws.proofs.Access.{some_live}
 use Rattle.space_memory_laws.proofs.Blocks.{lie_with_block, lie_without, begins_from}
@@ -99,7 +96,9 @@ written_waits thread (Key k by) is = refl
 served_waits : (rs : List Region) (thread x : ℕ) → IsServed rs thread true x → IsPending rs x
 served_waits [] thread x is = is
 served_waits (r ∷ rest) thread x is = elim (or_cases (serves thread true r.holder && covers r.range x) (list_any (λ (q : Region). serves thread true q.holder && covers q.range x) rest) is) [
-  | inl here ↦ (let p = and_parts (serves thread true r.holder) (covers r.range x) here in ap (λ b. b || list_any (λ (q : Region). is_pending q.holder && covers q.range x) rest) (and_from (is_pending r.holder) (covers r.range x) (written_waits thread r.holder p.0) p.1))
+  | inl here ↦ (let p = and_parts (serves thread true r.holder) (covers r.range x) here in ap
+      (λ b. b || list_any (λ (q : Region). is_pending q.holder && covers q.range x) rest)
+      (and_from (is_pending r.holder) (covers r.range x) (written_waits thread r.holder p.0) p.1))
   | inr more ↦ ap (λ b. (is_pending r.holder && covers r.range x) || b) (served_waits rest thread x more) ∙ or_true (is_pending r.holder && covers r.range x)
 ]
   where
@@ -112,7 +111,11 @@ held_alike None b v live live' = absurd (true≢false (sym live))
 held_alike (Some x) None v live live' = absurd (true≢false (sym live'))
 held_alike (Some x) (Some y) v live live' = refl
 
-module _ (s : Start) (past : List Mark) (old new : SpaceState) (thread addr width : ℕ) (h : StandsFor s past old) (small : addr < 2 ^ 64) (lives : (i : ℕ) → i < width → is_some (byte_at new.bytes (addr + i)) ≡ true) (same : SameOutside (record { addr = addr; len = width }) old.bytes new.bytes) (rest : new ≡ record old { bytes = new.bytes }) (ok : IsAllowed old.bytes old.held.regions (record { side = System; thread = thread; range = record { addr = addr; len = width }; write = true })) where
+module _ (s : Start) (past : List Mark) (old new : SpaceState) (thread addr width : ℕ) (h : StandsFor s past old) (small : addr < 2 ^ 64)
+    (lives : (i : ℕ) → i < width → is_some (byte_at new.bytes (addr + i)) ≡ true)
+    (same : SameOutside (record { addr = addr; len = width }) old.bytes new.bytes) (rest : new ≡ record old { bytes = new.bytes })
+    (ok : IsAllowed old.bytes old.held.regions
+    (record { side = System; thread = thread; range = record { addr = addr; len = width }; write = true })) where
   abbrev r : Range
   r = record { addr = addr; len = width }
 
@@ -170,13 +173,17 @@ module _ (s : Start) (past : List Mark) (old new : SpaceState) (thread addr widt
   })
 
 pub stored : StoresBelowAreUnseen
-stored s past old new thread addr width value h small has same rest ok = changed s past old new thread addr width h small (λ i lt. ap is_some (has i lt)) same rest ok
+stored s past old new thread addr width value h small k = changed s past old new thread addr width h small (λ i lt. ap is_some (k.number i lt)) k.others k.rest k.allowed
 
 pub written : WritesBelowAreUnseen
-written s past old new thread addr bytes h small has same rest ok = changed s past old new thread addr (length bytes) h small (λ i lt. ap is_some (has i lt)) same rest ok
+written s past old new thread addr bytes h small k =
+    changed s past old new thread addr (length bytes) h small (λ i lt. ap is_some (k.bytes_are i lt)) k.others k.rest k.allowed
 
 -- a change of bytes of system memory alone
-only_system : (s : Start) (past : List Mark) (old new : SpaceState) (r : Range) → StandsFor s past old → new.held ≡ old.held → new.sides.replay ≡ old.sides.replay → IsBelow new.sides.system → ((x : ℕ) → covers r x ≡ false → byte_at new.bytes x ≡ byte_at old.bytes x) → system_globals ≤ r.addr → r.addr + r.len ≤ system_end → StandsFor s past new
+only_system : (s : Start) (past : List Mark) (old new : SpaceState) (r : Range) → StandsFor s past old → new.held ≡ old.held →
+    new.sides.replay ≡ old.sides.replay → IsBelow new.sides.system →
+    ((x : ℕ) → covers r x ≡ false → byte_at new.bytes x ≡ byte_at old.bytes x) → system_globals ≤ r.addr → r.addr + r.len ≤ system_end →
+    StandsFor s past new
 only_system s past old new r h held side below bytes low high = unseen s past old new h (record {
   held = held;
   side = side;
@@ -211,7 +218,8 @@ first_all P [] f all = All-nil P
 first_all P (g ∷ fs) f all = All-cons P g fs (All-head P g (fs ++ f ∷ []) all) (first_all P fs f (All-tail P g (fs ++ f ∷ []) all))
 
 -- other frames of one thread, which lie in its stack
-frames_below : (side : SideState) (t : ℕ) (fs : List Range) → IsBelow side → t < thread_count → LieInStack (record { base = (stack_of side.stacks t).base; frames = fs }) → IsBelow (with_thread side t fs)
+frames_below : (side : SideState) (t : ℕ) (fs : List Range) → IsBelow side → t < thread_count →
+    LieInStack (record { base = (stack_of side.stacks t).base; frames = fs }) → IsBelow (with_thread side t fs)
 frames_below side t fs k lt lie = record {
   threads = length-set side.stacks t (record { base = (stack_of side.stacks t).base; frames = fs }) ∙ k.threads;
   bases = λ u lt'. elim (cases_eq t u) [
@@ -233,10 +241,15 @@ frames_below side t fs k lt lie = record {
 blocks_below : (side : SideState) (bs : List Block) → IsBelow side → LieBetween side.pool.base (side.pool.base + side.pool.size) bs → IsBelow (with_blocks side bs)
 blocks_below side bs k laid = record { threads = k.threads; bases = k.bases; frames = k.frames; pool_from = k.pool_from; pool_bytes = k.pool_bytes; blocks = laid }
 
-pub entered : (s : Start) (past : List Mark) (old new : SpaceState) (t addr size : ℕ) → StandsFor s past old → t < thread_count → new.sides ≡ with_side old.sides System (with_thread old.sides.system t (frames_of old.sides.system t ++ record { addr = addr; len = size } ∷ [])) → addr ≡ end_of (stack_of old.sides.system.stacks t).base (frames_of old.sides.system t) → ((r : Refusal) → IsEnterRefused (stack_of old.sides.system.stacks t) size r → ⊥) → FillsWith (record { addr = addr; len = size }) (Some 0) old.bytes new.bytes → new.held ≡ old.held → StandsFor s past new
-entered s past old new t addr size h lt sides place free fills held =
-    only_system s past old new (record { addr = addr; len = size }) h held (ap (λ (q : Sides). q.replay) sides)
-    (subst IsBelow (ap (λ (q : Sides). q.system) (sym sides)) (frames_below old.sides.system t (frames_of old.sides.system t ++ record { addr = addr; len = size } ∷ []) h.sound.below lt (All-append (IsInStack (stack_of old.sides.system.stacks t)) (frames_of old.sides.system t) (record { addr = addr; len = size } ∷ []) (h.sound.below.frames t lt) (All-cons (IsInStack (stack_of old.sides.system.stacks t)) (record { addr = addr; len = size }) [] (low, fits) (All-nil (IsInStack (stack_of old.sides.system.stacks t)))))))
+pub entered : FramesBelowAreUnseen
+entered s past old new t addr size h lt f fills =
+    only_system s past old new (record { addr = addr; len = size }) h f.held (ap (λ (q : Sides). q.replay) f.sides)
+    (subst IsBelow (ap (λ (q : Sides). q.system) (sym f.sides))
+    (frames_below old.sides.system t (frames_of old.sides.system t ++ record { addr = addr; len = size } ∷ []) h.sound.below lt
+    (All-append (IsInStack (stack_of old.sides.system.stacks t)) (frames_of old.sides.system t)
+    (record { addr = addr; len = size } ∷ []) (h.sound.below.frames t lt)
+    (All-cons (IsInStack (stack_of old.sides.system.stacks t)) (record { addr = addr; len = size }) [] (low, fits)
+    (All-nil (IsInStack (stack_of old.sides.system.stacks t)))))))
     fills.others.bytes
     (omega (arith, low, base))
     (omega (arith, fits, base, lt))
@@ -245,19 +258,21 @@ entered s past old new t addr size h lt sides place free fills held =
     base = h.sound.below.bases t lt
 
     low : (stack_of old.sides.system.stacks t).base ≤ addr
-    low = omega (arith, place, end_low (stack_of old.sides.system.stacks t).base (stack_of old.sides.system.stacks t).base (frames_of old.sides.system t) (omega arith) (h.sound.below.frames t lt))
+    low = omega (arith, f.place, end_low (stack_of old.sides.system.stacks t).base (stack_of old.sides.system.stacks t).base (frames_of old.sides.system t) (omega arith) (h.sound.below.frames t lt))
 
     fits : addr + size ≤ (stack_of old.sides.system.stacks t).base + STACK_SIZE
     fits = elim (cases_lt ((stack_of old.sides.system.stacks t).base + STACK_SIZE) (addr + size)) [
-      | inl beyond ↦ absurd (free (StackFull _) (inr (omega (arith, place, beyond)), refl))
+      | inl beyond ↦ absurd (f.fits (StackFull _) (inr (omega (arith, f.place, beyond)), refl))
       | inr le ↦ le
     ]
 
-pub left : (s : Start) (past : List Mark) (old new : SpaceState) (t : ℕ) (frame : Range) → StandsFor s past old → t < thread_count → frames_of old.sides.system t ≡ frames_of new.sides.system t ++ frame ∷ [] → new.sides ≡ with_side old.sides System (with_thread old.sides.system t (frames_of new.sides.system t)) → FillsWith frame None old.bytes new.bytes → new.held ≡ old.held → StandsFor s past new
-left s past old new t frame h lt were sides fills held =
-    only_system s past old new frame h held (ap (λ (q : Sides). q.replay) sides)
-    (subst IsBelow (ap (λ (q : Sides). q.system) (sym sides)) (frames_below old.sides.system t (frames_of new.sides.system t) h.sound.below lt (first_all (IsInStack (stack_of old.sides.system.stacks t)) (frames_of new.sides.system t) frame all)))
-    fills.others.bytes
+pub left : LeavesBelowAreUnseen
+left s past old new t frame h lt l =
+    only_system s past old new frame h l.held (ap (λ (q : Sides). q.replay) l.sides)
+    (subst IsBelow (ap (λ (q : Sides). q.system) (sym l.sides))
+    (frames_below old.sides.system t (frames_of new.sides.system t) h.sound.below lt
+    (first_all (IsInStack (stack_of old.sides.system.stacks t)) (frames_of new.sides.system t) frame all)))
+    l.dead.others.bytes
     (omega (arith, top.0, base))
     (omega (arith, top.1, base, lt))
   where
@@ -265,7 +280,7 @@ left s past old new t frame h lt were sides fills held =
     base = h.sound.below.bases t lt
 
     all : All (IsInStack (stack_of old.sides.system.stacks t)) (frames_of new.sides.system t ++ frame ∷ [])
-    all = subst (All (IsInStack (stack_of old.sides.system.stacks t))) were (h.sound.below.frames t lt)
+    all = subst (All (IsInStack (stack_of old.sides.system.stacks t))) l.frames (h.sound.below.frames t lt)
 
     top : IsInStack (stack_of old.sides.system.stacks t) frame
     top = last_all (IsInStack (stack_of old.sides.system.stacks t)) (frames_of new.sides.system t) frame all
@@ -281,11 +296,11 @@ top_all P (g ∷ k ∷ fs) f e all =
     let n : length (g ∷ k ∷ fs) - 1 ≡ suc (length (k ∷ fs) - 1) = omega arith in
     top_all P (k ∷ fs) f (sym (ap (slice_get (g ∷ k ∷ fs)) n) ∙ e) (All-tail P g (k ∷ fs) all)
 
-pub arguments_set : (s : Start) (past : List Mark) (old new : SpaceState) (t : ℕ) (frame : Range) (offsets widths args : List ℕ) → StandsFor s past old → t < thread_count → top_of old.sides.system t ≡ Some frame → length widths ≡ length offsets → ((i : ℕ) → i < length offsets → slice_index offsets i + slice_index widths i ≤ frame.len) → ((x : ℕ) → byte_at new.bytes x ≡ with_args frame.addr offsets widths args x (byte_at old.bytes x)) → new ≡ record old { bytes = new.bytes } → StandsFor s past new
-arguments_set s past old new t frame offsets widths args h lt is same fit set rest =
-    only_system s past old new frame h (ap (λ (q : SpaceState). q.held) rest) (ap (λ (q : SpaceState). q.sides.replay) rest)
-    (subst IsBelow (ap (λ (q : SpaceState). q.sides.system) (sym rest)) h.sound.below)
-    (λ x c. set x ∙ outside frame offsets widths args x (byte_at old.bytes x) same fit (out_of x c))
+pub arguments_set : ArgumentsBelowAreUnseen
+arguments_set s past old new t frame offsets widths args h lt is k =
+    only_system s past old new frame h (ap (λ (q : SpaceState). q.held) k.rest) (ap (λ (q : SpaceState). q.sides.replay) k.rest)
+    (subst IsBelow (ap (λ (q : SpaceState). q.sides.system) (sym k.rest)) h.sound.below)
+    (λ x c. k.set x ∙ outside frame offsets widths args x (byte_at old.bytes x) k.widths_same k.fit (out_of x c))
     (omega (arith, top.0, base))
     (omega (arith, top.1, base, lt))
   where
@@ -298,21 +313,31 @@ arguments_set s past old new t frame offsets widths args h lt is same fit set re
     out_of : (x : ℕ) → covers frame x ≡ false → (x < frame.addr) ⊎ (frame.addr + frame.len ≤ x)
     out_of x c = elim (cover_cases frame x) [ inl in' ↦ absurd (true≢false (sym in'.is ∙ c)) | inr out ↦ out.out ]
 
-pub taken : (s : Start) (past : List Mark) (old new : SpaceState) (addr size : ℕ) → StandsFor s past old → IsLeastPlace old.sides.system.pool size addr → 1 ≤ size → new.sides ≡ with_side old.sides System (with_blocks old.sides.system (with_block old.sides.system.pool.blocks (record { addr = addr; len = size }))) → FillsWith (record { addr = addr; len = size }) (Some 0) old.bytes new.bytes → new.held ≡ old.held → StandsFor s past new
-taken s past old new addr size h place some sides fills held =
+pub taken : AllocsBelowAreUnseen
+taken s past old new addr size h k =
     let b = h.sound.below in
-    only_system s past old new (record { addr = addr; len = size }) h held (ap (λ (q : Sides). q.replay) sides)
-    (subst IsBelow (ap (λ (q : Sides). q.system) (sym sides)) (blocks_below old.sides.system (with_block old.sides.system.pool.blocks (record { addr = addr; len = size })) b (lie_with_block old.sides.system.pool.base (old.sides.system.pool.base + old.sides.system.pool.size) old.sides.system.pool.blocks (record { addr = addr; len = size }) place.is_place.from_base place.is_place.aligned some place.is_place.in_pool place.is_place.free b.blocks)))
-    fills.others.bytes
-    (omega (arith, place.is_place.from_base, b.pool_from))
-    (omega (arith, place.is_place.in_pool, b.pool_from, b.pool_bytes))
+    only_system s past old new (record { addr = addr; len = size }) h k.held (ap (λ (q : Sides). q.replay) k.sides)
+    (subst IsBelow (ap (λ (q : Sides). q.system) (sym k.sides))
+    (blocks_below old.sides.system (with_block old.sides.system.pool.blocks (record { addr = addr; len = size })) b
+    (lie_with_block old.sides.system.pool.base (old.sides.system.pool.base + old.sides.system.pool.size) old.sides.system.pool.blocks
+    (record {
+      addr = addr;
+      len =
+          size;
+    }) k.least.is_place.from_base k.least.is_place.aligned k.some k.least.is_place.in_pool k.least.is_place.free b.blocks)))
+    k.fills.others.bytes
+    (omega (arith, k.least.is_place.from_base, b.pool_from))
+    (omega (arith, k.least.is_place.in_pool, b.pool_from, b.pool_bytes))
 
-pub given : (s : Start) (past : List Mark) (old new : SpaceState) (addr size : ℕ) → StandsFor s past old → length_at old.sides.system.pool.blocks addr ≡ Some size → new.sides ≡ with_side old.sides System (with_blocks old.sides.system (without_block old.sides.system.pool.blocks addr)) → FillsWith (record { addr = addr; len = size }) None old.bytes new.bytes → new.held ≡ old.held → StandsFor s past new
-given s past old new addr size h is sides fills held =
+pub given : FreesBelowAreUnseen
+given s past old new addr size h k =
     let b = h.sound.below in
-    let lies = begins_from old.sides.system.pool.base (old.sides.system.pool.base + old.sides.system.pool.size) old.sides.system.pool.blocks addr size b.blocks is in
-    only_system s past old new (record { addr = addr; len = size }) h held (ap (λ (q : Sides). q.replay) sides)
-    (subst IsBelow (ap (λ (q : Sides). q.system) (sym sides)) (blocks_below old.sides.system (without_block old.sides.system.pool.blocks addr) b (lie_without old.sides.system.pool.base (old.sides.system.pool.base + old.sides.system.pool.size) old.sides.system.pool.blocks addr b.blocks)))
-    fills.others.bytes
+    let lies = begins_from old.sides.system.pool.base (old.sides.system.pool.base + old.sides.system.pool.size) old.sides.system.pool.blocks addr size b.blocks k.block in
+    only_system s past old new (record { addr = addr; len = size }) h k.held (ap (λ (q : Sides). q.replay) k.sides)
+    (subst IsBelow (ap (λ (q : Sides). q.system) (sym k.sides))
+    (blocks_below old.sides.system (without_block old.sides.system.pool.blocks addr) b
+    (lie_without old.sides.system.pool.base
+    (old.sides.system.pool.base + old.sides.system.pool.size) old.sides.system.pool.blocks addr b.blocks)))
+    k.dead.others.bytes
     (omega (arith, lies.0, b.pool_from))
     (omega (arith, lies.2, b.pool_from, b.pool_bytes))

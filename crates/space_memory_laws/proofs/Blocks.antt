@@ -57,7 +57,8 @@ lie_new from to (b ∷ bs) new lie = elim (cases_lt new.addr b.addr) [
 ]
 
 -- a new block that meets no other lies among them
-pub lie_with_block : (from to : ℕ) (bs : List Block) (new : Block) → from ≤ new.addr → new.addr % 16 ≡ 0 → 1 ≤ new.len → end_of new ≤ to → All (Misses new.addr new.len) bs → LieBetween from to bs → LieBetween from to (with_block bs new)
+pub lie_with_block : (from to : ℕ) (bs : List Block) (new : Block) → from ≤ new.addr → new.addr % 16 ≡ 0 → 1 ≤ new.len → end_of new ≤ to →
+    All (Misses new.addr new.len) bs → LieBetween from to bs → LieBetween from to (with_block bs new)
 lie_with_block from to [] new low aligned some high misses lie = (low, aligned, some, high)
 lie_with_block from to (b ∷ bs) new low aligned some high misses lie =
     let here : Misses new.addr new.len b = All-head (Misses new.addr new.len) b bs misses in
@@ -101,7 +102,8 @@ without_new from to (b ∷ bs) new addr lie e = elim (cases_lt new.addr b.addr) 
 ]
 
 -- another block taken out
-pub without_old : (from to : ℕ) (bs : List Block) (new : Block) (addr : ℕ) → LieBetween from to (with_block bs new) → (new.addr ≡ addr → ⊥) → without_block (with_block bs new) addr ≡ with_block (without_block bs addr) new
+pub without_old : (from to : ℕ) (bs : List Block) (new : Block) (addr : ℕ) → LieBetween from to (with_block bs new) → (new.addr ≡ addr → ⊥) →
+    without_block (with_block bs new) addr ≡ with_block (without_block bs addr) new
 without_old from to [] new addr lie ne = rw (ne_eqb new.addr addr ne) refl
 without_old from to (b ∷ bs) new addr lie ne = elim (cases_lt new.addr b.addr) [
   | inl before ↦
@@ -126,7 +128,10 @@ by_address_without from to (b ∷ bs) at lie =
     let rest = by_address_without from to bs at (lie_less from to (by_address bs) (block_of b) lie) in
     elim (cases_eq b.addr at) [
       | inl e ↦ ap by_address (cond-true (eqb b.addr at) bs (b ∷ without at bs) (eq-eqb b.addr at e)) ∙ sym (without_new from to (by_address bs) (block_of b) at lie e)
-      | inr ne ↦ ap by_address (cond-false (eqb b.addr at) bs (b ∷ without at bs) (ne_eqb b.addr at ne)) ∙ ap (λ l. with_block l (block_of b)) rest ∙ sym (without_old from to (by_address bs) (block_of b) at lie ne)
+      | inr ne ↦
+          ap by_address (cond-false (eqb b.addr at) bs (b ∷ without at bs) (ne_eqb b.addr at ne))
+          ∙ ap (λ l. with_block l (block_of b)) rest
+          ∙ sym (without_old from to (by_address bs) (block_of b) at lie ne)
     ]
 
 -- nothing is taken out where no block can begin
@@ -190,7 +195,8 @@ begins_from from to (b ∷ bs) addr size lie is = elim (cases_eq b.addr addr) [
     some_same a c e = cc
 
 -- without a block its addresses are in none
-pub any_without : (from to : ℕ) (bs : List Block) (addr size x : ℕ) → LieBetween from to bs → length_at bs addr ≡ Some size → any_block (without_block bs addr) x ≡ cond (covers (record { addr = addr; len = size }) x) false (any_block bs x)
+pub any_without : (from to : ℕ) (bs : List Block) (addr size x : ℕ) → LieBetween from to bs → length_at bs addr ≡ Some size →
+    any_block (without_block bs addr) x ≡ cond (covers (record { addr = addr; len = size }) x) false (any_block bs x)
 unfolding any_block
 any_without from to [] addr size x lie is = absurd (none_some size is)
   where

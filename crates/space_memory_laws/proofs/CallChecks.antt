@@ -69,7 +69,10 @@ module _ (s : Start) (past : List Mark) (t : ℕ) (ins outs : List Range) (prepa
   distinct_mid = read_distinct base.bytes (innermost memory.held t) ins outs prepared h.regions.added h.regions.regions (keys_of base.held.regions h.regions.added (subst HaveOwnKeys h.regions.all h.held.keys))
 
   no_key_mid : (k : ℕ) → prepares_key prepared k ≡ true → prepared_region base.held.regions k ≡ None
-  no_key_mid k used = own_key base.held.regions h.regions.added k (subst HaveOwnKeys h.regions.all h.held.keys) (λ none. prepared_there prepared k used (sym (added_key base.bytes (innermost memory.held t) ins outs prepared h.regions.added h.regions.regions k) ∙ ap (option_map (λ (r : Region). r.range)) none))
+  no_key_mid k used = own_key base.held.regions h.regions.added k (subst HaveOwnKeys h.regions.all h.held.keys)
+      (λ none. prepared_there prepared k used
+      (sym (added_key base.bytes (innermost memory.held t) ins outs prepared h.regions.added h.regions.regions k) ∙ ap
+      (option_map (λ (r : Region). r.range)) none))
 
   none_used : (ps : List Prepared) → ((k : ℕ) → prepares_key ps k ≡ true → prepares_key prepared k ≡ true) → NoneInUse s past ps
   none_used [] sub = tt
@@ -89,7 +92,10 @@ module _ (s : Start) (past : List Mark) (t : ℕ) (ins outs : List Range) (prepa
       ∙ no_region (prepared_region h.regions.added k) (added_key base.bytes (innermost memory.held t) ins outs prepared h.regions.added h.regions.regions k ∙ prepared_keeps prepared k None unused)
 
 -- a range that memory refuses in the midst of a Call
-module _ (s : Start) (past : List Mark) (t : ℕ) (ins outs : List Range) (prepared : List Prepared) (base memory : SpaceState) (h : InCall s past t (parts_of ins outs prepared) base memory) (write : Bool) (more : List Range) (more_is : (x : ℕ) → any_range more x ≡ (any_range outs x || any_prepared prepared x)) (given : Range) (r : Range) (below : given.addr < 2 ^ 64) (same : region_range given ≡ r) (cs : Checks) where
+module _ (s : Start) (past : List Mark) (t : ℕ) (ins outs : List Range) (prepared : List Prepared) (base memory : SpaceState)
+    (h : InCall s past t (parts_of ins outs prepared) base memory) (write : Bool) (more : List Range)
+    (more_is : (x : ℕ) → any_range more x ≡ (any_range outs x || any_prepared prepared x)) (given : Range) (r : Range)
+    (below : given.addr < 2 ^ 64) (same : region_range given ≡ r) (cs : Checks) where
   abbrev q : Range
   q = r
 
@@ -173,14 +179,37 @@ module _ (s : Start) (past : List Mark) (t : ℕ) (ins outs : List Range) (prepa
     in_base (Pending x) p =
         inr (foreign p.0, inr (no_race, inr (none_gone p.0 p.1, inl (x, (bad_pending p.0 p.1 x p.2.in_range p.2.holds, λ y bad. let k = pending_bad p.0 p.1 y bad in p.2.least y k.0 k.1), refl))))
     in_base (ReadOnly x) p =
-        inr (foreign p.0, inr (no_race, inr (none_gone p.0 p.1, inr (λ y bad. (let k = pending_bad p.0 p.1 y bad in p.2 y k.0 k.1), inl (x, (bad_constant s past base t r.addr r.len write h.stands small unraced x p.3.in_range p.3.holds, λ y bad. let k = constant_bad s past base t r.addr r.len write h.stands small unraced y bad in p.3.least y k.0 k.1), refl)))))
+        inr (
+          foreign p.0,
+          inr (
+            no_race,
+            inr (
+              none_gone p.0 p.1,
+              inr (
+                λ y bad. (let k = pending_bad p.0 p.1 y bad in p.2 y k.0 k.1),
+                inl (
+                  x,
+                  (
+                    bad_constant s past base t r.addr r.len write h.stands small unraced x p.3.in_range p.3.holds,
+                    λ y bad. let k =
+                        constant_bad s past base t r.addr r.len write h.stands small unraced y bad in p.3.least y k.0 k.1,
+                  ),
+                  refl,
+                ),
+              ),
+            ),
+          ),
+        )
     in_base (StackFull x) p = absurd p
     in_base (KeyInUse x) p = absurd p
     in_base (NoKey x) p = absurd p
     in_base (Size x) p = absurd p
 
     pub refused_mid : (f : Refusal) → IsRefused memory.bytes memory.held.regions (region_access t given write) f → Finds (range_checks s past t write more r cs) (finding_of f)
-    refused_mid f p = in_base f (subst (λ (k : Range). IsRefused base.bytes memory.held.regions (record { side = Replay; thread = t; range = k; write = write }) f) same (subst (λ b. IsRefused b memory.held.regions (region_access t given write) f) (bytes_mid s past t ins outs prepared base memory h) p))
+    refused_mid f p = in_base f (subst
+        (λ (k : Range). IsRefused base.bytes memory.held.regions (record { side = Replay; thread = t; range = k; write = write }) f) same
+        (subst (λ b. IsRefused b memory.held.regions (region_access t given write) f)
+        (bytes_mid s past t ins outs prepared base memory h) p))
 
     in_base_found : (f : Finding) → Finds (range_checks s past t write more r Done) f → (k : Refusal) × IsRefused base.bytes memory.held.regions (access t r.addr r.len write) k × (f ≡ finding_of k)
     in_base_found f (inl (x, least, is)) =
@@ -222,7 +251,8 @@ module _ (s : Start) (past : List Mark) (t : ℕ) (ins outs : List Range) (prepa
 
     -- an access in the words of memory is one in those of a run
     same_access : (P : List AreaState → Access → Type 0) → P base.bytes (access t r.addr r.len write) → P memory.bytes (region_access t given write)
-    same_access P p = subst (λ (k : Range). P memory.bytes (record { side = Replay; thread = t; range = k; write = write })) (sym same) (subst (λ b. P b (access t r.addr r.len write)) (sym (bytes_mid s past t ins outs prepared base memory h)) p)
+    same_access P p = subst (λ (k : Range). P memory.bytes (record { side = Replay; thread = t; range = k; write = write })) (sym same)
+        (subst (λ b. P b (access t r.addr r.len write)) (sym (bytes_mid s past t ins outs prepared base memory h)) p)
 
     other_access : (P : List AreaState → Access → Type 0) → P memory.bytes (region_access t given write) → P base.bytes (access t r.addr r.len write)
     other_access P p = subst (λ b. P b (access t r.addr r.len write)) (bytes_mid s past t ins outs prepared base memory h) (subst (λ (k : Range). P memory.bytes (record { side = Replay; thread = t; range = k; write = write })) same p)
@@ -233,7 +263,8 @@ module _ (s : Start) (past : List Mark) (t : ℕ) (ins outs : List Range) (prepa
     pub passes_mid : Passes (range_checks s past t write more r Done) ↔ IsAllowed memory.bytes memory.held.regions (region_access t given write)
     passes_mid = ((λ p. same_access (λ b a. IsAllowed b memory.held.regions a) (in_base_allowed p)), λ a. in_base_passes (other_access (λ b a. IsAllowed b memory.held.regions a) a))
 
-  pub race_mid : (f : Finding) → ((x : ℕ) → IsRefused memory.bytes memory.held.regions (region_access t given write) (OtherSpace x) → ⊥) → Finds (race_check past t write r Done) f → Finds (range_checks s past t write more r cs) f
+  pub race_mid : (f : Finding) → ((x : ℕ) → IsRefused memory.bytes memory.held.regions (region_access t given write) (OtherSpace x) → ⊥) →
+      Finds (race_check past t write r Done) f → Finds (range_checks s past t write more r cs) f
   race_mid f none found = inr (
     foreign (λ x in' is. none_in q is_system (λ y least. none y (back y (record { in_range = least.in_range; holds = in_system y least.holds; least = λ z in'' is'. least.least z in'' (system_in z is') }))) x in' (system_in x is)),
     elim found [
@@ -253,9 +284,18 @@ through : (Bad : ℕ → Type 0) (Found : ℕ → Finding → Type 0) (cs : Chec
 through Bad Found cs none p = (none, p)
 
 -- a fact of the checks of a Call, by its ranges and keys
-pub wanted_checks : (P : Checks → Type 0) → ((Bad : ℕ → Type 0) (Found : ℕ → Finding → Type 0) (cs : Checks) → ((x : ℕ) → Bad x → ⊥) → P cs → P (Check Bad Found cs)) → (i : Interface) (s : Start) (past : List Mark) (t : ℕ) (indirect : Bool) (func : ℕ) (args : List ℕ) (ins outs : List Range) (prepared : List Prepared) → Wanted i indirect func args ins outs prepared → P (read_checks s past t ins (hold_checks s past t [] (outs ++ prepared_ranges prepared) (key_checks s past [] prepared Done))) → P (checks i s past t (Calls indirect func args))
+pub wanted_checks : (P : Checks → Type 0) →
+    ((Bad : ℕ → Type 0) (Found : ℕ → Finding → Type 0) (cs : Checks) → ((x : ℕ) → Bad x → ⊥) → P cs → P (Check Bad Found cs)) →
+    (i : Interface) (s : Start) (past : List Mark) (t : ℕ) (indirect : Bool) (func : ℕ) (args : List ℕ) (ins outs : List Range) (prepared : List Prepared) →
+    Wanted i indirect func args ins outs prepared →
+    P (read_checks s past t ins (hold_checks s past t [] (outs ++ prepared_ranges prepared) (key_checks s past [] prepared Done))) →
+    P (checks i s past t (Calls indirect func args))
 wanted_checks P step i s past t indirect func args ins outs prepared w p =
-    past_indirect P step i indirect func (mode_checks i Replay (i.registers func args) (read_checks s past t (i.ins func args) (hold_checks s past t [] (i.outs func args ++ prepared_ranges (i.prepares func args)) (key_checks s past [] (i.prepares func args) Done)))) w.modes.0
+    past_indirect P step i indirect func
+    (mode_checks i Replay (i.registers func args)
+    (read_checks s past t (i.ins func args)
+    (hold_checks s past t [] (i.outs func args ++ prepared_ranges (i.prepares func args))
+    (key_checks s past [] (i.prepares func args) Done)))) w.modes.0
     (past_modes P step i (i.registers func args) (read_checks s past t (i.ins func args) (hold_checks s past t [] (i.outs func args ++ prepared_ranges (i.prepares func args)) (key_checks s past [] (i.prepares func args) Done))) w.modes.1
     (subst (λ k. P (read_checks s past t k (hold_checks s past t [] (i.outs func args ++ prepared_ranges (i.prepares func args)) (key_checks s past [] (i.prepares func args) Done)))) (sym w.ins_are)
     (subst (λ k. P (read_checks s past t ins (hold_checks s past t [] (k ++ prepared_ranges (i.prepares func args)) (key_checks s past [] (i.prepares func args) Done)))) (sym w.outs_are)
@@ -269,21 +309,34 @@ nil_any : (outs : List Range) (x : ℕ) → any_range (piled outs []) x ≡ (any
 nil_any outs x = piled_any outs [] x
 
 module _ (i : Interface) (s : Start) (past : List Mark) (base memory : SpaceState) (t : ℕ) (indirect : Bool) (func : ℕ) (args : List ℕ) where
-  read_on : (before after outs : List Range) (prepared : List Prepared) (r : Range) (given : Range) (f : Finding) → Wanted i indirect func args (before ++ r ∷ after) outs prepared → IsReading s past t before given r base memory → ((cs : Checks) → Finds (range_checks s past t false [] r cs) f) → Finds (checks i s past t (Calls indirect func args)) f
+  read_on : (before after outs : List Range) (prepared : List Prepared) (r : Range) (given : Range) (f : Finding) →
+      Wanted i indirect func args (before ++ r ∷ after) outs prepared → IsReading s past t before given r base memory →
+      ((cs : Checks) → Finds (range_checks s past t false [] r cs) f) → Finds (checks i s past t (Calls indirect func args)) f
   read_on before after outs prepared r given f w k found =
       wanted_checks (λ cs. Finds cs f) (onward f) i s past t indirect func args (before ++ r ∷ after) outs prepared w
-      (past_reads (λ cs. Finds cs f) (onward f) s past t base k.call.stands before (r ∷ after) (hold_checks s past t [] (outs ++ prepared_ranges prepared) (key_checks s past [] prepared Done)) (free_reads base before [] [] k.call.free) k.unraced
+      (past_reads (λ cs. Finds cs f) (onward f) s past t base k.call.stands before (r ∷ after)
+      (hold_checks s past t [] (outs ++ prepared_ranges prepared) (key_checks s past [] prepared Done))
+      (free_reads base before [] [] k.call.free) k.unraced
       (found (read_checks s past t after (hold_checks s past t [] (outs ++ prepared_ranges prepared) (key_checks s past [] prepared Done)))))
 
-  pub refused_read : (before after outs : List Range) (prepared : List Prepared) (r : Range) (given : Range) (f : Refusal) → Wanted i indirect func args (before ++ r ∷ after) outs prepared → IsReading s past t before given r base memory → Unraced past t false r → IsRefused memory.bytes memory.held.regions (region_access t given false) f → Finds (checks i s past t (Calls indirect func args)) (finding_of f)
+  pub refused_read : (before after outs : List Range) (prepared : List Prepared) (r : Range) (given : Range) (f : Refusal) →
+      Wanted i indirect func args (before ++ r ∷ after) outs prepared → IsReading s past t before given r base memory →
+      Unraced past t false r → IsRefused memory.bytes memory.held.regions (region_access t given false) f →
+      Finds (checks i s past t (Calls indirect func args)) (finding_of f)
   refused_read before after outs prepared r given f w k unraced refused =
       read_on before after outs prepared r given (finding_of f) w k (λ cs. refused_mid s past t before [] [] base memory k.call false [] (λ x. refl) given r k.below k.region cs unraced f refused)
 
-  pub raced_read : (before after outs : List Range) (prepared : List Prepared) (r : Range) (given : Range) (f : Finding) → Wanted i indirect func args (before ++ r ∷ after) outs prepared → IsReading s past t before given r base memory → ((x : ℕ) → IsRefused memory.bytes memory.held.regions (region_access t given false) (OtherSpace x) → ⊥) → Finds (race_check past t false r Done) f → Finds (checks i s past t (Calls indirect func args)) f
+  pub raced_read : (before after outs : List Range) (prepared : List Prepared) (r : Range) (given : Range) (f : Finding) →
+      Wanted i indirect func args (before ++ r ∷ after) outs prepared → IsReading s past t before given r base memory →
+      ((x : ℕ) → IsRefused memory.bytes memory.held.regions (region_access t given false) (OtherSpace x) → ⊥) →
+      Finds (race_check past t false r Done) f → Finds (checks i s past t (Calls indirect func args)) f
   raced_read before after outs prepared r given f w k own raced =
       read_on before after outs prepared r given f w k (λ cs. race_mid s past t before [] [] base memory k.call false [] (λ x. refl) given r k.below k.region cs f own raced)
 
-  hold_on : (ins outs before after : List Range) (prepared : List Prepared) (r : Range) (given : Range) (f : Finding) → Wanted i indirect func args ins outs prepared → outs ++ prepared_ranges prepared ≡ before ++ r ∷ after → IsHolding s past t ins before given r base memory → ((cs : Checks) → Finds (range_checks s past t true (piled before []) r cs) f) → Finds (checks i s past t (Calls indirect func args)) f
+  hold_on : (ins outs before after : List Range) (prepared : List Prepared) (r : Range) (given : Range) (f : Finding) →
+      Wanted i indirect func args ins outs prepared → outs ++ prepared_ranges prepared ≡ before ++ r ∷ after →
+      IsHolding s past t ins before given r base memory → ((cs : Checks) → Finds (range_checks s past t true (piled before []) r cs) f) →
+      Finds (checks i s past t (Calls indirect func args)) f
   hold_on ins outs before after prepared r given f w all k found =
       wanted_checks (λ cs. Finds cs f) (onward f) i s past t indirect func args ins outs prepared w
       (subst (λ rs. Finds (read_checks s past t rs (hold_checks s past t [] (outs ++ prepared_ranges prepared) (key_checks s past [] prepared Done))) f) (append-nil ins)
@@ -298,27 +351,42 @@ module _ (i : Interface) (s : Start) (past : List Mark) (base memory : SpaceStat
       apart_before : Apart before
       apart_before = subst Apart (append-nil before) (apart_mid s past t ins before [] base memory k.call)
 
-  pub refused_hold : (ins outs before after : List Range) (prepared : List Prepared) (r : Range) (given : Range) (f : Refusal) → Wanted i indirect func args ins outs prepared → outs ++ prepared_ranges prepared ≡ before ++ r ∷ after → IsHolding s past t ins before given r base memory → Unraced past t true r → IsRefused memory.bytes memory.held.regions (region_access t given true) f → Finds (checks i s past t (Calls indirect func args)) (finding_of f)
+  pub refused_hold : (ins outs before after : List Range) (prepared : List Prepared) (r : Range) (given : Range) (f : Refusal) →
+      Wanted i indirect func args ins outs prepared → outs ++ prepared_ranges prepared ≡ before ++ r ∷ after →
+      IsHolding s past t ins before given r base memory → Unraced past t true r →
+      IsRefused memory.bytes memory.held.regions (region_access t given true) f →
+      Finds (checks i s past t (Calls indirect func args)) (finding_of f)
   refused_hold ins outs before after prepared r given f w all k unraced refused =
       hold_on ins outs before after prepared r given (finding_of f) w all k (λ cs. refused_mid s past t ins before [] base memory k.call true (piled before []) (nil_any before) given r k.below k.region cs unraced f refused)
 
-  pub raced_hold : (ins outs before after : List Range) (prepared : List Prepared) (r : Range) (given : Range) (f : Finding) → Wanted i indirect func args ins outs prepared → outs ++ prepared_ranges prepared ≡ before ++ r ∷ after → IsHolding s past t ins before given r base memory → ((x : ℕ) → IsRefused memory.bytes memory.held.regions (region_access t given true) (OtherSpace x) → ⊥) → Finds (race_check past t true r Done) f → Finds (checks i s past t (Calls indirect func args)) f
+  pub raced_hold : (ins outs before after : List Range) (prepared : List Prepared) (r : Range) (given : Range) (f : Finding) →
+      Wanted i indirect func args ins outs prepared → outs ++ prepared_ranges prepared ≡ before ++ r ∷ after →
+      IsHolding s past t ins before given r base memory →
+      ((x : ℕ) → IsRefused memory.bytes memory.held.regions (region_access t given true) (OtherSpace x) → ⊥) →
+      Finds (race_check past t true r Done) f → Finds (checks i s past t (Calls indirect func args)) f
   raced_hold ins outs before after prepared r given f w all k own raced =
       hold_on ins outs before after prepared r given f w all k (λ cs. race_mid s past t ins before [] base memory k.call true (piled before []) (nil_any before) given r k.below k.region cs f own raced)
 
   -- all ranges pass
   module _ (P : Checks → Type 0) (step : (Bad : ℕ → Type 0) (Found : ℕ → Finding → Type 0) (cs : Checks) → ((x : ℕ) → Bad x → ⊥) → P cs → P (Check Bad Found cs)) where
-    pub all_ranges : (ins held outs : List Range) (prepared : List Prepared) (keys : List Prepared) → outs ++ prepared_ranges prepared ≡ held → AllFree base false ins → AllFree base true held → Apart held → StandsFor s past base → AllUnraced past t false ins → AllUnraced past t true held → P (key_checks s past [] keys Done) → P (read_checks s past t ins (hold_checks s past t [] (outs ++ prepared_ranges prepared) (key_checks s past [] keys Done)))
+    pub all_ranges : (ins held outs : List Range) (prepared : List Prepared) (keys : List Prepared) →
+        outs ++ prepared_ranges prepared ≡ held → AllFree base false ins → AllFree base true held → Apart held → StandsFor s past base →
+        AllUnraced past t false ins → AllUnraced past t true held → P (key_checks s past [] keys Done) →
+        P (read_checks s past t ins (hold_checks s past t [] (outs ++ prepared_ranges prepared) (key_checks s past [] keys Done)))
     all_ranges ins held outs prepared keys all free_ins free apart h unraced_ins unraced p =
         subst (λ rs. P (read_checks s past t rs (hold_checks s past t [] (outs ++ prepared_ranges prepared) (key_checks s past [] keys Done)))) (append-nil ins)
         (past_reads P step s past t base h ins [] (hold_checks s past t [] (outs ++ prepared_ranges prepared) (key_checks s past [] keys Done)) free_ins unraced_ins
         (subst (λ rs. P (hold_checks s past t [] rs (key_checks s past [] keys Done))) (append-nil held ∙ sym all)
         (past_holds P step s past t base h held [] [] (key_checks s past [] keys Done) free unraced apart (λ x in'. refl) p)))
 
-  pub made_passes : (ins outs : List Range) (prepared : List Prepared) → Wanted i indirect func args ins outs prepared → InCall s past t (parts_of ins outs prepared) base memory → AllUnraced past t false ins → AllUnraced past t true (outs ++ prepared_ranges prepared) → Passes (checks i s past t (Calls indirect func args))
+  pub made_passes : (ins outs : List Range) (prepared : List Prepared) → Wanted i indirect func args ins outs prepared →
+      InCall s past t (parts_of ins outs prepared) base memory → AllUnraced past t false ins →
+      AllUnraced past t true (outs ++ prepared_ranges prepared) → Passes (checks i s past t (Calls indirect func args))
   made_passes ins outs prepared w h unraced_ins unraced =
       wanted_checks Passes through i s past t indirect func args ins outs prepared w
-      (all_ranges Passes through ins (outs ++ prepared_ranges prepared) outs prepared prepared refl (free_reads base ins outs prepared h.free) (free_holds base ins outs prepared h.free) (apart_mid s past t ins outs prepared base memory h) h.stands unraced_ins unraced
+      (all_ranges Passes through ins (outs ++ prepared_ranges prepared) outs prepared prepared refl
+      (free_reads base ins outs prepared h.free) (free_holds base ins outs prepared h.free)
+      (apart_mid s past t ins outs prepared base memory h) h.stands unraced_ins unraced
       (subst (λ ps. Passes (key_checks s past [] ps Done)) (append-nil prepared)
       (past_keys Passes through s past t base h.stands prepared [] [] Done (free_keys_mid s past t ins outs prepared base memory h) (distinct_mid s past t ins outs prepared base memory h) (λ k in'. refl) tt)))
 

@@ -65,16 +65,29 @@ module _ (bytes : List AreaState) (call : OpenCall) where
   -- the ranges of parts that are written don't meet
   pub prepared_apart : (prepared : List Prepared) (rs : List Region) → HaveRegions bytes call (map prepared_part prepared) rs → AreApart rs → Apart (prepared_ranges prepared)
   prepared_apart [] [] h apart = tt
-  prepared_apart (p ∷ ps) (r ∷ rs) h apart = ((λ x in'. any_both [] ps x ∙ sym (prepares_any ps x) ∙ sym (held_is bytes call (map prepared_part ps) rs x h.1) ∙ apart.0 x (waits_as bytes call (prepared_part p) r x h.0 ∙ in')), prepared_apart ps rs h.1 apart.1)
+  prepared_apart (p ∷ ps) (r ∷ rs) h apart = (
+    (λ x in'. any_both [] ps x ∙ sym (prepares_any ps x) ∙ sym (held_is bytes call (map prepared_part ps) rs x h.1) ∙ apart.0 x
+        (waits_as bytes call (prepared_part p) r x h.0 ∙ in')),
+    prepared_apart ps rs h.1 apart.1,
+  )
   prepared_apart [] (r ∷ rs) h apart = absurd h
   prepared_apart (p ∷ ps) [] h apart = absurd h
 
-  pub held_apart : (outs : List Range) (prepared : List Prepared) (rs : List Region) → HaveRegions bytes call (map Holds outs ++ map prepared_part prepared) rs → AreApart rs → Apart (outs ++ prepared_ranges prepared)
+  pub held_apart : (outs : List Range) (prepared : List Prepared) (rs : List Region) →
+      HaveRegions bytes call (map Holds outs ++ map prepared_part prepared) rs → AreApart rs → Apart (outs ++ prepared_ranges prepared)
   held_apart [] prepared rs h apart = prepared_apart prepared rs h apart
-  held_apart (o ∷ outs) prepared (r ∷ rs) h apart = ((λ x in'. any_both outs prepared x ∙ ap (λ b. b || any_prepared prepared x) (sym (holds_any outs x)) ∙ ap (λ b. list_any (writes_byte x) (map Holds outs) || b) (sym (prepares_any prepared x)) ∙ sym (list_any-append (writes_byte x) (map Holds outs) (map prepared_part prepared)) ∙ sym (held_is bytes call (map Holds outs ++ map prepared_part prepared) rs x h.1) ∙ apart.0 x (waits_as bytes call (Holds o) r x h.0 ∙ in')), held_apart outs prepared rs h.1 apart.1)
+  held_apart (o ∷ outs) prepared (r ∷ rs) h apart = (
+    (λ x in'. any_both outs prepared x ∙ ap (λ b. b || any_prepared prepared x) (sym (holds_any outs x)) ∙ ap
+        (λ b. list_any (writes_byte x) (map Holds outs) || b) (sym (prepares_any prepared x)) ∙ sym
+        (list_any-append (writes_byte x) (map Holds outs) (map prepared_part prepared)) ∙ sym
+        (held_is bytes call (map Holds outs ++ map prepared_part prepared) rs x h.1) ∙ apart.0 x
+        (waits_as bytes call (Holds o) r x h.0 ∙ in')),
+    held_apart outs prepared rs h.1 apart.1,
+  )
   held_apart (o ∷ outs) prepared [] h apart = absurd h
 
-  pub read_apart : (ins outs : List Range) (prepared : List Prepared) (rs : List Region) → HaveRegions bytes call (parts_of ins outs prepared) rs → AreApart rs → Apart (outs ++ prepared_ranges prepared)
+  pub read_apart : (ins outs : List Range) (prepared : List Prepared) (rs : List Region) →
+      HaveRegions bytes call (parts_of ins outs prepared) rs → AreApart rs → Apart (outs ++ prepared_ranges prepared)
   read_apart [] outs prepared rs h apart = held_apart outs prepared rs h apart
   read_apart (i ∷ ins) outs prepared (r ∷ rs) h apart = read_apart ins outs prepared rs h.1 apart.1
   read_apart (i ∷ ins) outs prepared [] h apart = absurd h
@@ -94,7 +107,8 @@ module _ (bytes : List AreaState) (call : OpenCall) where
   prepared_distinct (p ∷ ps) (r ∷ rs) h own = (unused ps rs p.key h.1 (own.0 p.key (ap (has_key p.key) h.0.holder_is ∙ eq-eqb p.key p.key refl)), prepared_distinct ps rs h.1 own.1)
   prepared_distinct (p ∷ ps) [] h own = absurd h
 
-  pub held_distinct : (outs : List Range) (prepared : List Prepared) (rs : List Region) → HaveRegions bytes call (map Holds outs ++ map prepared_part prepared) rs → HaveOwnKeys rs → DistinctKeys prepared
+  pub held_distinct : (outs : List Range) (prepared : List Prepared) (rs : List Region) →
+      HaveRegions bytes call (map Holds outs ++ map prepared_part prepared) rs → HaveOwnKeys rs → DistinctKeys prepared
   held_distinct [] prepared rs h own = prepared_distinct prepared rs h own
   held_distinct (o ∷ outs) prepared (r ∷ rs) h own = held_distinct outs prepared rs h.1 own.1
   held_distinct (o ∷ outs) prepared [] h own = absurd h
@@ -104,7 +118,10 @@ module _ (bytes : List AreaState) (call : OpenCall) where
   read_distinct (i ∷ ins) outs prepared (r ∷ rs) h own = read_distinct ins outs prepared rs h.1 own.1
   read_distinct (i ∷ ins) outs prepared [] h own = absurd h
 
-module _ (s : Start) (past : List Mark) (base new : SpaceState) (m : Mark) (e : Event) (func : ℕ) (args : List ℕ) (ins : List Piece) (outs : List Range) (prepared : List Prepared) (h : InCall s past m.thread (parts_of (piece_ranges ins) outs prepared) base new) (is : m.act ≡ Made e) (kind : e.kind ≡ Call func args ins outs prepared) (shown : All (IsShown base.bytes) ins) (keyed : (k : ℕ) → prepares_key prepared k ≡ true → has m (OfKey (key Async k)) ≡ true) where
+module _ (s : Start) (past : List Mark) (base new : SpaceState) (m : Mark) (e : Event) (func : ℕ) (args : List ℕ) (ins : List Piece)
+    (outs : List Range) (prepared : List Prepared) (h : InCall s past m.thread (parts_of (piece_ranges ins) outs prepared) base new)
+    (is : m.act ≡ Made e) (kind : e.kind ≡ Call func args ins outs prepared) (shown : All (IsShown base.bytes) ins)
+    (keyed : (k : ℕ) → prepares_key prepared k ≡ true → has m (OfKey (key Async k)) ≡ true) where
   abbrev parts : List Part
   parts = parts_of (piece_ranges ins) outs prepared
 
@@ -128,7 +145,9 @@ module _ (s : Start) (past : List Mark) (base new : SpaceState) (m : Mark) (e : 
         let c = cover_parts p.range x in' in
         let at : p.range.addr + (x - p.range.addr) ≡ x = omega (arith, c.0) in
         let there : any_piece ins x ≡ true = sub x (or_left' (covers p.range x) (any_piece ps x) in') in
-        cell_at x (read_at x there) ∙ ap (λ b. cell_of b None) (ap (byte_at base.bytes) (sym at) ∙ (All-head (IsShown base.bytes) p ps all).bytes_are (x - p.range.addr) (omega (arith, (All-head (IsShown base.bytes) p ps all).whole, c.0, c.1)))),
+        cell_at x (read_at x there) ∙ ap (λ b. cell_of b None)
+        (ap (byte_at base.bytes) (sym at) ∙ (All-head (IsShown base.bytes) p ps all).bytes_are (x - p.range.addr)
+        (omega (arith, (All-head (IsShown base.bytes) p ps all).whole, c.0, c.1)))),
     shows ps x (λ y is'. sub y (or_right' (covers p.range y) (any_piece ps y) is')) (All-tail (IsShown base.bytes) p ps all),
   )
 

@@ -93,7 +93,8 @@ pub prepared_some : (ps : List Prepared) (k : ℕ) (o : Option Range) → prepar
 prepared_some [] k o is = absurd (true≢false (sym is))
 prepared_some (p ∷ ps) k o is = go (eqb p.key k) is (prepared_some ps k o)
   where
-    go : (b : Bool) → (b || prepares_key ps k) ≡ true → (prepares_key ps k ≡ true → prepared_under ps k o ≡ prepared_under ps k None) → cond b (Some p.range) (prepared_under ps k o) ≡ cond b (Some p.range) (prepared_under ps k None)
+    go : (b : Bool) → (b || prepares_key ps k) ≡ true → (prepares_key ps k ≡ true → prepared_under ps k o ≡ prepared_under ps k None) →
+        cond b (Some p.range) (prepared_under ps k o) ≡ cond b (Some p.range) (prepared_under ps k None)
     go true e again = refl
     go false e again = again e
 
@@ -126,7 +127,10 @@ own_key (r ∷ rest) ys k h used = go (has_key k r.holder) refl (own_key rest ys
     go true is again = absurd (used (none_left rest (h.0 k is)))
     go false is again = again
 
-module _ (s : Start) (past : List Mark) (base new : SpaceState) (m : Mark) (e : Event) (func : ℕ) (args : List ℕ) (ins : List Piece) (outs : List Range) (prepared : List Prepared) (h : InCall s past m.thread (parts_of (piece_ranges ins) outs prepared) base new) (is : m.act ≡ Made e) (kind : e.kind ≡ Call func args ins outs prepared) (keyed : (k : ℕ) → prepares_key prepared k ≡ true → has m (OfKey (key Async k)) ≡ true) where
+module _ (s : Start) (past : List Mark) (base new : SpaceState) (m : Mark) (e : Event) (func : ℕ) (args : List ℕ) (ins : List Piece)
+    (outs : List Range) (prepared : List Prepared) (h : InCall s past m.thread (parts_of (piece_ranges ins) outs prepared) base new)
+    (is : m.act ≡ Made e) (kind : e.kind ≡ Call func args ins outs prepared)
+    (keyed : (k : ℕ) → prepares_key prepared k ≡ true → has m (OfKey (key Async k)) ≡ true) where
   abbrev parts : List Part
   parts = parts_of (piece_ranges ins) outs prepared
 
@@ -151,7 +155,8 @@ module _ (s : Start) (past : List Mark) (base new : SpaceState) (m : Mark) (e : 
   bytes_are : (x : ℕ) → byte_at new.bytes x ≡ byte_at base.bytes x
   bytes_are x = ap (λ (q : SpaceState). byte_at q.bytes x) h.rest
 
-  call_bytes : (x : ℕ) → is_system x ≡ false → (b : Bool) → held_byte x ≡ b → cond b (hold (byte s x past).cell) (byte s x past).cell ≡ cell_of (byte_at base.bytes x) (value_when_held (base.held.regions ++ h.regions.added) x)
+  call_bytes : (x : ℕ) → is_system x ≡ false → (b : Bool) → held_byte x ≡ b →
+      cond b (hold (byte s x past).cell) (byte s x past).cell ≡ cell_of (byte_at base.bytes x) (value_when_held (base.held.regions ++ h.regions.added) x)
   call_bytes x own true w =
       let f = held_at x w in
       let none = value_before x f.free in
@@ -164,13 +169,19 @@ module _ (s : Start) (past : List Mark) (base new : SpaceState) (m : Mark) (e : 
 
   -- the calls of a thread
   depth_up : slice_index new.held.depths m.thread ≡ slice_index base.held.depths m.thread + 1
-  depth_up = ap (λ ds. slice_index ds m.thread) h.depths ∙ get_or-set_same base.held.depths m.thread (slice_index base.held.depths m.thread + 1) 0 (omega (arith, h.thread, h.stands.sound.held.threads))
+  depth_up =
+      ap (λ ds. slice_index ds m.thread) h.depths
+      ∙ get_or-set_same base.held.depths m.thread (slice_index base.held.depths m.thread + 1) 0 (omega (arith, h.thread, h.stands.sound.held.threads))
 
   depth_is : made.depth ≡ suc (length (open_calls (marks_of s m.thread past)))
   depth_is = let d = (h.stands.calls m.thread h.thread).depth in omega (arith, depth_up, d)
 
   -- in its own thread the call comes on top
-  on_top : (d : ℕ) (f : List Region → List Region) (g : run.OpenCall → List Range) (rs : List Range) (c : run.OpenCall) → g c ≡ rs → map (λ (r : Region). r.range) (f base.held.regions) ≡ ranges_at g d (open_calls (marks_of s m.thread past)) → f new.held.regions ≡ f base.held.regions ++ f h.regions.added → map (λ (r : Region). r.range) (f h.regions.added) ≡ cond (is_same_call made (record { thread = m.thread; depth = d })) rs [] → map (λ (r : Region). r.range) (f new.held.regions) ≡ ranges_at g d (c ∷ open_calls (marks_of s m.thread past))
+  on_top : (d : ℕ) (f : List Region → List Region) (g : run.OpenCall → List Range) (rs : List Range) (c : run.OpenCall) → g c ≡ rs →
+      map (λ (r : Region). r.range) (f base.held.regions) ≡ ranges_at g d (open_calls (marks_of s m.thread past)) →
+      f new.held.regions ≡ f base.held.regions ++ f h.regions.added →
+      map (λ (r : Region). r.range) (f h.regions.added) ≡ cond (is_same_call made (record { thread = m.thread; depth = d })) rs [] →
+      map (λ (r : Region). r.range) (f new.held.regions) ≡ ranges_at g d (c ∷ open_calls (marks_of s m.thread past))
   on_top d f g rs c here old_is parts_are added_is = elim (cases_eq d (suc (length (open_calls (marks_of s m.thread past))))) [
     | inl e ↦
         let cs = open_calls (marks_of s m.thread past) in
@@ -193,7 +204,9 @@ module _ (s : Start) (past : List Mark) (base new : SpaceState) (m : Mark) (e : 
       nil_right [] = refl
       nil_right (q ∷ qs) = ap (λ ks. q ∷ ks) (nil_right qs)
 
-  elsewhere : (other : OpenCall) (f : List Region → List Region) (rs : List Range) → (m.thread ≡ other.thread → ⊥) → f new.held.regions ≡ f base.held.regions ++ f h.regions.added → map (λ (r : Region). r.range) (f h.regions.added) ≡ cond (is_same_call made other) rs [] → f new.held.regions ≡ f base.held.regions
+  elsewhere : (other : OpenCall) (f : List Region → List Region) (rs : List Range) → (m.thread ≡ other.thread → ⊥) →
+      f new.held.regions ≡ f base.held.regions ++ f h.regions.added →
+      map (λ (r : Region). r.range) (f h.regions.added) ≡ cond (is_same_call made other) rs [] → f new.held.regions ≡ f base.held.regions
   elsewhere other f rs ne parts_are added_is =
       let apart : is_same_call made other ≡ false = and_left (eqb m.thread other.thread) (eqb made.depth other.depth) (ne_eqb m.thread other.thread ne) in
       let none : f h.regions.added ≡ [] = empty_map (f h.regions.added) (added_is ∙ cond-false (is_same_call made other) rs [] apart) in
@@ -215,15 +228,23 @@ module _ (s : Start) (past : List Mark) (base new : SpaceState) (m : Mark) (e : 
   own_calls : HoldsFor new.held m.thread (call ∷ open_calls (marks_of s m.thread past))
   own_calls = record {
     depth = depth_is;
-    ins = λ d. let o : OpenCall = record { thread = m.thread; depth = d } in on_top d (ins_of o) (λ c. c.ins) (piece_ranges ins) call refl ((h.stands.calls m.thread h.thread).ins d) (ins_split o) (added_ins base.bytes made (piece_ranges ins) outs prepared h.regions.added h.regions.regions o);
-    outs = λ d. let o : OpenCall = record { thread = m.thread; depth = d } in on_top d (outs_of o) (λ c. c.outs) outs call refl ((h.stands.calls m.thread h.thread).outs d) (outs_split o) (added_outs base.bytes made (piece_ranges ins) outs prepared h.regions.added h.regions.regions o);
+    ins = λ d. let o : OpenCall = record { thread = m.thread; depth = d } in on_top d (ins_of o) (λ c. c.ins) (piece_ranges ins) call refl
+        ((h.stands.calls m.thread h.thread).ins d) (ins_split o)
+        (added_ins base.bytes made (piece_ranges ins) outs prepared h.regions.added h.regions.regions o);
+    outs = λ d. let o : OpenCall = record { thread = m.thread; depth = d } in on_top d (outs_of o) (λ c. c.outs) outs call refl
+        ((h.stands.calls m.thread h.thread).outs d) (outs_split o)
+        (added_outs base.bytes made (piece_ranges ins) outs prepared h.regions.added h.regions.regions o);
   }
 
   other_calls : (t : ℕ) → (m.thread ≡ t → ⊥) → t < thread_count → HoldsFor new.held t (open_calls (marks_of s t past))
   other_calls t ne lt = record {
     depth = ap (λ ds. slice_index ds t) h.depths ∙ get_or-set_other base.held.depths m.thread t (slice_index base.held.depths m.thread + 1) 0 (λ q. ne (sym q)) ∙ (h.stands.calls t lt).depth;
-    ins = λ d. let o : OpenCall = record { thread = t; depth = d } in ap (map (λ (r : Region). r.range)) (elsewhere o (ins_of o) (piece_ranges ins) ne (ins_split o) (added_ins base.bytes made (piece_ranges ins) outs prepared h.regions.added h.regions.regions o)) ∙ (h.stands.calls t lt).ins d;
-    outs = λ d. let o : OpenCall = record { thread = t; depth = d } in ap (map (λ (r : Region). r.range)) (elsewhere o (outs_of o) outs ne (outs_split o) (added_outs base.bytes made (piece_ranges ins) outs prepared h.regions.added h.regions.regions o)) ∙ (h.stands.calls t lt).outs d;
+    ins = λ d. let o : OpenCall = record { thread = t; depth = d } in ap (map (λ (r : Region). r.range))
+        (elsewhere o (ins_of o) (piece_ranges ins) ne (ins_split o)
+        (added_ins base.bytes made (piece_ranges ins) outs prepared h.regions.added h.regions.regions o)) ∙ (h.stands.calls t lt).ins d;
+    outs = λ d. let o : OpenCall = record { thread = t; depth = d } in ap (map (λ (r : Region). r.range))
+        (elsewhere o (outs_of o) outs ne (outs_split o)
+        (added_outs base.bytes made (piece_ranges ins) outs prepared h.regions.added h.regions.regions o)) ∙ (h.stands.calls t lt).outs d;
   }
 
   calls_now : open_calls (marks_of s m.thread (m ∷ past)) ≡ call ∷ open_calls (marks_of s m.thread past)
@@ -240,7 +261,10 @@ module _ (s : Start) (past : List Mark) (base new : SpaceState) (m : Mark) (e : 
   keys_all = subst HaveOwnKeys h.regions.all h.held.keys
 
   pub no_key : (k : ℕ) → prepares_key prepared k ≡ true → prepared_region base.held.regions k ≡ None
-  no_key k used = own_key base.held.regions h.regions.added k keys_all (λ none. prepared_there prepared k used (sym (added_key base.bytes made (piece_ranges ins) outs prepared h.regions.added h.regions.regions k) ∙ ap (option_map (λ (r : Region). r.range)) none))
+  no_key k used = own_key base.held.regions h.regions.added k keys_all
+      (λ none. prepared_there prepared k used
+      (sym (added_key base.bytes made (piece_ranges ins) outs prepared h.regions.added h.regions.regions k) ∙ ap
+      (option_map (λ (r : Region). r.range)) none))
 
   abbrev before_key : ℕ → Option Range
   before_key k = in_use s k past
@@ -255,7 +279,9 @@ module _ (s : Start) (past : List Mark) (base new : SpaceState) (m : Mark) (e : 
         ∙ added_key base.bytes made (piece_ranges ins) outs prepared h.regions.added h.regions.regions k
         ∙ sym (keys_more s m past k ∙ cond-true (has m (OfKey (key Async k))) (act_use k m.act (before_key k)) (before_key k) (keyed k used) ∙ use_is k (before_key k) ∙ prepared_some prepared k (before_key k) used)
     | inr unused ↦
-        let none : prepared_region h.regions.added k ≡ None = no_region (prepared_region h.regions.added k) (added_key base.bytes made (piece_ranges ins) outs prepared h.regions.added h.regions.regions k ∙ prepared_keeps prepared k None unused) in
+        let none : prepared_region h.regions.added k ≡ None = no_region (prepared_region h.regions.added k)
+        (added_key base.bytes made (piece_ranges ins) outs prepared h.regions.added h.regions.regions k ∙
+        prepared_keeps prepared k None unused) in
         ap (option_map (λ (r : Region). r.range)) (prepared_right base.held.regions h.regions.added k none)
         ∙ h.stands.keys k
         ∙ sym (keys_more s m past k ∙ stay s m past (has m (OfKey (key Async k))) (act_use k m.act (before_key k)) (before_key k) (use_is k (before_key k) ∙ prepared_keeps prepared k (before_key k) unused))

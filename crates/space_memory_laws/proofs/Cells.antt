@@ -52,7 +52,9 @@ pub unheld : (regions : List Region) (x : ℕ) → (IsPending regions x → ⊥)
 unheld [] x none = refl
 unheld (r ∷ rest) x none = go (is_pending r.holder && covers r.range x) none (unheld rest x)
   where
-    go : (b : Bool) → ((b || list_any (λ (q : Region). is_pending q.holder && covers q.range x) rest) ≡ true → ⊥) → ((IsPending rest x → ⊥) → value_when_held rest x ≡ None) → cond b (Some (get_or r.before (x - r.range.addr) 0)) (value_when_held rest x) ≡ None
+    go : (b : Bool) → ((b || list_any (λ (q : Region). is_pending q.holder && covers q.range x) rest) ≡ true → ⊥) →
+        ((IsPending rest x → ⊥) → value_when_held rest x ≡ None) →
+        cond b (Some (get_or r.before (x - r.range.addr) 0)) (value_when_held rest x) ≡ None
     go true free again = absurd (free refl)
     go false free again = again free
 
@@ -60,7 +62,9 @@ pub held_by : (regions : List Region) (x : ℕ) → IsPending regions x → (v :
 held_by [] x p = absurd (true≢false (sym p))
 held_by (r ∷ rest) x p = go (is_pending r.holder && covers r.range x) p (held_by rest x)
   where
-    go : (b : Bool) → (b || list_any (λ (q : Region). is_pending q.holder && covers q.range x) rest) ≡ true → (IsPending rest x → (v : ℕ) × (value_when_held rest x ≡ Some v)) → (v : ℕ) × (cond b (Some (get_or r.before (x - r.range.addr) 0)) (value_when_held rest x) ≡ Some v)
+    go : (b : Bool) → (b || list_any (λ (q : Region). is_pending q.holder && covers q.range x) rest) ≡ true →
+        (IsPending rest x → (v : ℕ) × (value_when_held rest x ≡ Some v)) →
+        (v : ℕ) × (cond b (Some (get_or r.before (x - r.range.addr) 0)) (value_when_held rest x) ≡ Some v)
     go true is again = (get_or r.before (x - r.range.addr) 0, refl)
     go false is again = again is
 

@@ -48,7 +48,9 @@ pub shared : LikeRunsShareMemory
 shared s c past run memory r h = stands s c past run memory r h
 
 -- one mark more, which is one of those that are looked at, or isn't
-more : {A : Type 0} (one other : List Mark → A) (step : A → A) (b : Bool) (m : Mark) (past run : List Mark) → ((ms : List Mark) → one (m ∷ ms) ≡ step (one ms)) → ((ms : List Mark) → other (m ∷ ms) ≡ step (other ms)) → one past ≡ other run → one (cond b (m ∷ past) past) ≡ other (cond b (m ∷ run) run)
+more : {A : Type 0} (one other : List Mark → A) (step : A → A) (b : Bool) (m : Mark) (past run : List Mark) →
+    ((ms : List Mark) → one (m ∷ ms) ≡ step (one ms)) → ((ms : List Mark) → other (m ∷ ms) ≡ step (other ms)) → one past ≡ other run →
+    one (cond b (m ∷ past) past) ≡ other (cond b (m ∷ run) run)
 more one other step true m past run steps steps' same = steps past ∙ ap step same ∙ sym (steps' run)
 more one other step false m past run steps steps' same = same
 

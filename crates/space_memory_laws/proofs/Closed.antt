@@ -103,7 +103,8 @@ module _ (call : OpenCall) (ck : Option ℕ) where
   held_less x [] e = refl
   held_less x (r ∷ rest) e = go (stays r) (waits_at x r) refl e (held_less x rest)
     where
-      go : (b w : Bool) → waits_at x r ≡ w → (w || is_held rest x) ≡ false → (is_held rest x ≡ false → is_held (closed rest) x ≡ false) → is_held (map (disown call) (cond b (r ∷ filter stays rest) (filter stays rest))) x ≡ false
+      go : (b w : Bool) → waits_at x r ≡ w → (w || is_held rest x) ≡ false → (is_held rest x ≡ false → is_held (closed rest) x ≡ false) →
+          is_held (map (disown call) (cond b (r ∷ filter stays rest) (filter stays rest))) x ≡ false
       go b true is e again = absurd (true≢false e)
       go true false is e again = ap (λ b. b || is_held (closed rest) x) (waits_still x r ∙ is) ∙ again e
       go false false is e again = again e
@@ -112,8 +113,12 @@ module _ (call : OpenCall) (ck : Option ℕ) where
   value_kept x [] e = refl
   value_kept x (r ∷ rest) e = go (stays r) (waits_at x r) refl refl e (value_kept x rest)
     where
-      go : (b w : Bool) → stays r ≡ b → waits_at x r ≡ w → ((w && not b) || list_any (goes_at x) rest) ≡ false → (list_any (goes_at x) rest ≡ false → value_when_held (closed rest) x ≡ value_when_held rest x) → value_when_held (map (disown call) (cond b (r ∷ filter stays rest) (filter stays rest))) x ≡ cond w (Some (get_or r.before (x - r.range.addr) 0)) (value_when_held rest x)
-      go true w s is e again = ap (λ c. cond c (Some (get_or r.before (x - r.range.addr) 0)) (value_when_held (closed rest) x)) (waits_still x r ∙ is) ∙ ap (λ v. cond w (Some (get_or r.before (x - r.range.addr) 0)) v) (again (or_rest (w && false) (list_any (goes_at x) rest) e))
+      go : (b w : Bool) → stays r ≡ b → waits_at x r ≡ w → ((w && not b) || list_any (goes_at x) rest) ≡ false →
+          (list_any (goes_at x) rest ≡ false → value_when_held (closed rest) x ≡ value_when_held rest x) →
+          value_when_held (map (disown call) (cond b (r ∷ filter stays rest) (filter stays rest))) x ≡ cond w (Some (get_or r.before (x - r.range.addr) 0)) (value_when_held rest x)
+      go true w s is e again =
+          ap (λ c. cond c (Some (get_or r.before (x - r.range.addr) 0)) (value_when_held (closed rest) x)) (waits_still x r ∙ is)
+          ∙ ap (λ v. cond w (Some (get_or r.before (x - r.range.addr) 0)) v) (again (or_rest (w && false) (list_any (goes_at x) rest) e))
         where
           or_rest : (a b : Bool) → (a || b) ≡ false → b ≡ false
           or_rest true b e = absurd (true≢false e)
@@ -136,7 +141,9 @@ module _ (call : OpenCall) (ck : Option ℕ) where
           step true e again = absurd (true≢false e)
           step false e again = again e
 
-      go : (b w : Bool) → stays r ≡ b → waits_at x r ≡ w → ((w && not b) || list_any (goes_at x) rest) ≡ true → (list_any (goes_at x) rest ≡ true → value_when_held (closed rest) x ≡ None) → value_when_held (map (disown call) (cond b (r ∷ filter stays rest) (filter stays rest))) x ≡ None
+      go : (b w : Bool) → stays r ≡ b → waits_at x r ≡ w → ((w && not b) || list_any (goes_at x) rest) ≡ true →
+          (list_any (goes_at x) rest ≡ true → value_when_held (closed rest) x ≡ None) →
+          value_when_held (map (disown call) (cond b (r ∷ filter stays rest) (filter stays rest))) x ≡ None
       go false true s is e again = all_idle (apart.0 x is)
       go false false s is e again = again e
       go true false s is e again = ap (λ c. cond c (Some (get_or r.before (x - r.range.addr) 0)) (value_when_held (closed rest) x)) (waits_still x r ∙ is) ∙ again e
@@ -154,7 +161,9 @@ module _ (call : OpenCall) (ck : Option ℕ) where
   key_less k [] e = refl
   key_less k (r ∷ rest) e = go (stays r) (has_key k r.holder) refl e (key_less k rest)
     where
-      go : (b w : Bool) → has_key k r.holder ≡ w → cond w (Some r) (prepared_region rest k) ≡ None → (prepared_region rest k ≡ None → prepared_region (closed rest) k ≡ None) → prepared_region (map (disown call) (cond b (r ∷ filter stays rest) (filter stays rest))) k ≡ None
+      go : (b w : Bool) → has_key k r.holder ≡ w → cond w (Some r) (prepared_region rest k) ≡ None →
+          (prepared_region rest k ≡ None → prepared_region (closed rest) k ≡ None) →
+          prepared_region (map (disown call) (cond b (r ∷ filter stays rest) (filter stays rest))) k ≡ None
       go b true is e again = absurd (some_none r e)
       go true false is e again = ap (λ c. cond c (Some (disown call r)) (prepared_region (closed rest) k)) (disowned_key call k r.holder ∙ is) ∙ again e
       go false false is e again = again e
@@ -180,7 +189,9 @@ module _ (call : OpenCall) (ck : Option ℕ) where
   owned_kept other [] e = refl
   owned_kept other (r ∷ rest) e = go (stays r) (is_of other r.holder) refl e (owned_kept other rest)
     where
-      go : (b w : Bool) → is_of other r.holder ≡ w → (w || has_region other rest) ≡ false → (has_region other rest ≡ false → has_region other (closed rest) ≡ false) → has_region other (map (disown call) (cond b (r ∷ filter stays rest) (filter stays rest))) ≡ false
+      go : (b w : Bool) → is_of other r.holder ≡ w → (w || has_region other rest) ≡ false →
+          (has_region other rest ≡ false → has_region other (closed rest) ≡ false) →
+          has_region other (map (disown call) (cond b (r ∷ filter stays rest) (filter stays rest))) ≡ false
       go b true is e again = absurd (true≢false e)
       go true false is e again = ap (λ b. b || has_region other (closed rest)) (disowned_of call other r.holder is) ∙ again e
       go false false is e again = again e
@@ -197,22 +208,33 @@ module _ (call : OpenCall) (ck : Option ℕ) where
   abbrev ranges : List Region → List Range
   ranges rs = map (λ (r : Region). r.range) rs
 
-  test_kept : (f : Holder → Bool) → ((h : Holder) → f (disowned call h) ≡ f h) → ((h : Holder) → f h ≡ true → outlives call ck h ≡ true) → (rs : List Region) → ranges (filter (λ (r : Region). f r.holder) (closed rs)) ≡ ranges (filter (λ (r : Region). f r.holder) rs)
+  test_kept : (f : Holder → Bool) → ((h : Holder) → f (disowned call h) ≡ f h) → ((h : Holder) → f h ≡ true → outlives call ck h ≡ true) →
+      (rs : List Region) → ranges (filter (λ (r : Region). f r.holder) (closed rs)) ≡ ranges (filter (λ (r : Region). f r.holder) rs)
   test_kept f same live [] = refl
   test_kept f same live (r ∷ rest) = go (stays r) (f r.holder) refl refl (test_kept f same live rest)
     where
-      go : (b w : Bool) → stays r ≡ b → f r.holder ≡ w → ranges (filter (λ (r : Region). f r.holder) (closed rest)) ≡ ranges (filter (λ (r : Region). f r.holder) rest) → ranges (filter (λ (r : Region). f r.holder) (map (disown call) (cond b (r ∷ filter stays rest) (filter stays rest)))) ≡ ranges (cond w (r ∷ filter (λ (r : Region). f r.holder) rest) (filter (λ (r : Region). f r.holder) rest))
-      go true true s is again = ap (λ c. ranges (cond c (disown call r ∷ filter (λ (r : Region). f r.holder) (closed rest)) (filter (λ (r : Region). f r.holder) (closed rest)))) (same r.holder ∙ is) ∙ ap (λ qs. r.range ∷ qs) again
-      go true false s is again = ap (λ c. ranges (cond c (disown call r ∷ filter (λ (r : Region). f r.holder) (closed rest)) (filter (λ (r : Region). f r.holder) (closed rest)))) (same r.holder ∙ is) ∙ again
+      go : (b w : Bool) → stays r ≡ b → f r.holder ≡ w →
+          ranges (filter (λ (r : Region). f r.holder) (closed rest)) ≡ ranges (filter (λ (r : Region). f r.holder) rest) →
+          ranges (filter (λ (r : Region). f r.holder) (map (disown call) (cond b (r ∷ filter stays rest) (filter stays rest)))) ≡ ranges (cond w (r ∷ filter (λ (r : Region). f r.holder) rest) (filter (λ (r : Region). f r.holder) rest))
+      go true true s is again =
+          ap (λ c. ranges (cond c (disown call r ∷ filter (λ (r : Region). f r.holder) (closed rest)) (filter (λ (r : Region). f r.holder) (closed rest)))) (same r.holder ∙ is)
+          ∙ ap (λ qs. r.range ∷ qs) again
+      go true false s is again =
+          ap (λ c. ranges (cond c (disown call r ∷ filter (λ (r : Region). f r.holder) (closed rest)) (filter (λ (r : Region). f r.holder) (closed rest)))) (same r.holder ∙ is)
+          ∙ again
       go false true s is again = absurd (true≢false (sym (live r.holder is) ∙ s))
       go false false s is again = again
 
-  test_gone : (f : Holder → Bool) → ((h : Holder) → f (disowned call h) ≡ f h) → ((h : Holder) → outlives call ck h ≡ true → f h ≡ false) → (rs : List Region) → filter (λ (r : Region). f r.holder) (closed rs) ≡ []
+  test_gone : (f : Holder → Bool) → ((h : Holder) → f (disowned call h) ≡ f h) → ((h : Holder) → outlives call ck h ≡ true → f h ≡ false) →
+      (rs : List Region) → filter (λ (r : Region). f r.holder) (closed rs) ≡ []
   test_gone f same dead [] = refl
   test_gone f same dead (r ∷ rest) = go (stays r) refl (test_gone f same dead rest)
     where
-      go : (b : Bool) → stays r ≡ b → filter (λ (r : Region). f r.holder) (closed rest) ≡ [] → filter (λ (r : Region). f r.holder) (map (disown call) (cond b (r ∷ filter stays rest) (filter stays rest))) ≡ []
-      go true s again = ap (λ c. cond c (disown call r ∷ filter (λ (r : Region). f r.holder) (closed rest)) (filter (λ (r : Region). f r.holder) (closed rest))) (same r.holder ∙ dead r.holder s) ∙ again
+      go : (b : Bool) → stays r ≡ b → filter (λ (r : Region). f r.holder) (closed rest) ≡ [] →
+          filter (λ (r : Region). f r.holder) (map (disown call) (cond b (r ∷ filter stays rest) (filter stays rest))) ≡ []
+      go true s again =
+          ap (λ c. cond c (disown call r ∷ filter (λ (r : Region). f r.holder) (closed rest)) (filter (λ (r : Region). f r.holder) (closed rest))) (same r.holder ∙ dead r.holder s)
+          ∙ again
       go false s again = again
 
   not_same : (a b : Bool) → (a ≡ true → b ≡ true → ⊥) → a ≡ true → not b ≡ true
@@ -260,12 +282,19 @@ module _ (call : OpenCall) (ck : Option ℕ) where
   outs_gone rs = test_gone (is_out_of call) (disowned_out call call) out_dies rs
 
   -- a key that isn't committed keeps its region's range
-  pub key_kept : (k : ℕ) → ((h : Holder) → has_key k h ≡ true → outlives call ck h ≡ true) → (rs : List Region) → option_map (λ (r : Region). r.range) (prepared_region (closed rs) k) ≡ option_map (λ (r : Region). r.range) (prepared_region rs k)
+  pub key_kept : (k : ℕ) → ((h : Holder) → has_key k h ≡ true → outlives call ck h ≡ true) → (rs : List Region) →
+      option_map (λ (r : Region). r.range) (prepared_region (closed rs) k) ≡ option_map (λ (r : Region). r.range) (prepared_region rs k)
   key_kept k live [] = refl
   key_kept k live (r ∷ rest) = go (stays r) (has_key k r.holder) refl refl (key_kept k live rest)
     where
-      go : (b w : Bool) → stays r ≡ b → has_key k r.holder ≡ w → option_map (λ (r : Region). r.range) (prepared_region (closed rest) k) ≡ option_map (λ (r : Region). r.range) (prepared_region rest k) → option_map (λ (r : Region). r.range) (prepared_region (map (disown call) (cond b (r ∷ filter stays rest) (filter stays rest))) k) ≡ option_map (λ (r : Region). r.range) (cond w (Some r) (prepared_region rest k))
-      go true w s is again = ap (λ c. option_map (λ (r : Region). r.range) (cond c (Some (disown call r)) (prepared_region (closed rest) k))) (disowned_key call k r.holder ∙ is) ∙ elim w as (λ w. option_map (λ (r : Region). r.range) (cond w (Some (disown call r)) (prepared_region (closed rest) k)) ≡ option_map (λ (r : Region). r.range) (cond w (Some r) (prepared_region rest k))) [ true ↦ refl | false ↦ again ]
+      go : (b w : Bool) → stays r ≡ b → has_key k r.holder ≡ w →
+          option_map (λ (r : Region). r.range) (prepared_region (closed rest) k) ≡ option_map (λ (r : Region). r.range) (prepared_region rest k) →
+          option_map (λ (r : Region). r.range) (prepared_region (map (disown call) (cond b (r ∷ filter stays rest) (filter stays rest))) k) ≡ option_map (λ (r : Region). r.range) (cond w (Some r) (prepared_region rest k))
+      go true w s is again =
+          ap (λ c. option_map (λ (r : Region). r.range) (cond c (Some (disown call r)) (prepared_region (closed rest) k))) (disowned_key call k r.holder ∙ is)
+          ∙ elim w as (λ w. option_map (λ (r : Region). r.range)
+          (cond w (Some (disown call r)) (prepared_region (closed rest) k)) ≡ option_map (λ (r : Region). r.range)
+          (cond w (Some r) (prepared_region rest k))) [ true ↦ refl | false ↦ again ]
       go false true s is again = absurd (true≢false (sym (live r.holder is) ∙ s))
       go false false s is again = again
 
@@ -274,7 +303,8 @@ module _ (call : OpenCall) (ck : Option ℕ) where
   key_gone k dead [] = refl
   key_gone k dead (r ∷ rest) = go (stays r) (has_key k r.holder) refl refl (key_gone k dead rest)
     where
-      go : (b w : Bool) → stays r ≡ b → has_key k r.holder ≡ w → prepared_region (closed rest) k ≡ None → prepared_region (map (disown call) (cond b (r ∷ filter stays rest) (filter stays rest))) k ≡ None
+      go : (b w : Bool) → stays r ≡ b → has_key k r.holder ≡ w → prepared_region (closed rest) k ≡ None →
+          prepared_region (map (disown call) (cond b (r ∷ filter stays rest) (filter stays rest))) k ≡ None
       go true true s is again = absurd (true≢false (sym s ∙ dead r.holder is))
       go true false s is again = ap (λ c. cond c (Some (disown call r)) (prepared_region (closed rest) k)) (disowned_key call k r.holder ∙ is) ∙ again
       go false w s is again = again

@@ -26,10 +26,16 @@ use Rattle.space_memory_laws.proofs.Rooms.{IsTop, top_frame}
 module _ (s : Start) (past : List Mark) (memory : SpaceState) (h : StandsFor s past memory) where
   frame_there : (t at size : ℕ) → t < thread_count → top_of memory.sides.replay t ≡ Some (record { addr = at; len = size }) → EndsWhatIsThere s past (Leaves at size)
   frame_there t at size lt is x in' =
-      let top : IsTop (byte_at memory.bytes) t (record { addr = at; len = size }) = top_frame s past memory t (record { addr = at; len = size }) h lt (frames (marks_of s t past)) refl (sym (ap (λ (q : StackState). slice_get q.frames (length q.frames - 1)) (h.stacks t lt)) ∙ is) in
+      let top : IsTop (byte_at memory.bytes) t (record { addr = at; len = size }) = top_frame s past memory t
+      (record { addr = at; len = size }) h lt (frames (marks_of s t past)) refl
+      (sym (ap (λ (q : StackState). slice_get q.frames (length q.frames - 1)) (h.stacks t lt)) ∙ is) in
       let p = cover_parts (record { addr = at; len = size }) x in' in
-      let own : is_system x ≡ false = below_system x (omega (arith, p.1, top.to, lt)) in
-      ((λ dead. top.live x (p.0, p.1, omega (arith, p.1, top.to, lt)) (dead_byte s past memory h x own dead)), false_from_ne_true (is_constant x) (λ z. omega (arith, p.0, top.from, ltb-true x replay_globals (and_parts (leb constants x) (ltb x replay_globals) z).1)))
+      let own : is_system x ≡ false = below_system x (omega (arith, p.1, top.to, lt)) in (
+        (λ dead. top.live x (p.0, p.1, omega (arith, p.1, top.to, lt)) (dead_byte s past memory h x own dead)),
+        false_from_ne_true
+            (is_constant x) (λ z. omega
+            (arith, p.0, top.from, ltb-true x replay_globals (and_parts (leb constants x) (ltb x replay_globals) z).1)),
+      )
 
   block_there : (at : ℕ) → EndsWhatIsThere s past (Frees at)
   block_there at own x in' dead = with_length (length_at memory.sides.replay.pool.blocks at) refl
@@ -47,7 +53,9 @@ module _ (s : Start) (past : List Mark) (memory : SpaceState) (h : StandsFor s p
           let p = cover_parts (record { addr = at; len = (byte s at past).block }) x in' in
           let in_pool : covers (range replay_pool pool_size) x ≡ true = covered (range replay_pool pool_size) x (omega (arith, p.0, lies.0)) (omega (arith, p.1, lies.2, block)) in
           let below : is_system x ≡ false = below_system x (omega (arith, p.1, lies.2, block)) in
-          true≢false (sym (h.sound.blocks_live x in_pool ∙ any_is bs x ∙ any_there replay_pool (replay_pool + pool_size) (by_address bs) at len x h.sound.laid_out there (covered (record { addr = at; len = len }) x p.0 (omega (arith, p.1, block)))) ∙ ap is_some (dead_byte s past memory h x below dead))
+          true≢false (sym (h.sound.blocks_live x in_pool ∙ any_is bs x ∙ any_there replay_pool (replay_pool + pool_size)
+          (by_address bs) at len x h.sound.laid_out there (covered (record { addr = at; len = len }) x p.0 (omega (arith, p.1, block))))
+          ∙ ap is_some (dead_byte s past memory h x below dead))
 
 pub ended_there : WhatIsEndedIsThere
 ended_there s past memory t Outside h lt top = tt

@@ -44,7 +44,8 @@ before at (s ∷ shapes) (v ∷ args) i byte lt =
     ap (args_at next shapes args i) (cond-false (covers (part start (size_of s)) i) (Some (digit v (i - (0 + start)))) byte (missed start (size_of s) i (inl (omega (arith, lt)))))
     ∙ before next shapes args i byte (omega (arith, lt))
 
-byte_of : (at : ℕ) (shapes : List Shape) (args : List ℕ) (i : ℕ) → at ≤ i → length args ≡ length shapes → unwrap_or (args_at at shapes args i (Some 0)) 0 ≡ get_or (params_bytes at shapes args) (i - at) 0
+byte_of : (at : ℕ) (shapes : List Shape) (args : List ℕ) (i : ℕ) → at ≤ i → length args ≡ length shapes →
+    unwrap_or (args_at at shapes args i (Some 0)) 0 ≡ get_or (params_bytes at shapes args) (i - at) 0
 byte_of at [] args i le same = refl
 byte_of at (s ∷ shapes) [] i le same = absurd (omega (arith, same))
 byte_of at (s ∷ shapes) (v ∷ args) i le same =

@@ -31,7 +31,7 @@ use Rattle.space_memory_laws.specs.Held.{AreHeld}
 use Rattle.space_memory_laws.specs.Sound.{AreStacked, JustTheseLive, IsBelow, IsSound}
 use Rattle.space_memory_laws.specs.StandsFor.{HoldsFor, StandsFor}
 use Rattle.space_memory_laws.specs.Marks.{IsMark}
-use Rattle.space_memory_laws.specs.FrameMarks.{IsEnter}
+use Rattle.space_memory_laws.specs.FrameMarks.{IsEnter, EntersAreMarks, LeavesAreMarks}
 use Rattle.space_memory_laws.proofs.Backs.{frames_own, frames_other, calls_stay, blocks_stay, keys_stay}
 use Rattle.space_memory_laws.proofs.Cells.{cover_cases, cover_parts, covered, dead_from, unheld, below_system, in_replay}
 use Rattle.space_memory_laws.proofs.Access.{live_cell}
@@ -228,17 +228,17 @@ module _ (s : Start) (past : List Mark) (old new : SpaceState) (m : Mark) (func 
     room = e.room;
   }
 
-pub enters : (s : Start) (past : List Mark) (old new : SpaceState) (m : Mark) (func : ℕ) (args bytes : List ℕ) (addr size : ℕ) → StandsFor s past old → m.thread < thread_count → new.sides ≡ with_side old.sides Replay (with_thread old.sides.replay m.thread (frames_of old.sides.replay m.thread ++ record { addr = addr; len = size } ∷ [])) → addr ≡ memory.end_of (stack_of old.sides.replay.stacks m.thread).base (frames_of old.sides.replay m.thread) → ((r : Refusal) → IsEnterRefused (stack_of old.sides.replay.stacks m.thread) size r → ⊥) → new.held ≡ old.held → HasBytes new.bytes addr bytes → SameOutside (record { addr = addr; len = size }) old.bytes new.bytes → length bytes ≡ size → m.act ≡ Enter func args addr bytes → IsEnter s past m addr size new
-enters s past old new m func args bytes addr size h lt side place free held has outside count is =
-    subst (λ n. IsEnter s past m addr n new) count
+pub enters : EntersAreMarks
+enters s past old new m func args bytes addr size h lt e is =
+    subst (λ n. IsEnter s past m addr n new) e.count
     (enter_made s past old new m func args bytes addr h (record {
       lt = lt;
-      side = subst (λ n. new.sides ≡ with_side old.sides Replay (with_thread old.sides.replay m.thread (frames_of old.sides.replay m.thread ++ record { addr = addr; len = n } ∷ []))) (sym count) side;
-      place = place_is s past old m.thread h lt addr place;
-      room = subst (HasRoom m.thread (marks_of s m.thread past)) (sym count) (has_room s past old m.thread h lt size free);
-      held = held;
-      has = has;
-      outside = subst (λ n. SameOutside (record { addr = addr; len = n }) old.bytes new.bytes) (sym count) outside;
+      side = subst (λ n. new.sides ≡ with_side old.sides Replay (with_thread old.sides.replay m.thread (frames_of old.sides.replay m.thread ++ record { addr = addr; len = n } ∷ []))) (sym e.count) e.frame.sides;
+      place = place_is s past old m.thread h lt addr e.frame.place;
+      room = subst (HasRoom m.thread (marks_of s m.thread past)) (sym e.count) (has_room s past old m.thread h lt size e.frame.fits);
+      held = e.frame.held;
+      has = e.bytes_are;
+      outside = subst (λ n. SameOutside (record { addr = addr; len = n }) old.bytes new.bytes) (sym e.count) e.others;
       is = is;
     }))
 
@@ -306,21 +306,23 @@ module _ (s : Start) (past : List Mark) (old new : SpaceState) (m : Mark) (top :
   leave_made : IsMark s past m new
   leave_made = record { asks = subst (λ a. Asks a (λ x. byte s x past)) (sym e.is) asked; stands = restacked s past old new m below top h leave_restacks }
 
-pub leaves : (s : Start) (past : List Mark) (old new : SpaceState) (m : Mark) (frame : Range) → StandsFor s past old → m.thread < thread_count → frames_of old.sides.replay m.thread ≡ frames_of new.sides.replay m.thread ++ frame ∷ [] → new.sides ≡ with_side old.sides Replay (with_thread old.sides.replay m.thread (frames_of new.sides.replay m.thread)) → ((r : Refusal) → IsLeaveRefused Replay old.held.regions (top_of old.sides.replay m.thread) r → ⊥) → new.held ≡ old.held → FillsWith frame None old.bytes new.bytes → m.act ≡ Leave frame.addr frame.len → IsMark s past m new
-leaves s past old new m frame h lt left side free held fills is =
-    let k : IsInnermost (frames (marks_of s m.thread past)) (frames_of new.sides.replay m.thread) frame = innermost (frames (marks_of s m.thread past)) (frames_of new.sides.replay m.thread) frame (sym (ap (λ (q : StackState). q.frames) (h.stacks m.thread lt)) ∙ left) in
-    let top_is : top_of old.sides.replay m.thread ≡ Some frame = ap (λ gs. slice_get gs (length gs - 1)) left ∙ last_of (frames_of new.sides.replay m.thread) frame in
+pub leaves : LeavesAreMarks
+leaves s past old new m frame h lt free l is =
+    let k : IsInnermost (frames (marks_of s m.thread past)) (frames_of new.sides.replay m.thread) frame = innermost
+    (frames (marks_of s m.thread past)) (frames_of new.sides.replay m.thread) frame
+    (sym (ap (λ (q : StackState). q.frames) (h.stacks m.thread lt)) ∙ l.frames) in
+    let top_is : top_of old.sides.replay m.thread ≡ Some frame = ap (λ gs. slice_get gs (length gs - 1)) l.frames ∙ last_of (frames_of new.sides.replay m.thread) frame in
     let none : NoneIn frame (IsPending old.held.regions) = none_in frame (λ x. is_held old.held.regions x) (λ x least. free (Pending x) (subst (λ o. IsLeaveRefused Replay old.held.regions o (Pending x)) (sym top_is) least)) in
     leave_made s past old new m k.top k.below h (record {
       lt = lt;
       were = k.is;
-      system = ap (λ (q : Sides). q.system) side;
-      side = ap (λ (q : Sides). q.replay) side ∙ ap (with_thread old.sides.replay m.thread) k.rest_is;
+      system = ap (λ (q : Sides). q.system) l.sides;
+      side = ap (λ (q : Sides). q.replay) l.sides ∙ ap (with_thread old.sides.replay m.thread) k.rest_is;
       free = λ x c.
           let p = cover_parts k.top x c in
           let stacked = subst (AreStacked (stack Replay m.thread)) k.is (h.sound.stacked m.thread lt) in
           unheld old.held.regions x (subst (λ (q : Range). NoneIn q (IsPending old.held.regions)) k.frame_is none x (p.0, p.1, omega (arith, p.1, stacked.1, lt)));
-      held = held;
-      fills = subst (λ (q : Range). FillsWith q None old.bytes new.bytes) k.frame_is fills;
+      held = l.held;
+      fills = subst (λ (q : Range). FillsWith q None old.bytes new.bytes) k.frame_is l.dead;
       is = is ∙ ap (λ (q : Range). Leave q.addr q.len) k.frame_is;
     })

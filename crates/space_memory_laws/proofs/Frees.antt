@@ -76,7 +76,8 @@ module _ (i : Interface) (s : Start) (past : List Mark) (memory : SpaceState) (t
           to = lies.2;
           live = λ x from below dead.
               let in_pool : covers (range replay_pool pool_size) x ≡ true = covered (range replay_pool pool_size) x (omega (arith, from, lies.0)) (omega (arith, below, lies.2)) in
-              true≢false (sym (h.sound.blocks_live x in_pool ∙ any_is bs x ∙ any_there replay_pool (replay_pool + pool_size) (by_address bs) (suc a) len x h.sound.laid_out there (covered (record { addr = suc a; len = len }) x from below)) ∙ ap is_some dead);
+              true≢false (sym (h.sound.blocks_live x in_pool ∙ any_is bs x ∙ any_there replay_pool (replay_pool + pool_size) (by_address bs)
+              (suc a) len x h.sound.laid_out there (covered (record { addr = suc a; len = len }) x from below)) ∙ ap is_some dead);
         },
       )
 
@@ -206,6 +207,7 @@ module _ (i : Interface) (s : Start) (past : List Mark) (memory : SpaceState) (t
     passes = ((λ p r refused. not_both (checks i s past t (Frees (suc a))) (finding_of r) (frees_found i s past memory t (suc a) h (omega arith) unraced r refused) p), pass);
   }
 
-pub found_frees : (i : Interface) (s : Start) (past : List Mark) (memory : SpaceState) (t addr : ℕ) → StandsFor s past memory → 1 ≤ addr → Unraced past t true (freed_range addr (byte s addr past).block) → FreesFind i s past memory t addr
+pub found_frees : (i : Interface) (s : Start) (past : List Mark) (memory : SpaceState) (t addr : ℕ) → StandsFor s past memory → 1 ≤ addr →
+    Unraced past t true (freed_range addr (byte s addr past).block) → FreesFind i s past memory t addr
 found_frees i s past memory t zero h some unraced = absurd (omega (arith, some))
 found_frees i s past memory t (suc a) h some unraced = frees_find i s past memory t a h unraced

@@ -78,7 +78,12 @@ fresh_at from t lt =
     let here : get_or (range_with_len 0 THREADS) t 0 ≡ t = get_or-range_with_len 0 THREADS t 0 lt ∙ omega arith in
     get_or-map (fresh_stack from) (range_with_len 0 THREADS) t 0 (record { base = 0; frames = [] }) few ∙ ap (fresh_stack from) here
 
-pub stands : (placed : Placed) (start : ℕ → Byte) (memory : SpaceState) → All IsInArea placed.globals → All IsInArea placed.strings → ((x : ℕ) → is_system x ≡ false → start x ≡ placed_byte placed x) → ((x : ℕ) → byte_at memory.bytes x ≡ byte_of placed.strings x (byte_of placed.globals x None)) → memory.held ≡ record { regions = []; depths = replicate THREADS 0 } → memory.sides ≡ record { replay = fresh_side REPLAY_STACKS REPLAY_POOL; system = fresh_side SYSTEM_STACKS SYSTEM_POOL } → StandsFor (fresh start) [] memory
+pub stands : (placed : Placed) (start : ℕ → Byte) (memory : SpaceState) → All IsInArea placed.globals → All IsInArea placed.strings →
+    ((x : ℕ) → is_system x ≡ false → start x ≡ placed_byte placed x) →
+    ((x : ℕ) → byte_at memory.bytes x ≡ byte_of placed.strings x (byte_of placed.globals x None)) →
+    memory.held ≡ record { regions = []; depths = replicate THREADS 0 } →
+    memory.sides ≡ record { replay = fresh_side REPLAY_STACKS REPLAY_POOL; system = fresh_side SYSTEM_STACKS SYSTEM_POOL } →
+    StandsFor (fresh start) [] memory
 unfolding IsBare
 stands placed start memory globals strings here bytes held sides = record {
   bytes = λ x own. ap (λ (b : Byte). b.cell) (here x own) ∙ ap (λ b. cell_of b None) (sym (bytes x)) ∙ ap (cell_of (byte_at memory.bytes x)) (sym (none_held x));

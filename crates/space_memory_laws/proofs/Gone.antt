@@ -72,7 +72,8 @@ only_key : (k : ℕ) (rs : List Region) → HaveOwnKeys rs → filter (λ (r : R
 only_key k [] own = refl
 only_key k (r ∷ rest) own = go (has_key k r.holder) refl (only_key k rest own.1)
   where
-    go : (b : Bool) → has_key k r.holder ≡ b → filter (λ (r : Region). has_key k r.holder) rest ≡ option_to_list (prepared_region rest k) → cond b (r ∷ filter (λ (r : Region). has_key k r.holder) rest) (filter (λ (r : Region). has_key k r.holder) rest) ≡ option_to_list (cond b (Some r) (prepared_region rest k))
+    go : (b : Bool) → has_key k r.holder ≡ b → filter (λ (r : Region). has_key k r.holder) rest ≡ option_to_list (prepared_region rest k) →
+        cond b (r ∷ filter (λ (r : Region). has_key k r.holder) rest) (filter (λ (r : Region). has_key k r.holder) rest) ≡ option_to_list (cond b (Some r) (prepared_region rest k))
     go true is again = ap (λ rs. r ∷ rs) (again ∙ ap (λ o. option_to_list o) (own.0 k is))
     go false is again = again
 
@@ -86,7 +87,8 @@ committed_is None rs own = none_kept rs
 committed_is (Some c) rs own = only_key c.0 rs own
 
 -- the regions that a return gives back are those that wait and go
-pub gone_any : (call : OpenCall) (c : Option (ℕ × ℕ)) (rs : List Region) (x : ℕ) → HaveOwnKeys rs → list_any (goes_at call (committed_key c) x) rs ≡ list_any (λ (r : Region). covers r.range x) (outs_of call rs ++ committed rs c)
+pub gone_any : (call : OpenCall) (c : Option (ℕ × ℕ)) (rs : List Region) (x : ℕ) → HaveOwnKeys rs →
+    list_any (goes_at call (committed_key c) x) rs ≡ list_any (λ (r : Region). covers r.range x) (outs_of call rs ++ committed rs c)
 gone_any call c rs x own =
     same rs
     ∙ any_either (λ (r : Region). is_out_of call r.holder) (λ (r : Region). is_committed c r.holder) (λ (r : Region). covers r.range x) rs
@@ -100,7 +102,9 @@ gone_any call c rs x own =
 
     same : (qs : List Region) → list_any (goes_at call (committed_key c) x) qs ≡ list_any (λ (r : Region). (is_out_of call r.holder || is_committed c r.holder) && covers r.range x) qs
     same [] = refl
-    same (q ∷ qs) = ap (λ b. b || list_any (goes_at call (committed_key c) x) qs) (swap (is_pending q.holder) (covers q.range x) (not (outlives call (committed_key c) q.holder)) ∙ ap (λ b. b && covers q.range x) (goes_as call c q.holder)) ∙ ap (λ b. ((is_out_of call q.holder || is_committed c q.holder) && covers q.range x) || b) (same qs)
+    same (q ∷ qs) =
+        ap (λ b. b || list_any (goes_at call (committed_key c) x) qs) (swap (is_pending q.holder) (covers q.range x) (not (outlives call (committed_key c) q.holder)) ∙ ap (λ b. b && covers q.range x) (goes_as call c q.holder))
+        ∙ ap (λ b. ((is_out_of call q.holder || is_committed c q.holder) && covers q.range x) || b) (same qs)
 
 -- a region that waits, in memory where no two such meet: it alone says what its bytes were
 pub record IsWaiting (rs : List Region) (r : Region) : Type 0 where
@@ -128,13 +132,20 @@ all_waiting (r ∷ rest) apart whole = All-cons (WaitsIfPending (r ∷ rest)) r 
 
     later : (qs : List Region) → All (WaitsIfPending rest) qs → All (WaitsIfPending (r ∷ rest)) qs
     later [] all = All-nil (WaitsIfPending (r ∷ rest))
-    later (q ∷ qs) all = All-cons (WaitsIfPending (r ∷ rest)) q qs (λ pending. let w = All-head (WaitsIfPending rest) q qs all pending in record { whole = w.whole; value = λ x c. past_first x (get_or q.before (x - q.range.addr) 0) (w.value x c) }) (later qs (All-tail (WaitsIfPending rest) q qs all))
+    later (q ∷ qs) all = All-cons (WaitsIfPending (r ∷ rest)) q qs
+        (λ pending. let w = All-head
+        (WaitsIfPending rest) q qs all pending in record {
+          whole = w.whole;
+          value = λ x c. past_first x
+              (get_or q.before (x - q.range.addr) 0) (w.value x c);
+        }) (later qs (All-tail (WaitsIfPending rest) q qs all))
 
 filter_all : (rs qs : List Region) (f : Holder → Bool) → ((h : Holder) → f h ≡ true → is_pending h ≡ true) → All (WaitsIfPending rs) qs → All (IsWaiting rs) (filter (λ (r : Region). f r.holder) qs)
 filter_all rs [] f waits all = All-nil (IsWaiting rs)
 filter_all rs (q ∷ qs) f waits all = go (f q.holder) refl (filter_all rs qs f waits (All-tail (WaitsIfPending rs) q qs all))
   where
-    go : (b : Bool) → f q.holder ≡ b → All (IsWaiting rs) (filter (λ (r : Region). f r.holder) qs) → All (IsWaiting rs) (cond b (q ∷ filter (λ (r : Region). f r.holder) qs) (filter (λ (r : Region). f r.holder) qs))
+    go : (b : Bool) → f q.holder ≡ b → All (IsWaiting rs) (filter (λ (r : Region). f r.holder) qs) →
+        All (IsWaiting rs) (cond b (q ∷ filter (λ (r : Region). f r.holder) qs) (filter (λ (r : Region). f r.holder) qs))
     go true is again = All-cons (IsWaiting rs) q (filter (λ (r : Region). f r.holder) qs) (All-head (WaitsIfPending rs) q qs all (waits q.holder is)) again
     go false is again = again
 
@@ -162,7 +173,9 @@ module _ (bytes : List AreaState) (rs : List Region) where
   pub used_same : (r : Region) (p : Piece) (n : ℕ) → r.range ≡ p.range → used_of r n ≡ used_at p.range n
   used_same r p n e = ap (λ (q : Range). cond (eqb q.addr 0) 0 n) e
 
-  give_piece : (r : Region) (p : Piece) (n x : ℕ) → r.range ≡ p.range → length p.bytes ≡ used_at p.range n → ((i : ℕ) → i < length p.bytes → byte_at bytes (p.range.addr + i) ≡ Some (slice_index p.bytes i)) → IsFilled bytes n r → IsWaiting rs r → covers p.range x ≡ true → give p x (cell_of (byte_at bytes x) (value_when_held rs x)) ≡ cell_of (byte_at bytes x) None
+  give_piece : (r : Region) (p : Piece) (n x : ℕ) → r.range ≡ p.range → length p.bytes ≡ used_at p.range n →
+      ((i : ℕ) → i < length p.bytes → byte_at bytes (p.range.addr + i) ≡ Some (slice_index p.bytes i)) → IsFilled bytes n r → IsWaiting rs r →
+      covers p.range x ≡ true → give p x (cell_of (byte_at bytes x) (value_when_held rs x)) ≡ cell_of (byte_at bytes x) None
   give_piece r p n x same long has filled waits in' =
       let c = cover_parts p.range x in' in
       let from : r.range.addr ≡ p.range.addr = ap (λ (q : Range). q.addr) same in
@@ -179,7 +192,9 @@ module _ (bytes : List AreaState) (rs : List Region) where
             let at : r.range.addr + used_of r n + (x - (r.range.addr + used_of r n)) ≡ x = omega (arith, le, from, used) in
             let few : x - (r.range.addr + used_of r n) < length (drop (used_of r n) r.before) = omega (arith, length-drop (used_of r n) r.before, waits.whole, le, from, used, len, c.1, filled.fits) in
             let off : used_of r n + (x - (r.range.addr + used_of r n)) ≡ x - r.range.addr = omega (arith, le, from, used) in
-            let is : byte_at bytes x ≡ Some (get_or r.before (x - r.range.addr) 0) = ap (byte_at bytes) (sym at) ∙ filled.rest (x - (r.range.addr + used_of r n)) few ∙ ap (λ v. Some v) (get_or-drop (used_of r n) r.before (x - (r.range.addr + used_of r n)) 0 ∙ ap (λ i. get_or r.before i 0) off) in
+            let is : byte_at bytes x ≡ Some (get_or r.before (x - r.range.addr) 0) = ap (byte_at bytes) (sym at) ∙ filled.rest
+            (x - (r.range.addr + used_of r n)) few ∙ ap (λ v. Some v)
+            (get_or-drop (used_of r n) r.before (x - (r.range.addr + used_of r n)) 0 ∙ ap (λ i. get_or r.before i 0) off) in
             cond-false (ltb x (p.range.addr + length p.bytes)) (Live (marks.byte_at p.range.addr p.bytes x)) (release (cell_of (byte_at bytes x) (value_when_held rs x))) (le-ltb x (p.range.addr + length p.bytes) le)
             ∙ ap (λ v. release (cell_of (byte_at bytes x) v)) before
             ∙ ap (λ b. release (cell_of b (Some (get_or r.before (x - r.range.addr) 0)))) is
@@ -192,21 +207,28 @@ module _ (bytes : List AreaState) (rs : List Region) where
   tails : (a b : Range) (as' bs : List Range) → ◌≡◌ {A = List Range} (a ∷ as') (b ∷ bs) → as' ≡ bs
   tails a b as' bs e = cc
 
-  pub given : (gone : List Region) (ps : List Piece) (used : List ℕ) (x : ℕ) → map (λ (r : Region). r.range) gone ≡ piece_ranges ps → ShowUsed bytes ps used → AllFilled bytes gone used → All (IsWaiting rs) gone → list_any (λ (r : Region). covers r.range x) gone ≡ true → give_any ps x (cell_of (byte_at bytes x) (value_when_held rs x)) ≡ cell_of (byte_at bytes x) None
+  pub given : (gone : List Region) (ps : List Piece) (used : List ℕ) (x : ℕ) → map (λ (r : Region). r.range) gone ≡ piece_ranges ps →
+      ShowUsed bytes ps used → AllFilled bytes gone used → All (IsWaiting rs) gone → list_any (λ (r : Region). covers r.range x) gone ≡ true →
+      give_any ps x (cell_of (byte_at bytes x) (value_when_held rs x)) ≡ cell_of (byte_at bytes x) None
   given [] ps used x same shows filled waits is = absurd (true≢false (sym is))
   given (r ∷ gone) (p ∷ ps) (n ∷ used) x same shows filled waits is =
       let head : r.range ≡ p.range = heads r.range p.range (map (λ (r : Region). r.range) gone) (piece_ranges ps) same in
       let rest = tails r.range p.range (map (λ (r : Region). r.range) gone) (piece_ranges ps) same in
       elim (cases_Bool (covers p.range x)) [
-        | inl in' ↦ cond-true (covers p.range x) (give p x (cell_of (byte_at bytes x) (value_when_held rs x))) (give_any ps x (cell_of (byte_at bytes x) (value_when_held rs x))) in' ∙ give_piece r p n x head shows.0 shows.1 filled.0 (All-head (IsWaiting rs) r gone waits) in'
+        | inl in' ↦
+            cond-true (covers p.range x) (give p x (cell_of (byte_at bytes x) (value_when_held rs x))) (give_any ps x (cell_of (byte_at bytes x) (value_when_held rs x))) in'
+            ∙ give_piece r p n x head shows.0 shows.1 filled.0 (All-head (IsWaiting rs) r gone waits) in'
         | inr out ↦
             let more : list_any (λ (r : Region). covers r.range x) gone ≡ true = ap (λ b. b || list_any (λ (r : Region). covers r.range x) gone) (sym (ap (λ (q : Range). covers q x) head ∙ out)) ∙ is in
-            cond-false (covers p.range x) (give p x (cell_of (byte_at bytes x) (value_when_held rs x))) (give_any ps x (cell_of (byte_at bytes x) (value_when_held rs x))) out ∙ given gone ps used x rest shows.2 filled.1 (All-tail (IsWaiting rs) r gone waits) more
+            cond-false (covers p.range x) (give p x (cell_of (byte_at bytes x) (value_when_held rs x)))
+            (give_any ps x (cell_of (byte_at bytes x) (value_when_held rs x))) out ∙ given gone ps used x rest shows.2 filled.1
+            (All-tail (IsWaiting rs) r gone waits) more
       ]
   given (r ∷ gone) [] used x same shows filled waits is = absurd cc
   given (r ∷ gone) (p ∷ ps) [] x same shows filled waits is = absurd shows
 
-  pub untouched : (gone : List Region) (ps : List Piece) (x : ℕ) (c : Cell) → map (λ (r : Region). r.range) gone ≡ piece_ranges ps → list_any (λ (r : Region). covers r.range x) gone ≡ false → give_any ps x c ≡ c
+  pub untouched : (gone : List Region) (ps : List Piece) (x : ℕ) (c : Cell) → map (λ (r : Region). r.range) gone ≡ piece_ranges ps →
+      list_any (λ (r : Region). covers r.range x) gone ≡ false → give_any ps x c ≡ c
   untouched [] [] x c same is = refl
   untouched (r ∷ gone) (p ∷ ps) x c same is =
       let head : r.range ≡ p.range = heads r.range p.range (map (λ (r : Region). r.range) gone) (piece_ranges ps) same in

@@ -67,7 +67,10 @@ apart_one (q ∷ pre) post r x h in' = elim (cases_Bool (covers q x)) [
         or_true true = refl
         or_true false = refl
 
-module _ (i : Interface) (s : Start) (past : List Mark) (base tested memory : SpaceState) (t : ℕ) (indirect : Bool) (func : ℕ) (args : List ℕ) (ins outs : List Range) (before after : List Prepared) (p : Prepared) (given : Range) (w : Wanted i indirect func args ins outs (before ++ p ∷ after)) (k : IsPreparing s past t ins outs (before ++ p ∷ after) before given p.range base tested memory) where
+module _ (i : Interface) (s : Start) (past : List Mark) (base tested memory : SpaceState) (t : ℕ) (indirect : Bool) (func : ℕ)
+    (args : List ℕ) (ins outs : List Range) (before after : List Prepared) (p : Prepared) (given : Range)
+    (w : Wanted i indirect func args ins outs (before ++ p ∷ after))
+    (k : IsPreparing s past t ins outs (before ++ p ∷ after) before given p.range base tested memory) where
   abbrev held : List Range
   held = outs ++ prepared_ranges (before ++ p ∷ after)
 
@@ -92,7 +95,9 @@ module _ (i : Interface) (s : Start) (past : List Mark) (base tested memory : Sp
   range_fine (NotLive x) r = own_free.live x (covered p.range x r.1.in_range.0 r.1.in_range.1) r.1.holds
   range_fine (Pending x) r =
       let c = covered p.range x r.2.in_range.0 r.2.in_range.1 in
-      let idle : is_held memory.held.regions x ≡ false = held_mid s past t ins outs before base memory k.call x ∙ ap (λ b. is_held base.held.regions x || b) (sym (any_both outs before x) ∙ own_apart x c) ∙ ap (λ b. b || false) (own_free.free x c) in
+      let idle : is_held memory.held.regions x ≡ false = held_mid s past t ins outs before base memory k.call x ∙ ap
+      (λ b. is_held base.held.regions x || b) (sym (any_both outs before x) ∙ own_apart x c) ∙ ap (λ b. b || false)
+      (own_free.free x c) in
       true≢false (sym r.2.holds ∙ idle)
   range_fine (ReadOnly x) r = true≢false (sym (constant_to true x r.3.holds).1 ∙ own_free.writable x (covered p.range x r.3.in_range.0 r.3.in_range.1) refl)
   range_fine (StackFull x) r = r
@@ -114,11 +119,15 @@ module _ (i : Interface) (s : Start) (past : List Mark) (base tested memory : Sp
   on_key refused =
       let F : Finding = BreachFound breach.KeyInUse p.key None in
       wanted_checks (λ cs. Finds cs F) (onward F) i s past t indirect func args ins outs (before ++ p ∷ after) w
-      (all_ranges i s past base memory t indirect func args (λ cs. Finds cs F) (onward F) ins held outs (before ++ p ∷ after) (before ++ p ∷ after) refl (free_reads base ins outs before k.call.free) all_free all_apart k.call.stands k.unraced_ins k.unraced
+      (all_ranges i s past base memory t indirect func args (λ cs. Finds cs F) (onward F) ins held outs (before ++ p ∷ after)
+      (before ++ p ∷ after) refl (free_reads base ins outs before k.call.free) all_free all_apart k.call.stands k.unraced_ins k.unraced
       (past_keys (λ cs. Finds cs F) (onward F) s past t base k.call.stands before (p ∷ after) [] Done (free_keys_mid s past t ins outs before base memory k.call) (distinct_mid s past t ins outs before base memory k.call) (λ j in'. refl)
       (key_found refused)))
 
   pub refused_key : (f : Refusal) → IsPrepareRefused memory.bytes memory.held.regions (region_access t given true) p.key f → Finds (checks i s past t (Calls indirect func args)) (finding_of f)
   refused_key f (inl range) =
-      absurd (range_fine f (subst (λ (q : Range). IsRefused base.bytes memory.held.regions (record { side = Replay; thread = t; range = q; write = true }) f) k.region (subst (λ b. IsRefused b memory.held.regions (region_access t given true) f) (bytes_mid s past t ins outs before base memory k.call) range)))
+      absurd (range_fine f (subst (λ (q : Range). IsRefused base.bytes memory.held.regions
+      (record { side = Replay; thread = t; range = q; write = true }) f) k.region
+      (subst (λ b. IsRefused b memory.held.regions (region_access t given true) f)
+      (bytes_mid s past t ins outs before base memory k.call) range)))
   refused_key f (inr why) = subst (λ g. Finds (checks i s past t (Calls indirect func args)) (finding_of g)) (sym why.2) (on_key (inr (why.0, why.1, refl)))

@@ -21,7 +21,9 @@ use Rattle.space_memory_laws.specs.StandsFor.{HoldsFor, StandsFor}
 use Rattle.space_memory_laws.proofs.Backs.{LeavesBacks}
 use Rattle.space_memory_laws.proofs.Cells.{dead_as}
 
-pub sound_moved : (s : Start) (m : Mark) (past : List Mark) (old new : SpaceState) → LeavesBacks s m past → new.held ≡ old.held → new.sides.system ≡ old.sides.system → ((x : ℕ) → is_some (byte_at new.bytes x) ≡ is_some (byte_at old.bytes x)) → IsSound s past old → IsSound s (m ∷ past) new
+pub sound_moved : (s : Start) (m : Mark) (past : List Mark) (old new : SpaceState) → LeavesBacks s m past → new.held ≡ old.held →
+    new.sides.system ≡ old.sides.system → ((x : ℕ) → is_some (byte_at new.bytes x) ≡ is_some (byte_at old.bytes x)) → IsSound s past old →
+    IsSound s (m ∷ past) new
 sound_moved s m past old new leaves held system lives sound = record {
   ends = λ x last. dead_as (lives x) (sound.ends x last);
   unheld = λ x dead. ap (λ (k : HeldState). value_when_held k.regions x) held ∙ sound.unheld x (dead_as (sym (lives x)) dead);
@@ -35,7 +37,11 @@ sound_moved s m past old new leaves held system lives sound = record {
   blocks_live = λ x is. lives x ∙ sound.blocks_live x is ∙ ap (λ bs. any_range bs x) (sym leaves.blocks);
 }
 
-pub moved : (s : Start) (m : Mark) (past : List Mark) (old new : SpaceState) → StandsFor s past old → LeavesBacks s m past → new.held ≡ old.held → new.sides ≡ old.sides → ((x : ℕ) → is_system x ≡ false → (byte s x (m ∷ past)).cell ≡ cell_of (byte_at new.bytes x) (value_when_held old.held.regions x)) → ((x : ℕ) → (byte s x (m ∷ past)).block ≡ (byte s x past).block) → ((x : ℕ) → is_some (byte_at new.bytes x) ≡ is_some (byte_at old.bytes x)) → StandsFor s (m ∷ past) new
+pub moved : (s : Start) (m : Mark) (past : List Mark) (old new : SpaceState) → StandsFor s past old → LeavesBacks s m past →
+    new.held ≡ old.held → new.sides ≡ old.sides →
+    ((x : ℕ) → is_system x ≡ false → (byte s x (m ∷ past)).cell ≡ cell_of (byte_at new.bytes x) (value_when_held old.held.regions x)) →
+    ((x : ℕ) → (byte s x (m ∷ past)).block ≡ (byte s x past).block) →
+    ((x : ℕ) → is_some (byte_at new.bytes x) ≡ is_some (byte_at old.bytes x)) → StandsFor s (m ∷ past) new
 moved s m past old new h leaves held sides bytes block lives = record {
   bytes = λ x own. bytes x own ∙ ap (λ (k : HeldState). cell_of (byte_at new.bytes x) (value_when_held k.regions x)) (sym held);
   begins = λ x own. block x ∙ h.begins x own ∙ ap (λ (k : Sides). unwrap_or (length_at k.replay.pool.blocks x) 0) (sym sides);

@@ -97,7 +97,9 @@ waits_for (r ∷ rest) x own is = elim (or_cases (waits_at x r) (is_held rest x)
     later : Waits rest x → Waits (r ∷ rest) x
     later (ForCall c any has) =
         ForCall c
-        (elim (is_out_of c r.holder) as (λ b. list_any (λ (g : Region). covers g.range x) (cond b (r ∷ outs_of c rest) (outs_of c rest)) ≡ true) [ true ↦ or_true (covers r.range x) (list_any (λ (g : Region). covers g.range x) (outs_of c rest)) any | false ↦ any ])
+        (elim (is_out_of c r.holder) as
+        (λ b. list_any (λ (g : Region). covers g.range x) (cond b (r ∷ outs_of c rest) (outs_of c rest)) ≡ true)
+        [ true ↦ or_true (covers r.range x) (list_any (λ (g : Region). covers g.range x) (outs_of c rest)) any | false ↦ any ])
         (or_true (is_of c r.holder) (has_region c rest) has)
     later (ForKey k g there c) = elim (cases_Bool (has_key k r.holder)) [
       | inl has ↦ absurd (some_none g (sym there ∙ own.0 k has))
@@ -114,7 +116,9 @@ outs_wait (r ∷ rest) call x is = go (is_out_of call r.holder) refl is (outs_wa
     pends (Out c) e = refl
     pends (Key k by) e = refl
 
-    go : (b : Bool) → is_out_of call r.holder ≡ b → list_any (λ (g : Region). covers g.range x) (cond b (r ∷ outs_of call rest) (outs_of call rest)) ≡ true → (list_any (λ (g : Region). covers g.range x) (outs_of call rest) ≡ true → IsPending rest x) → IsPending (r ∷ rest) x
+    go : (b : Bool) → is_out_of call r.holder ≡ b →
+        list_any (λ (g : Region). covers g.range x) (cond b (r ∷ outs_of call rest) (outs_of call rest)) ≡ true →
+        (list_any (λ (g : Region). covers g.range x) (outs_of call rest) ≡ true → IsPending rest x) → IsPending (r ∷ rest) x
     go true e any again = elim (or_cases (covers r.range x) (list_any (λ (g : Region). covers g.range x) (outs_of call rest)) any) [
       | inl here ↦ or_left (waits_at x r) (is_held rest x) (and_from (is_pending r.holder) (covers r.range x) (pends r.holder e) here)
       | inr more ↦ or_true (waits_at x r) (is_held rest x) (again more)
@@ -174,7 +178,15 @@ module _ (s : Start) (past : List Mark) (memory : SpaceState) (h : StandsFor s p
   found : Waits rs x → IsOwed s past x
   found (ForCall call any has) =
       let lt = is_open call has in
-      inl (call.thread, (lt, at_depth (open_calls (marks_of s call.thread past)) call.depth x (sym (any_same (outs_of call rs) (ranges_at (λ c. c.outs) call.depth (open_calls (marks_of s call.thread past))) x ((h.calls call.thread lt).outs call.depth)) ∙ any)))
+      inl (
+        call.thread,
+        (
+          lt,
+          at_depth (open_calls (marks_of s call.thread past)) call.depth x
+              (sym (any_same (outs_of call rs) (ranges_at (λ c. c.outs) call.depth (open_calls (marks_of s call.thread past))) x
+              ((h.calls call.thread lt).outs call.depth)) ∙ any),
+        ),
+      )
   found (ForKey k g there c) = inr (k, region_of_key s past memory h x k g there c)
 
   there_waits : IsOwed s past x → IsPending rs x

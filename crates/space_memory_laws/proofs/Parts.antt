@@ -32,7 +32,9 @@ use Rattle.space_memory_laws.proofs.Refusals.{constant_from}
 use Rattle.space_memory_laws.proofs.Regions.{waits_at, some_none, apart_more, keys_more}
 
 -- a call that is opened
-pub opened : (s : Start) (past : List Mark) (old new : SpaceState) (t : ℕ) → StandsFor s past old → t < thread_count → new.held ≡ record old.held { depths = slice_set old.held.depths t (slice_index old.held.depths t + 1) } → new ≡ record old { held = new.held } → InCall s past t [] old new
+pub opened : (s : Start) (past : List Mark) (old new : SpaceState) (t : ℕ) → StandsFor s past old → t < thread_count →
+    new.held ≡ record old.held { depths = slice_set old.held.depths t (slice_index old.held.depths t + 1) } →
+    new ≡ record old { held = new.held } → InCall s past t [] old new
 opened s past old new t h lt held rest = record {
   thread = lt;
   stands = h;
@@ -53,7 +55,9 @@ opened s past old new t h lt held rest = record {
     deeper call lt' = elim (cases_eq call.thread t) [
       | inl e ↦
           let same : slice_index (slice_set old.held.depths t (slice_index old.held.depths t + 1)) call.thread ≡ slice_index old.held.depths call.thread + 1 =
-          ap (λ u. slice_index (slice_set old.held.depths t (slice_index old.held.depths t + 1)) u) e ∙ get_or-set_same old.held.depths t (slice_index old.held.depths t + 1) 0 (omega (arith, lt, h.sound.held.threads)) ∙ ap (λ u. slice_index old.held.depths u + 1) (sym e) in
+          ap (λ u. slice_index (slice_set old.held.depths t (slice_index old.held.depths t + 1)) u) e ∙ get_or-set_same old.held.depths t
+          (slice_index old.held.depths t + 1) 0 (omega (arith, lt, h.sound.held.threads)) ∙ ap (λ u. slice_index old.held.depths u + 1)
+          (sym e) in
           omega (arith, same, lt')
       | inr ne ↦
           let other = get_or-set_other old.held.depths t call.thread (slice_index old.held.depths t + 1) 0 ne in
@@ -71,7 +75,9 @@ or_first : (a b : Bool) → (a || b) ≡ false → a ≡ false
 or_first true b e = e
 or_first false b e = refl
 
-regions_more : (bytes : List AreaState) (call : OpenCall) (ps : List Part) (rs : List Region) (p : Part) (r : Region) → HaveRegions bytes call ps rs → IsRegionOf bytes (range_of p) (holder_for call p) r → HaveRegions bytes call (ps ++ p ∷ []) (rs ++ r ∷ [])
+regions_more : (bytes : List AreaState) (call : OpenCall) (ps : List Part) (rs : List Region) (p : Part) (r : Region) →
+    HaveRegions bytes call ps rs → IsRegionOf bytes (range_of p) (holder_for call p) r →
+    HaveRegions bytes call (ps ++ p ∷ []) (rs ++ r ∷ [])
 regions_more bytes call [] [] p r h is = (is, tt)
 regions_more bytes call (q ∷ ps) (x ∷ rs) p r h is = (h.0, regions_more bytes call ps rs p r h.1 is)
 regions_more bytes call [] (x ∷ rs) p r h is = absurd h
@@ -91,7 +97,12 @@ written_waits call (Prepares k r) = refl
 abbrev part_access : ℕ → Part → Access
 part_access t p = record { side = Replay; thread = t; range = range_of p; write = is_written p }
 
-module _ (s : Start) (past : List Mark) (base old new : SpaceState) (t : ℕ) (parts : List Part) (p : Part) (region : Region) (h : InCall s past t parts base old) (small : (range_of p).addr < 2 ^ 64) (is : IsRegionOf old.bytes (range_of p) (holder_for (innermost old.held t) p) region) (held : new.held ≡ record { regions = old.held.regions ++ region ∷ []; depths = old.held.depths }) (rest : new ≡ record old { held = new.held }) (ok : IsAllowed old.bytes old.held.regions (part_access t p)) (keys : (k : ℕ) → has_key k (holder_for (innermost old.held t) p) ≡ true → prepared_region old.held.regions k ≡ None) where
+module _ (s : Start) (past : List Mark) (base old new : SpaceState) (t : ℕ) (parts : List Part) (p : Part) (region : Region)
+    (h : InCall s past t parts base old) (small : (range_of p).addr < 2 ^ 64)
+    (is : IsRegionOf old.bytes (range_of p) (holder_for (innermost old.held t) p) region)
+    (held : new.held ≡ record { regions = old.held.regions ++ region ∷ []; depths = old.held.depths })
+    (rest : new ≡ record old { held = new.held }) (ok : IsAllowed old.bytes old.held.regions (part_access t p))
+    (keys : (k : ℕ) → has_key k (holder_for (innermost old.held t) p) ≡ true → prepared_region old.held.regions k ≡ None) where
   same_bytes : old.bytes ≡ base.bytes
   same_bytes = ap (λ (q : SpaceState). q.bytes) h.rest
 
@@ -170,16 +181,31 @@ module _ (s : Start) (past : List Mark) (base old new : SpaceState) (t : ℕ) (p
     });
   }
 
-module _ (s : Start) (past : List Mark) (base old new : SpaceState) (t : ℕ) (parts : List Part) (given : Range) (r : Range) (h : InCall s past t parts base old) (below : given.addr < 2 ^ 64) (same : region_range given ≡ r) (rest : new ≡ record old { held = new.held }) where
+module _ (s : Start) (past : List Mark) (base old new : SpaceState) (t : ℕ) (parts : List Part) (given : Range) (r : Range)
+    (h : InCall s past t parts base old) (below : given.addr < 2 ^ 64) (same : region_range given ≡ r)
+    (rest : new ≡ record old { held = new.held }) where
   small_range : r.addr < 2 ^ 64
   small_range = let e = ap (λ (q : Range). q.addr) same in omega (arith, e, region_addr given, below)
 
-  pub held_range : (write : Bool) → AddsRegion old.bytes (region_range given) (holder_of write (innermost old.held t)) old.held new.held → IsAllowed old.bytes old.held.regions (region_access t given write) → InCall s past t (parts ++ held_part write r ∷ []) base new
-  held_range true adds ok = grown s past base old new t parts (Holds r) adds.0 h small_range (subst (λ q. IsRegionOf old.bytes q (Out (innermost old.held t)) adds.0) same adds.1) adds.2 rest (subst (λ (q : Range). IsAllowed old.bytes old.held.regions (record { side = Replay; thread = t; range = q; write = true })) same ok) (λ k own. absurd (true≢false (sym own)))
-  held_range false adds ok = grown s past base old new t parts (Reads r) adds.0 h small_range (subst (λ q. IsRegionOf old.bytes q (In (innermost old.held t)) adds.0) same adds.1) adds.2 rest (subst (λ (q : Range). IsAllowed old.bytes old.held.regions (record { side = Replay; thread = t; range = q; write = false })) same ok) (λ k own. absurd (true≢false (sym own)))
+  pub held_range : (write : Bool) → AddsRegion old.bytes (region_range given) (holder_of write (innermost old.held t)) old.held new.held →
+      IsAllowed old.bytes old.held.regions (region_access t given write) → InCall s past t (parts ++ held_part write r ∷ []) base new
+  held_range true adds ok = grown s past base old new t parts (Holds r) adds.0 h small_range
+      (subst (λ q. IsRegionOf old.bytes q (Out (innermost old.held t)) adds.0) same adds.1) adds.2 rest
+      (subst (λ (q : Range). IsAllowed old.bytes old.held.regions (record { side = Replay; thread = t; range = q; write = true })) same ok)
+      (λ k own. absurd (true≢false (sym own)))
+  held_range false adds ok = grown s past base old new t parts (Reads r) adds.0 h small_range
+      (subst (λ q. IsRegionOf old.bytes q (In (innermost old.held t)) adds.0) same adds.1) adds.2 rest
+      (subst (λ (q : Range). IsAllowed old.bytes old.held.regions (record { side = Replay; thread = t; range = q; write = false })) same ok)
+      (λ k own. absurd (true≢false (sym own)))
 
-  pub prepared_range : (k : ℕ) → AddsRegion old.bytes (region_range given) (Key k (Some (innermost old.held t))) old.held new.held → IsAllowed old.bytes old.held.regions (region_access t given true) → ((f : Refusal) → IsPrepareRefused old.bytes old.held.regions (region_access t given true) k f → ⊥) → InCall s past t (parts ++ Prepares k r ∷ []) base new
-  prepared_range k adds ok free = grown s past base old new t parts (Prepares k r) adds.0 h small_range (subst (λ q. IsRegionOf old.bytes q (Key k (Some (innermost old.held t))) adds.0) same adds.1) adds.2 rest (subst (λ (q : Range). IsAllowed old.bytes old.held.regions (record { side = Replay; thread = t; range = q; write = true })) same ok) unused
+  pub prepared_range : (k : ℕ) → AddsRegion old.bytes (region_range given) (Key k (Some (innermost old.held t))) old.held new.held →
+      IsAllowed old.bytes old.held.regions (region_access t given true) →
+      ((f : Refusal) → IsPrepareRefused old.bytes old.held.regions (region_access t given true) k f → ⊥) →
+      InCall s past t (parts ++ Prepares k r ∷ []) base new
+  prepared_range k adds ok free = grown s past base old new t parts (Prepares k r) adds.0 h small_range
+      (subst (λ q. IsRegionOf old.bytes q (Key k (Some (innermost old.held t))) adds.0) same adds.1) adds.2 rest
+      (subst (λ (q : Range). IsAllowed old.bytes old.held.regions
+      (record { side = Replay; thread = t; range = q; write = true })) same ok) unused
     where
       none_used : (o : Option Region) → ((o ≡ None → ⊥) → ⊥) → o ≡ None
       none_used None nothing = refl
@@ -193,14 +219,16 @@ all_kept : (call : OpenCall) (rs : List Region) → has_region call rs ≡ false
 all_kept call [] h = refl
 all_kept call (r ∷ rest) h = go (is_of call r.holder) h (all_kept call rest)
   where
-    go : (b : Bool) → (b || has_region call rest) ≡ false → (has_region call rest ≡ false → without_call call rest ≡ rest) → cond (not b) (r ∷ without_call call rest) (without_call call rest) ≡ r ∷ rest
+    go : (b : Bool) → (b || has_region call rest) ≡ false → (has_region call rest ≡ false → without_call call rest ≡ rest) →
+        cond (not b) (r ∷ without_call call rest) (without_call call rest) ≡ r ∷ rest
     go true e again = absurd (true≢false e)
     go false e again = ap (λ rs. r ∷ rs) (again e)
 
 none_kept : (bytes : List AreaState) (call : OpenCall) (ps : List Part) (rs : List Region) → HaveRegions bytes call ps rs → without_call call rs ≡ []
 none_kept bytes call [] [] h = refl
 none_kept bytes call (p ∷ ps) (r ∷ rs) h =
-    let own : is_of call r.holder ≡ true = ap (is_of call) h.0.holder_is ∙ is_of_part call call p ∙ and_from (eqb call.thread call.thread) (eqb call.depth call.depth) (eq-eqb call.thread call.thread refl) (eq-eqb call.depth call.depth refl) in
+    let own : is_of call r.holder ≡ true = ap (is_of call) h.0.holder_is ∙ is_of_part call call p ∙ and_from (eqb call.thread call.thread)
+    (eqb call.depth call.depth) (eq-eqb call.thread call.thread refl) (eq-eqb call.depth call.depth refl) in
     ap (λ b. cond (not b) (r ∷ without_call call rs) (without_call call rs)) own ∙ none_kept bytes call ps rs h.1
 none_kept bytes call [] (r ∷ rs) h = absurd h
 none_kept bytes call (p ∷ ps) [] h = absurd h
@@ -216,13 +244,17 @@ set_back ds t lt =
     let down : slice_index (slice_set ds t (slice_index ds t + 1)) t - 1 ≡ slice_index ds t = omega (arith, up) in
     ap (slice_set (slice_set ds t (slice_index ds t + 1)) t) down ∙ set_set ds t (slice_index ds t + 1) (slice_index ds t) ∙ set-get_or ds t 0
 
-pub undone : (s : Start) (past : List Mark) (base old new : SpaceState) (t : ℕ) (parts : List Part) → InCall s past t parts base old → new.held.regions ≡ without_call (innermost old.held t) old.held.regions → new.held.depths ≡ slice_set old.held.depths t (slice_index old.held.depths t - 1) → new ≡ record old { held = new.held } → new ≡ base
+pub undone : (s : Start) (past : List Mark) (base old new : SpaceState) (t : ℕ) (parts : List Part) → InCall s past t parts base old →
+    new.held.regions ≡ without_call (innermost old.held t) old.held.regions →
+    new.held.depths ≡ slice_set old.held.depths t (slice_index old.held.depths t - 1) → new ≡ record old { held = new.held } → new ≡ base
 undone s past base old new t parts h regions depths rest =
     rest ∙ ap (λ (q : SpaceState). let k : SpaceState = record q { held = new.held } in k) h.rest ∙ ap (λ q. let k : SpaceState = record base { held = q } in k) same_held
   where
     deeper : slice_index base.held.depths t < slice_index old.held.depths t
     deeper =
-        let up : slice_index old.held.depths t ≡ slice_index base.held.depths t + 1 = ap (λ ds. slice_index ds t) h.depths ∙ get_or-set_same base.held.depths t (slice_index base.held.depths t + 1) 0 (omega (arith, h.thread, h.stands.sound.held.threads)) in
+        let up : slice_index old.held.depths t ≡ slice_index base.held.depths t + 1 = ap (λ ds. slice_index ds t) h.depths ∙
+        get_or-set_same base.held.depths t (slice_index base.held.depths t + 1) 0
+        (omega (arith, h.thread, h.stands.sound.held.threads)) in
         omega (arith, up)
 
     same_regions : new.held.regions ≡ base.held.regions
@@ -238,4 +270,6 @@ undone s past base old new t parts h regions depths rest =
     same_depths = depths ∙ ap (λ ds. slice_set ds t (slice_index ds t - 1)) h.depths ∙ set_back base.held.depths t (omega (arith, h.thread, h.stands.sound.held.threads))
 
     same_held : new.held ≡ base.held
-    same_held = let both : (rs qs : List Region) (ds es : List ℕ) → rs ≡ qs → ds ≡ es → ◌≡◌ {A = HeldState} (record { regions = rs; depths = ds }) (record { regions = qs; depths = es }) = λ rs qs ds es a b. cc in both new.held.regions base.held.regions new.held.depths base.held.depths same_regions same_depths
+    same_held = let both : (rs qs : List Region) (ds es : List ℕ) → rs ≡ qs → ds ≡ es → ◌≡◌ {A = HeldState}
+        (record { regions = rs; depths = ds }) (record { regions = qs; depths = es }) =
+        λ rs qs ds es a b. cc in both new.held.regions base.held.regions new.held.depths base.held.depths same_regions same_depths

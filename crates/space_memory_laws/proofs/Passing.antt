@@ -88,7 +88,8 @@ module _ (P : Checks → Type 0) (step : (Bad : ℕ → Type 0) (Found : ℕ →
   past_indirect i true f cs h p = step _ _ cs (λ x bad. true≢false (sym (h refl) ∙ bad.1)) p
 
   module _ (s : Start) (past : List Mark) (t : ℕ) (base : SpaceState) (h : StandsFor s past base) where
-    past_range : (write : Bool) (more : List Range) (r : Range) (cs : Checks) → IsFree base (held_part write r) → Unraced past t write r → ((x : ℕ) → covers r x ≡ true → any_range more x ≡ false) → P cs → P (range_checks s past t write more r cs)
+    past_range : (write : Bool) (more : List Range) (r : Range) (cs : Checks) → IsFree base (held_part write r) → Unraced past t write r →
+        ((x : ℕ) → covers r x ≡ true → any_range more x ≡ false) → P cs → P (range_checks s past t write more r cs)
     past_range write more r cs free unraced apart p =
         step _ _ _ (λ x bad. true≢false (sym bad.1 ∙ free.own x (there x bad.0)))
         (step _ _ _ (λ x bad. unraced x bad.1.0 bad.0 bad.1.1)
@@ -102,11 +103,14 @@ module _ (P : Checks → Type 0) (step : (Bad : ℕ → Type 0) (Found : ℕ →
         there : (x : ℕ) → covers r x ≡ true → covers (range_of (held_part write r)) x ≡ true
         there x in' = ap (λ q. covers q x) (held_range_is write r) ∙ in'
 
-    pub past_reads : (before rest : List Range) (cs : Checks) → AllFree base false before → AllUnraced past t false before → P (read_checks s past t rest cs) → P (read_checks s past t (before ++ rest) cs)
+    pub past_reads : (before rest : List Range) (cs : Checks) → AllFree base false before → AllUnraced past t false before →
+        P (read_checks s past t rest cs) → P (read_checks s past t (before ++ rest) cs)
     past_reads [] rest cs free unraced p = p
     past_reads (r ∷ before) rest cs free unraced p = past_range false [] r (read_checks s past t (before ++ rest) cs) free.0 unraced.0 (λ x in'. refl) (past_reads before rest cs free.1 unraced.1 p)
 
-    pub past_holds : (before rest more : List Range) (cs : Checks) → AllFree base true before → AllUnraced past t true before → Apart before → ((x : ℕ) → any_range before x ≡ true → any_range more x ≡ false) → P (hold_checks s past t (piled before more) rest cs) → P (hold_checks s past t more (before ++ rest) cs)
+    pub past_holds : (before rest more : List Range) (cs : Checks) → AllFree base true before → AllUnraced past t true before → Apart before →
+        ((x : ℕ) → any_range before x ≡ true → any_range more x ≡ false) → P (hold_checks s past t (piled before more) rest cs) →
+        P (hold_checks s past t more (before ++ rest) cs)
     unfolding piled
     past_holds [] rest more cs free unraced apart away p = p
     past_holds (r ∷ before) rest more cs free unraced apart away p =
@@ -126,7 +130,9 @@ module _ (P : Checks → Type 0) (step : (Bad : ℕ → Type 0) (Found : ℕ →
         away_head true b e f = e
         away_head false b e f = f
 
-    pub past_keys : (before rest : List Prepared) (more : List ℕ) (cs : Checks) → NoneInUse s past before → DistinctKeys before → ((k : ℕ) → prepares_key before k ≡ true → any_number more k ≡ false) → P (key_checks s past (piled (keys_of before) more) rest cs) → P (key_checks s past more (before ++ rest) cs)
+    pub past_keys : (before rest : List Prepared) (more : List ℕ) (cs : Checks) → NoneInUse s past before → DistinctKeys before →
+        ((k : ℕ) → prepares_key before k ≡ true → any_number more k ≡ false) → P (key_checks s past (piled (keys_of before) more) rest cs) →
+        P (key_checks s past more (before ++ rest) cs)
     unfolding piled
     past_keys [] rest more cs free distinct away p = p
     past_keys (q ∷ before) rest more cs free distinct away p =

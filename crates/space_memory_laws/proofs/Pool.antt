@@ -1,5 +1,5 @@
 -- Blocks that are given and freed.
-use Rattle.std.proofs.Common.{◌≡◌, ℕ, ◌+◌, ◌≤◌, ◌⊎◌, Bool, true, false, cond, ◌||◌, eqb, List, ◌∷◌, Option, Some, None, is_some, inl, inr, refl, ap, sym, ◌∙◌, subst, arith}
+use Rattle.std.proofs.Common.{◌≡◌, ℕ, ◌+◌, ◌≤◌, Bool, true, false, cond, ◌||◌, eqb, List, ◌∷◌, Option, Some, None, is_some, inl, inr, refl, ap, sym, ◌∙◌, subst, arith}
 use Rattle.std.specs.Prelude.{unwrap_or, option_map}
 use Rattle.std.proofs.lemmas.Bool.{cases_eq, cond-true, cond-false, eq-eqb, ne_eqb, true≢false}
 use Rattle.run_events.specs.declared.key.Class.TheVariants.{Pool}
@@ -18,7 +18,6 @@ use Rattle.pool_list.specs.Places.{IsLeastPlace}
 use Rattle.pool_list.specs.Places as pool
 use Rattle.space_memory_access.specs.declared.holder.Region.{Region}
 use Rattle.space_memory_access.specs.Held.{HeldState, prepared_region, IsPending}
-use Rattle.space_memory_access.specs.declared.refusal.Refusal.{Refusal}
 use Rattle.space_memory_access.specs.declared.refusal.Refusal.TheVariants.{Pending}
 use Rattle.replay_runs.specs.Runs.{Start, OfKey, has, marks_of, byte}
 use Rattle.replay_runs.specs.Keys.{key}
@@ -26,15 +25,14 @@ use Rattle.replay_runs.specs.Threads.{frames_after, OpenCall, calls_after, act_c
 use Rattle.replay_runs.specs.Pool.{without, blocks_after, act_blocks, blocks, use_after, act_use, Fits, IsPlace}
 use Rattle.space_memory.specs.declared.sides.Sides.{Sides}
 use Rattle.space_memory.specs.Sides.{SideState, with_blocks}
-use Rattle.space_memory.specs.Spaces.{SpaceState, with_side}
-use Rattle.space_memory.specs.Blocks.{IsFreeRefused}
+use Rattle.space_memory.specs.Spaces.{SpaceState}
 use Rattle.space_memory.specs.Cells.{is_held}
 use Rattle.space_memory_laws.specs.Shown.{value_when_held, cell_of, stack_with, pool_with, by_address}
 use Rattle.space_memory_laws.specs.Held.{AreHeld}
 use Rattle.space_memory_laws.specs.Sound.{IsBelow, AreStacked, JustTheseLive, IsSound}
 use Rattle.space_memory_laws.specs.StandsFor.{HoldsFor, StandsFor}
 use Rattle.space_memory_laws.specs.Marks.{IsMark}
-use Rattle.space_memory_laws.specs.PoolMarks.{IsAlloc}
+use Rattle.space_memory_laws.specs.PoolMarks.{IsAlloc, AllocsAreMarks, RefusedAllocsAreMarks, FreesAreMarks, FreesOfNullAreMarks}
 use Rattle.space_memory_laws.proofs.Backs.{still_leaves, frames_stay, calls_stay, keys_stay, blocks_more}
 use Rattle.space_memory_laws.proofs.Cells.{cover_cases, cover_parts, covered, dead_from, unheld, below_system, in_replay}
 use Rattle.space_memory_laws.proofs.Access.{live_cell}
@@ -173,7 +171,8 @@ module _ (s : Start) (past : List Mark) (old new : SpaceState) (m : Mark) (e : E
       | inl in' ↦
           cond-true (covers r x) _ _ in'.is
           ∙ cond-false (eqb x addr) size 0 (ne_eqb x addr ne)
-          ∙ sym (new_begins x ∙ cond-false (eqb addr x) size _ (ne_eqb addr x (λ z. ne (sym z))) ∙ ap (λ o. unwrap_or o 0) (none_begins replay_pool (replay_pool + pool_size) (by_address bs) addr size x laid a.place.is_place.free in'.from in'.below))
+          ∙ sym (new_begins x ∙ cond-false (eqb addr x) size _ (ne_eqb addr x (λ z. ne (sym z))) ∙ ap (λ o. unwrap_or o 0)
+          (none_begins replay_pool (replay_pool + pool_size) (by_address bs) addr size x laid a.place.is_place.free in'.from in'.below))
       | inr out ↦
           cond-false (covers r x) _ _ out.is
           ∙ old_begins x own
@@ -193,7 +192,8 @@ module _ (s : Start) (past : List Mark) (old new : SpaceState) (m : Mark) (e : E
     frames = λ fs. ap (λ z. frames_after z fs) a.is;
     calls = λ cs. ap (λ z. act_calls z cs) a.is ∙ ap (λ z. calls_after z cs) a.kind;
     keys = λ k q. ap (λ z. act_use k z q) a.is ∙ ap (λ z. use_after k z q) a.kind;
-    begins = λ x own. ap (λ z. block_after z x (byte s x past).block) a.is ∙ ap (λ z. event_block z x (byte s x past).block) a.kind ∙ ap (λ n. cond (within addr n x) (cond (eqb x addr) size 0) (byte s x past).block) granted_all ∙ alloc_begins x own;
+    begins = λ x own. ap (λ z. block_after z x (byte s x past).block) a.is ∙ ap (λ z. event_block z x (byte s x past).block) a.kind ∙ ap
+        (λ n. cond (within addr n x) (cond (eqb x addr) size 0) (byte s x past).block) granted_all ∙ alloc_begins x own;
     side = a.side;
     system = a.system;
     held = a.held;
@@ -215,16 +215,16 @@ module _ (s : Start) (past : List Mark) (old new : SpaceState) (m : Mark) (e : E
     place = subst (λ l. IsPlace replay_pool l size addr) (sym a.were) (inl (fits bs size addr a.some a.place.is_place, λ x f. a.place.least x (fits_back bs size x f)));
   }
 
-pub allocs : (s : Start) (past : List Mark) (old new : SpaceState) (m : Mark) (e : Event) (size addr : ℕ) → StandsFor s past old → IsLeastPlace old.sides.replay.pool size addr → 1 ≤ size → new.sides ≡ with_side old.sides Replay (with_blocks old.sides.replay (with_block old.sides.replay.pool.blocks (record { addr = addr; len = size }))) → FillsWith (record { addr = addr; len = size }) (Some 0) old.bytes new.bytes → new.held ≡ old.held → m.act ≡ Made e → e.kind ≡ Alloc addr size → has m (OfKey (key Pool 0)) ≡ true → IsAlloc s past m size addr new
-allocs s past old new m e size addr h place some side fills held is kind keyed =
+pub allocs : AllocsAreMarks
+allocs s past old new m e size addr h t is kind keyed =
     alloc_made s past old new m e size addr (blocks s past) h (record {
       were = refl;
-      place = subst (λ q. IsLeastPlace q size addr) h.pool place;
-      some = some;
-      system = ap (λ (q : Sides). q.system) side;
-      side = ap (λ (q : Sides). q.replay) side ∙ ap (λ (q : PoolState). with_blocks old.sides.replay (with_block q.blocks (record { addr = addr; len = size }))) h.pool;
-      fills = fills;
-      held = held;
+      place = subst (λ q. IsLeastPlace q size addr) h.pool t.least;
+      some = t.some;
+      system = ap (λ (q : Sides). q.system) t.sides;
+      side = ap (λ (q : Sides). q.replay) t.sides ∙ ap (λ (q : PoolState). with_blocks old.sides.replay (with_block q.blocks (record { addr = addr; len = size }))) h.pool;
+      fills = t.fills;
+      held = t.held;
       is = is;
       kind = kind;
       keyed = keyed;
@@ -234,7 +234,7 @@ allocs s past old new m e size addr h place some side fills held is kind keyed =
 null_within : (x : ℕ) → within 0 0 x ≡ false
 null_within x = elim (cover_cases (record { addr = 0; len = 0 }) x) [ inl in' ↦ absurd (omega (arith, in'.below)) | inr out ↦ out.is ]
 
-pub refused_allocs : (s : Start) (past : List Mark) (memory : SpaceState) (m : Mark) (e : Event) (size : ℕ) → StandsFor s past memory → ((size ≡ 0) ⊎ ((addr : ℕ) → pool.IsPlace memory.sides.replay.pool size addr → ⊥)) → m.act ≡ Made e → e.kind ≡ Alloc 0 size → IsAlloc s past m size 0 memory
+pub refused_allocs : RefusedAllocsAreMarks
 refused_allocs s past memory m e size h none is kind = record {
   mark = record {
     asks = subst (λ z. Asks z (λ x. byte s x past)) (sym is) (λ x. subst (λ z. EventAsks z x (byte s x past)) (sym kind) tt);
@@ -336,7 +336,9 @@ module _ (s : Start) (past : List Mark) (old new : SpaceState) (m : Mark) (e : E
     | inr ne ↦ elim (cover_cases freed x) [
       | inl in' ↦
           cond-true (covers freed x) 0 _ in'.is
-          ∙ sym (begins_left x ∙ cond-false (eqb addr x) 0 _ (ne_eqb addr x ne) ∙ ap (λ o. unwrap_or o 0) (none_inside replay_pool (replay_pool + pool_size) (by_address bs) addr size x laid_before a.there (omega (arith, in'.from, ne)) in'.below))
+          ∙ sym (begins_left x ∙ cond-false (eqb addr x) 0 _ (ne_eqb addr x ne) ∙ ap (λ o. unwrap_or o 0)
+          (none_inside replay_pool (replay_pool + pool_size) (by_address bs) addr size x laid_before a.there
+          (omega (arith, in'.from, ne)) in'.below))
       | inr out ↦ cond-false (covers freed x) 0 _ out.is ∙ begins_before x own ∙ sym (begins_left x ∙ cond-false (eqb addr x) 0 _ (ne_eqb addr x ne))
     ]
   ]
@@ -378,27 +380,27 @@ module _ (s : Start) (past : List Mark) (old new : SpaceState) (m : Mark) (e : E
     stands = repooled s past old new m left freed h free_repools;
   }
 
-pub frees : (s : Start) (past : List Mark) (old new : SpaceState) (m : Mark) (e : Event) (addr size : ℕ) → StandsFor s past old → length_at old.sides.replay.pool.blocks addr ≡ Some size → new.sides ≡ with_side old.sides Replay (with_blocks old.sides.replay (without_block old.sides.replay.pool.blocks addr)) → FillsWith (record { addr = addr; len = size }) None old.bytes new.bytes → new.held ≡ old.held → ((r : Refusal) → IsFreeRefused Replay old.sides.replay.pool.blocks old.held.regions addr r → ⊥) → m.act ≡ Made e → e.kind ≡ Free addr size → has m (OfKey (key Pool 0)) ≡ true → IsMark s past m new
-frees s past old new m e addr size h there side fills held free is kind keyed =
+pub frees : FreesAreMarks
+frees s past old new m e addr size h g free is kind keyed =
     let bs = blocks s past in
-    let there' : length_at (by_address bs) addr ≡ Some size = sym (ap (λ (q : PoolState). length_at q.blocks addr) h.pool) ∙ there in
+    let there' : length_at (by_address bs) addr ≡ Some size = sym (ap (λ (q : PoolState). length_at q.blocks addr) h.pool) ∙ g.block in
     let lies = begins_from replay_pool (replay_pool + pool_size) (by_address bs) addr size h.sound.laid_out there' in
     let own : covers SYSTEM_MEMORY addr ≡ false = elim (cover_cases SYSTEM_MEMORY addr) [ inl in' ↦ absurd (omega (arith, in'.from, lies.1, lies.2)) | inr out ↦ out.is ] in
-    let none : NoneIn (record { addr = addr; len = size }) (IsPending old.held.regions) = none_in (record { addr = addr; len = size }) (λ x. is_held old.held.regions x) (λ x least. free (Pending x) (own, (size, there, least))) in
+    let none : NoneIn (record { addr = addr; len = size }) (IsPending old.held.regions) = none_in (record { addr = addr; len = size }) (λ x. is_held old.held.regions x) (λ x least. free (Pending x) (own, (size, g.block, least))) in
     free_made s past old new m e addr size bs h (record {
       were = refl;
       there = there';
-      system = ap (λ (q : Sides). q.system) side;
-      side = ap (λ (q : Sides). q.replay) side ∙ ap (λ (q : PoolState). with_blocks old.sides.replay (without_block q.blocks addr)) h.pool;
-      fills = fills;
+      system = ap (λ (q : Sides). q.system) g.sides;
+      side = ap (λ (q : Sides). q.replay) g.sides ∙ ap (λ (q : PoolState). with_blocks old.sides.replay (without_block q.blocks addr)) h.pool;
+      fills = g.dead;
       free = λ x c. let p = cover_parts (record { addr = addr; len = size }) x c in unheld old.held.regions x (none x (p.0, p.1, omega (arith, p.1, lies.2)));
-      held = held;
+      held = g.held;
       is = is;
       kind = kind;
       keyed = keyed;
     })
 
-pub frees_of_null : (s : Start) (past : List Mark) (memory : SpaceState) (m : Mark) (e : Event) → StandsFor s past memory → m.act ≡ Made e → e.kind ≡ Free 0 0 → IsMark s past m memory
+pub frees_of_null : FreesOfNullAreMarks
 frees_of_null s past memory m e h is kind = record {
   asks = subst (λ z. Asks z (λ x. byte s x past)) (sym is) (λ x. subst (λ z. EventAsks z x (byte s x past)) (sym kind) (λ w. absurd (true≢false (sym w ∙ null_within x))));
   stands = moved s m past memory memory h

@@ -202,7 +202,20 @@ module _ (s : Start) (past : List Mark) (memory : SpaceState) (t addr len : ℕ)
   refused (Pending x) p =
       inr (none_foreign s past memory t addr len write small p.0, inr (no_race, inr (none_dead p.0 p.1, inl (x, (bad_pending p.0 p.1 x p.2.in_range p.2.holds, λ y bad. let k = pending_bad p.0 p.1 y bad in p.2.least y k.0 k.1), refl))))
   refused (ReadOnly x) p =
-      inr (none_foreign s past memory t addr len write small p.0, inr (no_race, inr (none_dead p.0 p.1, inr (λ y bad. (let k = pending_bad p.0 p.1 y bad in p.2 y k.0 k.1), inl (x, (bad_constant x p.3.in_range p.3.holds, λ y bad. let k = constant_bad y bad in p.3.least y k.0 k.1), refl)))))
+      inr (
+        none_foreign s past memory t addr len write small p.0,
+        inr (
+          no_race,
+          inr (
+            none_dead p.0 p.1,
+            inr (
+              λ y bad. (let k = pending_bad p.0 p.1 y bad in p.2 y k.0 k.1),
+              inl
+                  (x, (bad_constant x p.3.in_range p.3.holds, λ y bad. let k = constant_bad y bad in p.3.least y k.0 k.1), refl),
+            ),
+          ),
+        ),
+      )
   refused (StackFull x) p = absurd p
   refused (KeyInUse x) p = absurd p
   refused (NoKey x) p = absurd p
@@ -261,5 +274,6 @@ module _ (s : Start) (past : List Mark) (memory : SpaceState) (t addr len : ℕ)
   pub finds : FindsWhatIsRefused s past memory t addr len write
   finds = record { refused = refused; found = found; passes = (pass, allow) }
 
-pub findings : (s : Start) (past : List Mark) (memory : SpaceState) (t addr len : ℕ) (write : Bool) → StandsFor s past memory → addr < 2 ^ 64 → Unraced past t write (range addr len) → FindsWhatIsRefused s past memory t addr len write
+pub findings : (s : Start) (past : List Mark) (memory : SpaceState) (t addr len : ℕ) (write : Bool) → StandsFor s past memory →
+    addr < 2 ^ 64 → Unraced past t write (range addr len) → FindsWhatIsRefused s past memory t addr len write
 findings s past memory t addr len write h small unraced = finds s past memory t addr len write h small unraced

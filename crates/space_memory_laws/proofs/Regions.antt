@@ -21,7 +21,9 @@ pub value_left : (xs ys : List Region) (x : ℕ) → value_when_held xs x ≡ No
 value_left [] ys x none = refl
 value_left (r ∷ rest) ys x none = go (waits_at x r) none (value_left rest ys x)
   where
-    go : (b : Bool) → cond b (Some (get_or r.before (x - r.range.addr) 0)) (value_when_held rest x) ≡ None → (value_when_held rest x ≡ None → value_when_held (rest ++ ys) x ≡ value_when_held ys x) → cond b (Some (get_or r.before (x - r.range.addr) 0)) (value_when_held (rest ++ ys) x) ≡ value_when_held ys x
+    go : (b : Bool) → cond b (Some (get_or r.before (x - r.range.addr) 0)) (value_when_held rest x) ≡ None →
+        (value_when_held rest x ≡ None → value_when_held (rest ++ ys) x ≡ value_when_held ys x) →
+        cond b (Some (get_or r.before (x - r.range.addr) 0)) (value_when_held (rest ++ ys) x) ≡ value_when_held ys x
     go true e again = absurd (some_none _ e)
     go false e again = again e
 
@@ -33,7 +35,9 @@ pub prepared_left : (xs ys : List Region) (k : ℕ) → prepared_region xs k ≡
 prepared_left [] ys k none = refl
 prepared_left (r ∷ rest) ys k none = go (has_key k r.holder) none (prepared_left rest ys k)
   where
-    go : (b : Bool) → cond b (Some r) (prepared_region rest k) ≡ None → (prepared_region rest k ≡ None → prepared_region (rest ++ ys) k ≡ prepared_region ys k) → cond b (Some r) (prepared_region (rest ++ ys) k) ≡ prepared_region ys k
+    go : (b : Bool) → cond b (Some r) (prepared_region rest k) ≡ None →
+        (prepared_region rest k ≡ None → prepared_region (rest ++ ys) k ≡ prepared_region ys k) →
+        cond b (Some r) (prepared_region (rest ++ ys) k) ≡ prepared_region ys k
     go true e again = absurd (some_none _ e)
     go false e again = again e
 

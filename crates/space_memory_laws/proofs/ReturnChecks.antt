@@ -91,7 +91,8 @@ module _ (memory : SpaceState) where
     used_is = ap (λ (q : Range). cond (eqb q.addr 0) 0 used) same ∙ sym is
 
     -- a byte past the used size, as it was when it was held
-    was : (i : ℕ) → i < length (drop (used_of g used) g.before) → used_of g used ≤ g.range.len → value_when_held rs (g.range.addr + used_of g used + i) ≡ Some (slice_index (drop (used_of g used) g.before) i)
+    was : (i : ℕ) → i < length (drop (used_of g used) g.before) → used_of g used ≤ g.range.len →
+        value_when_held rs (g.range.addr + used_of g used + i) ≡ Some (slice_index (drop (used_of g used) g.before) i)
     was i lt fits =
         let k : used_of g used + i < g.range.len = omega (arith, lt, length-drop (used_of g used) g.before, waits.whole, fits) in
         let off : g.range.addr + used_of g used + i - g.range.addr ≡ used_of g used + i = omega arith in
@@ -107,7 +108,18 @@ module _ (memory : SpaceState) where
             | inl all ↦ inl (record { fits = fits'; rest = all })
             | inr found ↦
                 let k : used_of g used + found.0 < g.range.len = omega (arith, found.1, length-drop (used_of g used) g.before, waits.whole, fits') in
-                inr (refl, inr (inr (g.range.addr + used_of g used + found.0, covered r (g.range.addr + used_of g used + found.0) (omega (arith, from)) (omega (arith, from, k, len)), omega (arith, from, used_is), differs (byte_at memory.bytes (g.range.addr + used_of g used + found.0)) (value_when_held rs (g.range.addr + used_of g used + found.0)) (λ e. found.2 (e ∙ was found.0 found.1 fits')))))
+                inr (
+                  refl,
+                  inr (inr (
+                    g.range.addr + used_of g used + found.0,
+                    covered r (g.range.addr + used_of g used + found.0)
+                        (omega (arith, from)) (omega (arith, from, k, len)),
+                    omega (arith, from, used_is),
+                    differs
+                        (byte_at memory.bytes (g.range.addr + used_of g used + found.0))
+                        (value_when_held rs (g.range.addr + used_of g used + found.0)) (λ e. found.2 (e ∙ was found.0 found.1 fits')),
+                  )),
+                )
           ]
     ]
 
@@ -148,7 +160,8 @@ module _ (memory : SpaceState) where
   head_is : (g : Region) (gs : List Region) (r : Range) (ro : List Range) (used ns : List ℕ) → AreReturned (g ∷ gs) (r ∷ ro) used ns → g.range ≡ r
   head_is g gs r ro used ns a = heads g.range r (map (λ (g : Region). g.range) gs) ro a.ranges
 
-  sizes_refused : (gs : List Region) (ro : List Range) (used ns : List ℕ) (x : ℕ) → AreReturned gs ro used ns → FirstUnfilled memory.bytes gs used x → Finds (size_checks changed [] ro ns Done) (BreachFound breach.Size x None)
+  sizes_refused : (gs : List Region) (ro : List Range) (used ns : List ℕ) (x : ℕ) → AreReturned gs ro used ns →
+      FirstUnfilled memory.bytes gs used x → Finds (size_checks changed [] ro ns Done) (BreachFound breach.Size x None)
   sizes_refused (g ∷ gs) (r ∷ ro) (u ∷ used) (n ∷ ns) x a first =
       let same = head_is g gs r ro (u ∷ used) (n ∷ ns) a in
       let waits = All-head (IsWaiting rs) g gs a.waits in
@@ -164,7 +177,8 @@ module _ (memory : SpaceState) where
   sizes_refused (g ∷ gs) (r ∷ ro) [] ns x a first = absurd first
   sizes_refused (g ∷ gs) (r ∷ ro) (u ∷ used) [] x a first = absurd a.sizes
 
-  sizes_found : (gs : List Region) (ro : List Range) (used ns : List ℕ) (f : Finding) → AreReturned gs ro used ns → Finds (size_checks changed [] ro ns Done) f → (x : ℕ) × FirstUnfilled memory.bytes gs used x × (f ≡ BreachFound breach.Size x None)
+  sizes_found : (gs : List Region) (ro : List Range) (used ns : List ℕ) (f : Finding) → AreReturned gs ro used ns →
+      Finds (size_checks changed [] ro ns Done) f → (x : ℕ) × FirstUnfilled memory.bytes gs used x × (f ≡ BreachFound breach.Size x None)
   sizes_found (g ∷ gs) (r ∷ ro) (u ∷ used) (n ∷ ns) f a found =
       let same = head_is g gs r ro (u ∷ used) (n ∷ ns) a in
       let waits = All-head (IsWaiting rs) g gs a.waits in
@@ -207,7 +221,8 @@ module _ (memory : SpaceState) where
   sizes_passed (g ∷ gs) (r ∷ ro) (u ∷ used) [] a p = absurd a.sizes
 
   -- the committed region comes last
-  sizes_more : (ro : List Range) (used ns : List ℕ) (r : Range) (n : ℕ) → AreUsedSizes ro used ns → size_checks changed [] ro ns (size_check changed 0 r n Done) ≡ size_checks changed [] (ro ++ r ∷ []) (ns ++ n ∷ []) Done
+  sizes_more : (ro : List Range) (used ns : List ℕ) (r : Range) (n : ℕ) → AreUsedSizes ro used ns →
+      size_checks changed [] ro ns (size_check changed 0 r n Done) ≡ size_checks changed [] (ro ++ r ∷ []) (ns ++ n ∷ []) Done
   sizes_more [] [] [] r n h = refl
   sizes_more (q ∷ ro) (u ∷ used) (k ∷ ns) r n h = ap (λ cs. size_check changed 0 q k cs) (sizes_more ro used ns r n h.1)
   sizes_more [] [] (k ∷ ns) r n h = absurd h
@@ -236,7 +251,9 @@ used_key (Some r) g e = record { range = r; is = refl; same = inside g.range r e
     inside : (a b : Range) → ◌≡◌ {A = Option Range} (Some a) (Some b) → a ≡ b
     inside a b e = cc
 
-module _ (i : Interface) (s : Start) (past : List Mark) (memory : SpaceState) (t func : ℕ) (args : List ℕ) (result : ℕ) (used : List ℕ) (h : StandsFor s past memory) (lt : t < thread_count) (closes : IsClosed (open_calls (marks_of s t past)) (i.outs func args)) (sizes : AreUsedSizes (i.outs func args) used (i.used func args result)) where
+module _ (i : Interface) (s : Start) (past : List Mark) (memory : SpaceState) (t func : ℕ) (args : List ℕ) (result : ℕ) (used : List ℕ)
+    (h : StandsFor s past memory) (lt : t < thread_count) (closes : IsClosed (open_calls (marks_of s t past)) (i.outs func args))
+    (sizes : AreUsedSizes (i.outs func args) used (i.used func args result)) where
   abbrev call : OpenCall
   call = innermost memory.held t
 
@@ -409,7 +426,10 @@ module _ (i : Interface) (s : Start) (past : List Mark) (memory : SpaceState) (t
   by_commit None c is = subst (ReturnsFind (interface None) s past memory t func args result used) (sym is) returns_none
   by_commit (Some o) c is = by_used o.key o.used c is
 
-pub returns_found : (i : Interface) (s : Start) (past : List Mark) (memory : SpaceState) (t func : ℕ) (args : List ℕ) (result : ℕ) (used : List ℕ) (c : Option (ℕ × ℕ)) → StandsFor s past memory → t < thread_count → Closes (open_calls (marks_of s t past)) func args (i.outs func args) → AreUsedSizes (i.outs func args) used (i.used func args result) → IsCommitted (i.commits func args result) c → ReturnsFind i s past memory t func args result used c
+pub returns_found : (i : Interface) (s : Start) (past : List Mark) (memory : SpaceState) (t func : ℕ) (args : List ℕ) (result : ℕ) (used : List ℕ) (c : Option (ℕ × ℕ)) →
+    StandsFor s past memory → t < thread_count → Closes (open_calls (marks_of s t past)) func args (i.outs func args) →
+    AreUsedSizes (i.outs func args) used (i.used func args result) → IsCommitted (i.commits func args result) c →
+    ReturnsFind i s past memory t func args result used c
 returns_found i s past memory t func args result used c h lt closes sizes is =
     let r = by_commit i s past memory t func args result used h lt (closing (open_calls (marks_of s t past)) func args (i.outs func args) closes) sizes (i.commits func args result) c is in
     record { refused = r.refused; found = r.found; passes = r.passes }

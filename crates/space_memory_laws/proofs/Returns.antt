@@ -30,12 +30,12 @@ use Rattle.replay_runs.specs.Rules.{Closes}
 use Rattle.replay_runs.specs.Returns.{ReleasesInUse}
 use Rattle.space_memory.specs.Sides.{SideState}
 use Rattle.space_memory.specs.Spaces.{SpaceState, IsWhole}
-use Rattle.space_memory.specs.Releases.{outs_of, committed, committed_key, committed_size, AllReturned, HasKey}
+use Rattle.space_memory.specs.Releases.{outs_of, committed, committed_key, committed_size, AllReturned}
 use Rattle.space_memory_laws.specs.Shown.{value_when_held, cell_of, stack_with, pool_with, by_address, ranges_at, ins_of}
 use Rattle.space_memory_laws.specs.Held.{AreApart, HaveOwnKeys, has_region, AreHeld}
 use Rattle.space_memory_laws.specs.Sound.{AreStacked, IsBelow, IsSound}
 use Rattle.space_memory_laws.specs.StandsFor.{HoldsFor, StandsFor}
-use Rattle.space_memory_laws.specs.Returns.{ShowUsed, CommitsAs, IsRet}
+use Rattle.space_memory_laws.specs.Returns.{ShowUsed, CommitsAs, IsRet, ReturnsAreMarks}
 use Rattle.space_memory_laws.proofs.Backs.{frames_stay, blocks_stay, calls_own, calls_other, keys_more, stay}
 use Rattle.space_memory_laws.proofs.Regions.{some_none}
 use Rattle.space_memory_laws.proofs.Calls.{ranges_past}
@@ -54,7 +54,8 @@ closing [] func args ranges h = absurd h
 closing (c ∷ cs) func args ranges h = record { top = c; below = cs; is = refl; outs = h.2 }
 
 -- a region that is committed is that of its piece
-committed_ranges : (m : Mark) (held : HeldState) (c : Option (ℕ × ℕ)) (commit : Commit) → CommitsAs m held c commit → map (λ (r : Region). r.range) (committed held.regions c) ≡ piece_ranges (released commit)
+committed_ranges : (m : Mark) (held : HeldState) (c : Option (ℕ × ℕ)) (commit : Commit) → CommitsAs m held c commit →
+    map (λ (r : Region). r.range) (committed held.regions c) ≡ piece_ranges (released commit)
 committed_ranges m held None commit h = sym (ap piece_ranges h)
 committed_ranges m held (Some c) (Released j p) h = one (prepared_region held.regions c.0) (ap (λ z. option_map (λ (r : Region). r.range) (prepared_region held.regions z)) (sym h.1) ∙ h.0)
   where
@@ -70,7 +71,8 @@ committed_ranges m held (Some c) Withheld h = absurd h
 piece_ranges_append : (ps qs : List Piece) → piece_ranges (ps ++ qs) ≡ piece_ranges ps ++ piece_ranges qs
 piece_ranges_append ps qs = map-append (λ (p : Piece). p.range) ps qs
 
-pub record Returning (s : Start) (past : List Mark) (old new : SpaceState) (m : Mark) (e : Event) (func : ℕ) (args : List ℕ) (result : ℕ) (same : Bool) (pieces : List Piece) (commit : Commit) (used : List ℕ) (c : Option (ℕ × ℕ)) : Type 0 where
+pub record Returning (s : Start) (past : List Mark) (old new : SpaceState) (m : Mark) (e : Event) (func : ℕ) (args : List ℕ) (result : ℕ)
+    (same : Bool) (pieces : List Piece) (commit : Commit) (used : List ℕ) (c : Option (ℕ × ℕ)) : Type 0 where
   pub h : StandsFor s past old
   pub lt : m.thread < thread_count
   pub regions : new.held.regions ≡ without_closed (innermost old.held m.thread) (committed_key c) old.held.regions
@@ -83,7 +85,9 @@ pub record Returning (s : Start) (past : List Mark) (old new : SpaceState) (m : 
   pub commits : CommitsAs m old.held c commit
   pub shows : ShowUsed old.bytes (pieces ++ released commit) (used ++ committed_size c)
 
-module _ (s : Start) (past : List Mark) (old new : SpaceState) (m : Mark) (e : Event) (func : ℕ) (args : List ℕ) (result : ℕ) (same : Bool) (pieces : List Piece) (commit : Commit) (used : List ℕ) (c : Option (ℕ × ℕ)) (k : Returning s past old new m e func args result same pieces commit used c) where
+module _ (s : Start) (past : List Mark) (old new : SpaceState) (m : Mark) (e : Event) (func : ℕ) (args : List ℕ) (result : ℕ) (same : Bool)
+    (pieces : List Piece) (commit : Commit) (used : List ℕ) (c : Option (ℕ × ℕ))
+    (k : Returning s past old new m e func args result same pieces commit used c) where
   abbrev call : OpenCall
   call = innermost old.held m.thread
 
@@ -111,7 +115,9 @@ module _ (s : Start) (past : List Mark) (old new : SpaceState) (m : Mark) (e : E
   out_ranges =
       (k.h.calls m.thread k.lt).outs (slice_index old.held.depths m.thread)
       ∙ ap (λ qs. ranges_at (λ c. c.outs) (slice_index old.held.depths m.thread) qs) k.closes.is
-      ∙ (cond-true (eqb (slice_index old.held.depths m.thread) (suc (length k.closes.below))) k.closes.top.outs (ranges_at (λ c. c.outs) (slice_index old.held.depths m.thread) k.closes.below) (eq-eqb (slice_index old.held.depths m.thread) (suc (length k.closes.below)) depth_is) ∙ sym k.closes.outs)
+      ∙ (cond-true (eqb (slice_index old.held.depths m.thread) (suc (length k.closes.below))) k.closes.top.outs
+      (ranges_at (λ c. c.outs) (slice_index old.held.depths m.thread) k.closes.below)
+      (eq-eqb (slice_index old.held.depths m.thread) (suc (length k.closes.below)) depth_is) ∙ sym k.closes.outs)
 
   gone_ranges : map (λ (r : Region). r.range) gone ≡ piece_ranges all_pieces
   gone_ranges =
@@ -152,7 +158,11 @@ module _ (s : Start) (past : List Mark) (old new : SpaceState) (m : Mark) (e : E
   abbrev at_depth : ℕ → OpenCall
   at_depth d = record { thread = m.thread; depth = d }
 
-  left : (d : ℕ) (g : run.OpenCall → List Range) (f : List Region → List Region) → map (λ (r : Region). r.range) (f old.held.regions) ≡ ranges_at g d cs → (is_same_call call (at_depth d) ≡ false → map (λ (r : Region). r.range) (f (without_closed call (committed_key c) old.held.regions)) ≡ map (λ (r : Region). r.range) (f old.held.regions)) → (d ≡ call.depth → f (without_closed call (committed_key c) old.held.regions) ≡ []) → map (λ (r : Region). r.range) (f new.held.regions) ≡ ranges_at g d k.closes.below
+  left : (d : ℕ) (g : run.OpenCall → List Range) (f : List Region → List Region) →
+      map (λ (r : Region). r.range) (f old.held.regions) ≡ ranges_at g d cs →
+      (is_same_call call (at_depth d) ≡ false → map (λ (r : Region). r.range) (f (without_closed call (committed_key c) old.held.regions)) ≡ map (λ (r : Region). r.range) (f old.held.regions)) →
+      (d ≡ call.depth → f (without_closed call (committed_key c) old.held.regions) ≡ []) →
+      map (λ (r : Region). r.range) (f new.held.regions) ≡ ranges_at g d k.closes.below
   left d g f was stays goes = ap (λ rs. map (λ (r : Region). r.range) (f rs)) k.regions ∙ elim (cases_eq d call.depth) [
     | inl q ↦
         ap (map (λ (r : Region). r.range)) (goes q)
@@ -168,8 +178,14 @@ module _ (s : Start) (past : List Mark) (old new : SpaceState) (m : Mark) (e : E
   own_calls : HoldsFor new.held m.thread k.closes.below
   own_calls = record {
     depth = depth_now;
-    ins = λ d. left d (λ c. c.ins) (ins_of (at_depth d)) ((k.h.calls m.thread k.lt).ins d) (λ other. ins_kept call (committed_key c) (at_depth d) other old.held.regions) (λ q. ap (λ n. ins_of (at_depth n) (without_closed call (committed_key c) old.held.regions)) q ∙ ins_gone call (committed_key c) old.held.regions);
-    outs = λ d. left d (λ c. c.outs) (outs_of (at_depth d)) ((k.h.calls m.thread k.lt).outs d) (λ other. outs_kept call (committed_key c) (at_depth d) other old.held.regions) (λ q. ap (λ n. outs_of (at_depth n) (without_closed call (committed_key c) old.held.regions)) q ∙ outs_gone call (committed_key c) old.held.regions);
+    ins = λ d. left d (λ c. c.ins) (ins_of (at_depth d)) ((k.h.calls m.thread k.lt).ins d)
+        (λ other. ins_kept call (committed_key c) (at_depth d) other old.held.regions)
+        (λ q. ap (λ n. ins_of (at_depth n) (without_closed call (committed_key c) old.held.regions)) q ∙ ins_gone call
+        (committed_key c) old.held.regions);
+    outs = λ d. left d (λ c. c.outs) (outs_of (at_depth d)) ((k.h.calls m.thread k.lt).outs d)
+        (λ other. outs_kept call (committed_key c) (at_depth d) other old.held.regions)
+        (λ q. ap (λ n. outs_of (at_depth n) (without_closed call (committed_key c) old.held.regions)) q ∙ outs_gone call
+        (committed_key c) old.held.regions);
   }
 
   other_calls : (t : ℕ) → (m.thread ≡ t → ⊥) → t < thread_count → HoldsFor new.held t (open_calls (marks_of s t past))
@@ -201,7 +217,8 @@ module _ (s : Start) (past : List Mark) (old new : SpaceState) (m : Mark) (e : E
   abbrev shown_range : List Region → ℕ → Option Range
   shown_range rs j = option_map (λ (r : Region). r.range) (prepared_region rs j)
 
-  keys_from : (committing : Option (ℕ × ℕ)) (was : Commit) → CommitsAs m old.held committing was → (j : ℕ) → shown_range (without_closed call (committed_key committing) old.held.regions) j ≡ cond (has m (OfKey (key Async j))) (commit_leaves j was (use_before j)) (use_before j)
+  keys_from : (committing : Option (ℕ × ℕ)) (was : Commit) → CommitsAs m old.held committing was → (j : ℕ) →
+      shown_range (without_closed call (committed_key committing) old.held.regions) j ≡ cond (has m (OfKey (key Async j))) (commit_leaves j was (use_before j)) (use_before j)
   keys_from None was as' j =
       key_kept call None j none_dies old.held.regions
       ∙ k.h.keys j
@@ -253,9 +270,13 @@ module _ (s : Start) (past : List Mark) (old new : SpaceState) (m : Mark) (e : E
       both : (a b x y : ℕ) → a ≡ b → x ≡ y → ◌≡◌ {A = OpenCall} (record { thread = a; depth = x }) (record { thread = b; depth = y })
       both a b x y p q = cc
 
-  owned_now : (other : OpenCall) → (other.thread < thread_count → slice_index new.held.depths other.thread < other.depth) → has_region other (without_closed call (committed_key c) old.held.regions) ≡ false
+  owned_now : (other : OpenCall) → (other.thread < thread_count → slice_index new.held.depths other.thread < other.depth) →
+      has_region other (without_closed call (committed_key c) old.held.regions) ≡ false
   owned_now other lt = elim (cases_eq other.thread m.thread) [
-    | inr ne ↦ owned_kept call (committed_key c) other old.held.regions (held.owned other (λ in'. (let few = lt in' in let o = ap (λ ds. slice_index ds other.thread) k.depths ∙ get_or-set_other old.held.depths m.thread other.thread (slice_index old.held.depths m.thread - 1) 0 ne in omega (arith, o, few))))
+    | inr ne ↦ owned_kept call (committed_key c) other old.held.regions
+        (held.owned other
+        (λ in'. (let few = lt in' in let o = ap (λ ds. slice_index ds other.thread) k.depths ∙
+        get_or-set_other old.held.depths m.thread other.thread (slice_index old.held.depths m.thread - 1) 0 ne in omega (arith, o, few))))
     | inl t ↦ elim (cases_eq other.depth call.depth) [
       | inl d ↦ subst (λ o. has_region o (without_closed call (committed_key c) old.held.regions) ≡ false) (same_call other t d) (owned_gone call (committed_key c) old.held.regions)
       | inr ne ↦
@@ -333,18 +354,18 @@ module _ (s : Start) (past : List Mark) (old new : SpaceState) (m : Mark) (e : E
     in_use = used_key c commit k.commits;
   }
 
-pub returns : (s : Start) (past : List Mark) (old new : SpaceState) (m : Mark) (e : Event) (func : ℕ) (args : List ℕ) (result : ℕ) (same : Bool) (pieces : List Piece) (commit : Commit) (used : List ℕ) (c : Option (ℕ × ℕ)) → StandsFor s past old → m.thread < thread_count → new.held.regions ≡ without_closed (innermost old.held m.thread) (committed_key c) old.held.regions → new.held.depths ≡ slice_set old.held.depths m.thread (slice_index old.held.depths m.thread - 1) → new ≡ record old { held = new.held } → HasKey old.held.regions c → AllReturned old.bytes old.held.regions (innermost old.held m.thread) used c → m.act ≡ Made e → e.kind ≡ Ret func args result same pieces commit → Closes (open_calls (marks_of s m.thread past)) func args (piece_ranges pieces) → CommitsAs m old.held c commit → ShowUsed old.bytes (pieces ++ released commit) (used ++ committed_size c) → IsRet s past m pieces c commit new
-returns s past old new m e func args result same pieces commit used c h lt regions depths rest has_key filled is kind closes commits shows =
-    ret_made s past old new m e func args result same pieces commit used c (record {
+pub returns : ReturnsAreMarks
+returns s past old new m func args pieces commit used c h lt done of =
+    ret_made s past old new m of.event func args of.result of.same pieces commit used c (record {
       h = h;
       lt = lt;
-      regions = regions;
-      depths = depths;
-      rest = rest;
-      filled = filled;
-      is = is;
-      kind = kind;
-      closes = closing (open_calls (marks_of s m.thread past)) func args (piece_ranges pieces) closes;
-      commits = commits;
-      shows = shows;
+      regions = done.regions;
+      depths = done.depths;
+      rest = done.rest;
+      filled = done.returned;
+      is = of.act;
+      kind = of.kind;
+      closes = closing (open_calls (marks_of s m.thread past)) func args (piece_ranges pieces) of.closes;
+      commits = of.commits;
+      shows = of.shows;
     })

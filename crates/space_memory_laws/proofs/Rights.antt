@@ -1,24 +1,19 @@
 -- What code below the cut may touch above it is what is handed down to it.
-use Rattle.std.proofs.Common.{◌≡◌, ◌⊎◌, ℕ, suc, ◌+◌, ◌^◌, ◌<◌, ◌≤◌, Bool, true, false, cond, eqb, not, ◌&&◌, List, [], ◌∷◌, length, Option, Some, None, inl, inr, refl, ap, sym, ◌∙◌, arith}
+use Rattle.std.proofs.Common.{◌≡◌, ℕ, suc, ◌+◌, ◌^◌, ◌<◌, ◌≤◌, Bool, true, false, cond, eqb, not, ◌&&◌, List, [], ◌∷◌, length, Option, Some, None, inl, inr, refl, ap, sym, ◌∙◌, arith}
 use Rattle.std.specs.Prelude.{◌↔◌, filter}
 use Rattle.std.specs.List.{list_any}
 use Rattle.std.proofs.lemmas.Bool.{cases_Bool, cases_eq, true≢false, cond-true, cond-false, eq-eqb, ne_eqb, or_cases, and_parts, and_from}
-use Rattle.marks.specs.declared.side.Side.TheVariants.{System}
-use Rattle.marks.specs.Places.{thread_count, is_system}
-use Rattle.marks.specs.Ranges.{bytes_of_number, covers, any_range}
-use Rattle.marks.specs.Ranges as marks
+use Rattle.marks.specs.Places.{thread_count}
+use Rattle.marks.specs.Ranges.{covers, any_range}
 use Rattle.marks.specs.Marks.{Mark}
-use Rattle.marks.specs.Bytes.{Live, IsHeld}
 use Rattle.space_memory_bytes.specs.Areas.{byte_at}
-use Rattle.space_memory_bytes.specs.Numbers.{HasNumber}
 use Rattle.space_memory_access.specs.declared.holder.OpenCall.{OpenCall}
 use Rattle.space_memory_access.specs.declared.holder.Region.{Region}
 use Rattle.space_memory_access.specs.declared.holder.Holder.{Holder}
 use Rattle.space_memory_access.specs.declared.holder.Holder.TheVariants.{In, Out, Key}
 use Rattle.space_memory_access.specs.Holders.{serves, is_out_of, is_same_call, has_key}
 use Rattle.space_memory_access.specs.Held.{IsServed, prepared_region}
-use Rattle.space_memory_access.specs.Accesses.{IsAllowed}
-use Rattle.replay_runs.specs.Runs.{Start, marks_of, byte}
+use Rattle.replay_runs.specs.Runs.{Start, marks_of}
 use Rattle.replay_runs.specs.Threads.{open_calls}
 use Rattle.replay_runs.specs.Threads as run
 use Rattle.space_memory.specs.Spaces.{SpaceState}
@@ -27,7 +22,7 @@ use Rattle.space_memory.specs.Releases.{outs_of}
 use Rattle.space_memory_laws.specs.Shown.{cell_of, ranges_at, is_in_of, ins_of}
 use Rattle.space_memory_laws.specs.Held.{HaveOwnKeys}
 use Rattle.space_memory_laws.specs.StandsFor.{StandsFor}
-use Rattle.space_memory_laws.specs.Rights.{any_in, IsHandedDown}
+use Rattle.space_memory_laws.specs.Rights.{any_in, IsHandedDown, LoadsBelowShowTheRun}
 use Rattle.space_memory_laws.proofs.Cells.{cover_parts, live_ends, unheld}
 use Rattle.space_memory_laws.proofs.Access.{number_byte}
 use Rattle.space_memory_laws.proofs.Regions.{some_none}
@@ -58,11 +53,17 @@ data Serves (rs : List Region) (t : ℕ) (write : Bool) (x : ℕ) : Type 0 where
   ByKey : (k : ℕ) (g : Region) → prepared_region rs k ≡ Some g → covers g.range x ≡ true → Serves rs t write x
 
 -- one more region before
-more_kept : (f : Region → Bool) (r : Region) (rest : List Region) (x : ℕ) → list_any (λ (g : Region). covers g.range x) (filter f rest) ≡ true → list_any (λ (g : Region). covers g.range x) (filter f (r ∷ rest)) ≡ true
-more_kept f r rest x any = elim (f r) as (λ b. list_any (λ (g : Region). covers g.range x) (cond b (r ∷ filter f rest) (filter f rest)) ≡ true) [ true ↦ or_true (covers r.range x) (list_any (λ (g : Region). covers g.range x) (filter f rest)) any | false ↦ any ]
+more_kept : (f : Region → Bool) (r : Region) (rest : List Region) (x : ℕ) →
+    list_any (λ (g : Region). covers g.range x) (filter f rest) ≡ true →
+    list_any (λ (g : Region). covers g.range x) (filter f (r ∷ rest)) ≡ true
+more_kept f r rest x any = elim (f r) as
+    (λ b. list_any (λ (g : Region). covers g.range x) (cond b (r ∷ filter f rest) (filter f rest)) ≡ true)
+    [ true ↦ or_true (covers r.range x) (list_any (λ (g : Region). covers g.range x) (filter f rest)) any | false ↦ any ]
 
 first_kept : (f : Region → Bool) (r : Region) (rest : List Region) (x : ℕ) → f r ≡ true → covers r.range x ≡ true → list_any (λ (g : Region). covers g.range x) (filter f (r ∷ rest)) ≡ true
-first_kept f r rest x is c = ap (λ b. list_any (λ (g : Region). covers g.range x) (cond b (r ∷ filter f rest) (filter f rest))) is ∙ or_left (covers r.range x) (list_any (λ (g : Region). covers g.range x) (filter f rest)) c
+first_kept f r rest x is c =
+    ap (λ b. list_any (λ (g : Region). covers g.range x) (cond b (r ∷ filter f rest) (filter f rest))) is
+    ∙ or_left (covers r.range x) (list_any (λ (g : Region). covers g.range x) (filter f rest)) c
 
 not_true : (b : Bool) → not b ≡ true → b ≡ false
 not_true true e = sym e
@@ -94,11 +95,15 @@ serving (r ∷ rest) t write x own is = elim (or_cases (serves t write r.holder 
     ]
 
 -- regions of a kind that serves the thread
-kind_serves : (rs : List Region) (t : ℕ) (write : Bool) (x : ℕ) (f : Holder → Bool) → ((o : Holder) → f o ≡ true → serves t write o ≡ true) → list_any (λ (g : Region). covers g.range x) (filter (λ (g : Region). f g.holder) rs) ≡ true → IsServed rs t write x
+kind_serves : (rs : List Region) (t : ℕ) (write : Bool) (x : ℕ) (f : Holder → Bool) → ((o : Holder) → f o ≡ true → serves t write o ≡ true) →
+    list_any (λ (g : Region). covers g.range x) (filter (λ (g : Region). f g.holder) rs) ≡ true → IsServed rs t write x
 kind_serves [] t write x f good is = is
 kind_serves (r ∷ rest) t write x f good is = go (f r.holder) refl is (kind_serves rest t write x f good)
   where
-    go : (b : Bool) → f r.holder ≡ b → list_any (λ (g : Region). covers g.range x) (cond b (r ∷ filter (λ (g : Region). f g.holder) rest) (filter (λ (g : Region). f g.holder) rest)) ≡ true → (list_any (λ (g : Region). covers g.range x) (filter (λ (g : Region). f g.holder) rest) ≡ true → IsServed rest t write x) → IsServed (r ∷ rest) t write x
+    go : (b : Bool) → f r.holder ≡ b →
+        list_any (λ (g : Region). covers g.range x) (cond b (r ∷ filter (λ (g : Region). f g.holder) rest) (filter (λ (g : Region). f g.holder) rest)) ≡ true →
+        (list_any (λ (g : Region). covers g.range x) (filter (λ (g : Region). f g.holder) rest) ≡ true → IsServed rest t write x) →
+        IsServed (r ∷ rest) t write x
     go true e any again = elim (or_cases (covers r.range x) (list_any (λ (g : Region). covers g.range x) (filter (λ (g : Region). f g.holder) rest)) any) [
       | inl here ↦ or_left (serves t write r.holder && covers r.range x) (list_any (λ (q : Region). serves t write q.holder && covers q.range x) rest) (and_from (serves t write r.holder) (covers r.range x) (good r.holder e) here)
       | inr more ↦ or_true (serves t write r.holder && covers r.range x) (list_any (λ (q : Region). serves t write q.holder && covers q.range x) rest) (again more)
@@ -118,7 +123,10 @@ key_serves (r ∷ rest) t write k x g e c = go (has_key k r.holder) refl e (λ t
     inside a b e = cc
 
     go : (b : Bool) → has_key k r.holder ≡ b → cond b (Some r) (prepared_region rest k) ≡ Some g → (prepared_region rest k ≡ Some g → IsServed rest t write x) → IsServed (r ∷ rest) t write x
-    go true has e again = or_left (serves t write r.holder && covers r.range x) (list_any (λ (q : Region). serves t write q.holder && covers q.range x) rest) (and_from (serves t write r.holder) (covers r.range x) (good r.holder has) (ap (λ (q : Region). covers q.range x) (inside r g e) ∙ c))
+    go true has e again = or_left (serves t write r.holder && covers r.range x)
+        (list_any (λ (q : Region). serves t write q.holder && covers q.range x) rest)
+        (and_from (serves t write r.holder) (covers r.range x) (good r.holder has)
+        (ap (λ (q : Region). covers q.range x) (inside r g e) ∙ c))
     go false has e again = or_true (serves t write r.holder && covers r.range x) (list_any (λ (q : Region). serves t write q.holder && covers q.range x) rest) (again e)
 
 module _ (s : Start) (past : List Mark) (memory : SpaceState) (t : ℕ) (write : Bool) (x : ℕ) (h : StandsFor s past memory) (lt : t < thread_count) where
@@ -155,11 +163,11 @@ module _ (s : Start) (past : List Mark) (memory : SpaceState) (t : ℕ) (write :
   pub rights : IsServed rs t write x ↔ IsHandedDown s past t write x
   rights = ((λ is. handed (serving rs t write x h.sound.held.keys is)), served)
 
-pub shows_run : (s : Start) (past : List Mark) (memory : SpaceState) (thread addr width value : ℕ) → StandsFor s past memory → addr < 2 ^ 64 → HasNumber memory.bytes addr width value → IsAllowed memory.bytes memory.held.regions (record { side = System; thread = thread; range = record { addr = addr; len = width }; write = false }) → (x : ℕ) → covers (record { addr = addr; len = width }) x ≡ true → is_system x ≡ false → ((byte s x past).cell ≡ Live (marks.byte_at addr (bytes_of_number width value) x)) ⊎ IsHeld (byte s x past).cell
-shows_run s past memory thread addr width value h small has ok x c own = elim (cases_Bool (is_held memory.held.regions x)) [
-  | inl waits ↦ inr (byte_pending s past memory h x own (ok.live x (let p = cover_parts (record { addr = addr; len = width }) x c in (p.0, p.1, omega (arith, p.1, ends)))) waits)
-  | inr idle ↦ inl (h.bytes x own ∙ ap (cell_of (byte_at memory.bytes x)) (unheld memory.held.regions x (λ p. true≢false (sym p ∙ idle))) ∙ ap (λ b. cell_of b None) (number_byte memory.bytes addr width value x has c))
+pub shows_run : LoadsBelowShowTheRun
+shows_run s past memory thread addr width value h small l x c own = elim (cases_Bool (is_held memory.held.regions x)) [
+  | inl waits ↦ inr (byte_pending s past memory h x own (l.allowed.live x (let p = cover_parts (record { addr = addr; len = width }) x c in (p.0, p.1, omega (arith, p.1, ends)))) waits)
+  | inr idle ↦ inl (h.bytes x own ∙ ap (cell_of (byte_at memory.bytes x)) (unheld memory.held.regions x (λ p. true≢false (sym p ∙ idle))) ∙ ap (λ b. cell_of b None) (number_byte memory.bytes addr width value x l.number c))
 ]
   where
     ends : addr + width < 2 ^ 64
-    ends = live_ends memory.bytes (record { addr = addr; len = width }) h.sound.ends small ok.live
+    ends = live_ends memory.bytes (record { addr = addr; len = width }) h.sound.ends small l.allowed.live

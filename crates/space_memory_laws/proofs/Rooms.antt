@@ -47,7 +47,8 @@ is_full st size (KeyInUse x) p = absurd p
 is_full st size (NoKey x) p = absurd p
 is_full st size (Size x) p = absurd p
 
-pub full_stacks : (s : Start) (past : List Mark) (memory : SpaceState) (t size : ℕ) → StandsFor s past memory → t < thread_count → ((r : Refusal) × IsEnterRefused (stack_of memory.sides.replay.stacks t) size r) ↔ (HasRoom t (marks_of s t past) size → ⊥)
+pub full_stacks : (s : Start) (past : List Mark) (memory : SpaceState) (t size : ℕ) → StandsFor s past memory → t < thread_count →
+    ((r : Refusal) × IsEnterRefused (stack_of memory.sides.replay.stacks t) size r) ↔ (HasRoom t (marks_of s t past) size → ⊥)
 full_stacks s past memory t size h lt = (no_room, refuses)
   where
     no_room : ((r : Refusal) × IsEnterRefused (stack_of memory.sides.replay.stacks t) size r) → HasRoom t (marks_of s t past) size → ⊥
@@ -75,7 +76,9 @@ pub record IsTop (bytes : ℕ → Option ℕ) (t : ℕ) (frame : Range) : Type 0
   pub to : frame.addr + frame.len ≤ stack Replay t + stack_size
   pub live : (x : ℕ) → IsInRange frame x → bytes x ≡ None → ⊥
 
-pub top_frame : (s : Start) (past : List Mark) (memory : SpaceState) (t : ℕ) (frame : Range) → StandsFor s past memory → t < thread_count → (fs : List Range) → frames (marks_of s t past) ≡ fs → slice_get (innermost_last fs) (length (innermost_last fs) - 1) ≡ Some frame → IsTop (byte_at memory.bytes) t frame
+pub top_frame : (s : Start) (past : List Mark) (memory : SpaceState) (t : ℕ) (frame : Range) → StandsFor s past memory → t < thread_count →
+    (fs : List Range) → frames (marks_of s t past) ≡ fs → slice_get (innermost_last fs) (length (innermost_last fs) - 1) ≡ Some frame →
+    IsTop (byte_at memory.bytes) t frame
 top_frame s past memory t frame h lt [] were top = absurd (none_some frame top)
   where
     none_some : (r : Range) → ◌≡◌ {A = Option Range} None (Some r) → ⊥
@@ -118,10 +121,13 @@ module _ (memory : SpaceState) (t : ℕ) (frame : Range) (lt : t < thread_count)
   as_leave (NoKey x) p = absurd p
   as_leave (Size x) p = absurd p
 
-pub leaves_as_writes : (s : Start) (past : List Mark) (memory : SpaceState) (t : ℕ) (frame : Range) → StandsFor s past memory → t < thread_count → top_of memory.sides.replay t ≡ Some frame → (r : Refusal) → IsLeaveRefused Replay memory.held.regions (top_of memory.sides.replay t) r ↔ IsRefused memory.bytes memory.held.regions (access t frame.addr frame.len true) r
+pub leaves_as_writes : (s : Start) (past : List Mark) (memory : SpaceState) (t : ℕ) (frame : Range) → StandsFor s past memory →
+    t < thread_count → top_of memory.sides.replay t ≡ Some frame → (r : Refusal) →
+    IsLeaveRefused Replay memory.held.regions (top_of memory.sides.replay t) r ↔ IsRefused memory.bytes memory.held.regions (access t frame.addr frame.len true) r
 leaves_as_writes s past memory t frame h lt is r =
     let there : IsTop (byte_at memory.bytes) t frame = top_frame s past memory t frame h lt (frames (marks_of s t past)) refl (sym (ap (λ (q : StackState). slice_get q.frames (length q.frames - 1)) (h.stacks t lt)) ∙ is) in
-    subst (λ (o : Option Range). IsLeaveRefused Replay memory.held.regions o r ↔ IsRefused memory.bytes memory.held.regions (access t frame.addr frame.len true) r) (sym is) (as_write memory t frame lt there r, as_leave memory t frame lt there r)
+    subst (λ (o : Option Range). IsLeaveRefused Replay memory.held.regions o r ↔ IsRefused memory.bytes memory.held.regions
+    (access t frame.addr frame.len true) r) (sym is) (as_write memory t frame lt there r, as_leave memory t frame lt there r)
 
 -- a range that is freed has its first byte
 pub freed_some : (n : ℕ) → 1 ≤ cond (eqb n 0) 1 n
@@ -152,7 +158,9 @@ module _ (i : Interface) (s : Start) (past : List Mark) (memory : SpaceState) (t
       )
 
   -- a free of a block of which a byte waits
-  pending_block : covers SYSTEM_MEMORY (suc a) ≡ false → (len x : ℕ) → length_at memory.sides.replay.pool.blocks (suc a) ≡ Some len → IsLeastIn (record { addr = suc a; len = len }) (IsPending memory.held.regions) x → Finds (checks i s past t (Frees (suc a))) (finding_of (Pending x))
+  pending_block : covers SYSTEM_MEMORY (suc a) ≡ false → (len x : ℕ) → length_at memory.sides.replay.pool.blocks (suc a) ≡ Some len →
+      IsLeastIn (record { addr = suc a; len = len }) (IsPending memory.held.regions) x →
+      Finds (checks i s past t (Frees (suc a))) (finding_of (Pending x))
   pending_block own len x is least =
       let n : (byte s (suc a) past).block ≡ len = begins own (Some len) is in
       let bs = blocks s past in
@@ -204,6 +212,8 @@ module _ (i : Interface) (s : Start) (past : List Mark) (memory : SpaceState) (t
   found (NoKey x) p = absurd p
   found (Size x) p = absurd p
 
-pub frees_found : (i : Interface) (s : Start) (past : List Mark) (memory : SpaceState) (t addr : ℕ) → StandsFor s past memory → 1 ≤ addr → Unraced past t true (freed_range addr (byte s addr past).block) → (r : Refusal) → IsFreeRefused Replay memory.sides.replay.pool.blocks memory.held.regions addr r → Finds (checks i s past t (Frees addr)) (finding_of r)
+pub frees_found : (i : Interface) (s : Start) (past : List Mark) (memory : SpaceState) (t addr : ℕ) → StandsFor s past memory → 1 ≤ addr →
+    Unraced past t true (freed_range addr (byte s addr past).block) → (r : Refusal) →
+    IsFreeRefused Replay memory.sides.replay.pool.blocks memory.held.regions addr r → Finds (checks i s past t (Frees addr)) (finding_of r)
 frees_found i s past memory t zero h some unraced r p = absurd (omega (arith, some))
 frees_found i s past memory t (suc a) h some unraced r p = found i s past memory t a h unraced r p

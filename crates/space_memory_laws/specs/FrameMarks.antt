@@ -1,5 +1,5 @@
 -- Frames: the marks that `enter`, `set_args` and `leave` are.
-use Rattle.std.specs.Prelude.{◌≡◌, ℕ, ◌+◌, ◌<◌, ◌≤◌, List, [], ◌∷◌, ◌++◌, length, map, Some, None, unwrap_or, slice_index}
+use Rattle.std.specs.Prelude.{◌≡◌, ℕ, ◌+◌, ◌<◌, ◌≤◌, List, length, map, Some, unwrap_or, slice_index}
 use Rattle.std.specs.List.{range_with_len}
 use Rattle.marks.specs.declared.side.Side.TheVariants.{Replay}
 use Rattle.marks.specs.Places.{thread_count}
@@ -7,15 +7,15 @@ use Rattle.marks.specs.Marks.{Enter, Leave, Mark}
 use Rattle.marks.specs.declared.range.Range.{Range}
 use Rattle.space_memory_bytes.specs.Areas.{AreaState, byte_at, extents}
 use Rattle.space_memory_bytes.specs.Numbers.{HasBytes, SameOutside, FillsWith}
-use Rattle.space_memory.specs.StackFrames.{stack_of, end_of}
 use Rattle.space_memory_access.specs.declared.refusal.Refusal.{Refusal}
 use Rattle.replay_runs.specs.Runs.{Start, marks_of}
 use Rattle.replay_runs.specs.Threads.{frame_place, HasRoom}
-use Rattle.space_memory.specs.Sides.{frames_of, top_of, with_thread}
-use Rattle.space_memory.specs.Spaces.{SpaceState, side_of, with_side}
-use Rattle.space_memory.specs.Frames.{IsEnterRefused, IsLeaveRefused, with_args}
+use Rattle.space_memory.specs.Sides.{top_of}
+use Rattle.space_memory.specs.Spaces.{SpaceState, side_of}
+use Rattle.space_memory.specs.Frames.{IsLeaveRefused, with_args}
 use Rattle.space_memory_laws.specs.StandsFor.{StandsFor}
 use Rattle.space_memory_laws.specs.Marks.{IsMark}
+use Rattle.space_memory_laws.specs.Changes.{IsEntered, IsLeft}
 
 -- an Enter that the rules of frames allow
 pub record IsEnter (s : Start) (past : List Mark) (m : Mark) (addr size : ℕ) (new : SpaceState) :
@@ -31,15 +31,7 @@ EntersAreMarks =
     (addr size : ℕ) →
     StandsFor s past old →
     m.thread < thread_count →
-    new.sides ≡ with_side old.sides Replay (with_thread (side_of old.sides Replay) m.thread
-    (frames_of (side_of old.sides Replay) m.thread ++ record { addr = addr; len = size } ∷ [])) →
-    addr ≡ end_of (stack_of (side_of old.sides Replay).stacks m.thread).base
-    (frames_of (side_of old.sides Replay) m.thread) →
-    ((r : Refusal) → ¬ IsEnterRefused (stack_of (side_of old.sides Replay).stacks m.thread) size r) →
-    new.held ≡ old.held →
-    HasBytes new.bytes addr bytes →
-    SameOutside (record { addr = addr; len = size }) old.bytes new.bytes →
-    length bytes ≡ size →
+    IsEntered Replay old new m.thread addr size bytes →
     m.act ≡ Enter func args addr bytes →
     IsEnter s past m addr size new
 
@@ -73,13 +65,8 @@ LeavesAreMarks =
     (s : Start) (past : List Mark) (old new : SpaceState) (m : Mark) (frame : Range) →
     StandsFor s past old →
     m.thread < thread_count →
-    frames_of (side_of old.sides Replay) m.thread ≡ frames_of (side_of new.sides Replay) m.thread ++
-    frame ∷ [] →
-    new.sides ≡ with_side old.sides Replay (with_thread (side_of old.sides Replay) m.thread
-    (frames_of (side_of new.sides Replay) m.thread)) →
     ((r : Refusal) → ¬ IsLeaveRefused Replay old.held.regions (top_of (side_of old.sides Replay) m.thread)
     r) →
-    new.held ≡ old.held →
-    FillsWith frame None old.bytes new.bytes →
+    IsLeft Replay old new m.thread frame →
     m.act ≡ Leave frame.addr frame.len →
     IsMark s past m new

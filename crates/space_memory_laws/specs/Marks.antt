@@ -1,14 +1,13 @@
 -- The marks that calls of `Spaces` are. Each is said in the words of the call's own clauses.
-use Rattle.std.specs.Prelude.{◌≡◌, ℕ, ◌^◌, ◌<◌, true, false, List, ◌∷◌, Option}
+use Rattle.std.specs.Prelude.{◌≡◌, ℕ, ◌^◌, ◌<◌, List, ◌∷◌, Option}
 use Rattle.marks.specs.declared.side.Side.TheVariants.{Replay}
 use Rattle.marks.specs.Ranges.{bytes_of_number}
 use Rattle.marks.specs.Marks.{Act, Turn, Load, Store, Mark, EventKind, Up, UpRet, Stop, Fault, Made, Step}
 use Rattle.marks.specs.Bytes.{Asks}
-use Rattle.space_memory_bytes.specs.Numbers.{HasNumber, SameOutside}
-use Rattle.space_memory_access.specs.Accesses.{IsAllowed}
 use Rattle.replay_runs.specs.Runs.{Start, byte}
 use Rattle.space_memory.specs.Spaces.{SpaceState}
 use Rattle.space_memory_laws.specs.StandsFor.{StandsFor}
+use Rattle.space_memory_laws.specs.Changes.{IsLoaded, IsStored}
 
 -- memory shows what the mark asks of it, and the new memory stands for the past with the mark
 pub record IsMark (s : Start) (past : List Mark) (m : Mark) (new : SpaceState) : Type 0 where
@@ -43,14 +42,7 @@ LoadsAreMarks =
     (thread addr width value : ℕ) →
     StandsFor s past memory →
     addr < 2 ^ 64 →
-    HasNumber memory.bytes addr width value →
-    IsAllowed memory.bytes memory.held.regions (record {
-      side = Replay;
-      thread = thread;
-      range =
-          record { addr = addr; len = width };
-      write = false;
-    }) →
+    IsLoaded Replay memory thread addr width value →
     m.act ≡ Load origin addr (bytes_of_number width value) →
     IsMark s past m memory
 
@@ -61,15 +53,6 @@ StoresAreMarks =
     (thread addr width value : ℕ) →
     StandsFor s past old →
     addr < 2 ^ 64 →
-    HasNumber new.bytes addr width value →
-    SameOutside (record { addr = addr; len = width }) old.bytes new.bytes →
-    new ≡ record old { bytes = new.bytes } →
-    IsAllowed old.bytes old.held.regions (record {
-      side = Replay;
-      thread = thread;
-      range =
-          record { addr = addr; len = width };
-      write = true;
-    }) →
+    IsStored Replay old new thread addr width value →
     m.act ≡ Store origin addr (bytes_of_number width value) →
     IsMark s past m new

@@ -1,22 +1,18 @@
 -- Blocks: the events that `alloc_in` and `free_in` are.
-use Rattle.std.specs.Prelude.{◌≡◌, ◌⊎◌, ℕ, ◌≤◌, true, List, Some, None}
+use Rattle.std.specs.Prelude.{◌≡◌, ℕ, true, List}
 use Rattle.run_events.specs.declared.key.Class.TheVariants.{Pool}
 use Rattle.marks.specs.declared.side.Side.TheVariants.{Replay}
 use Rattle.marks.specs.Places.{replay_pool}
 use Rattle.marks.specs.Marks.{Alloc, Free, Event, Made, Mark}
-use Rattle.space_memory_bytes.specs.Numbers.{FillsWith}
-use Rattle.pool_list.specs.Blocks.{length_at, with_block, without_block}
-use Rattle.pool_list.specs.Places.{IsLeastPlace}
-use Rattle.pool_list.specs.Places as pool
 use Rattle.space_memory_access.specs.declared.refusal.Refusal.{Refusal}
 use Rattle.replay_runs.specs.Runs.{Start, OfKey, has}
 use Rattle.replay_runs.specs.Keys.{key}
 use Rattle.replay_runs.specs.Pool.{blocks, IsPlace}
-use Rattle.space_memory.specs.Sides.{with_blocks}
-use Rattle.space_memory.specs.Spaces.{SpaceState, side_of, with_side}
+use Rattle.space_memory.specs.Spaces.{SpaceState, side_of}
 use Rattle.space_memory.specs.Blocks.{IsFreeRefused}
 use Rattle.space_memory_laws.specs.StandsFor.{StandsFor}
 use Rattle.space_memory_laws.specs.Marks.{IsMark}
+use Rattle.space_memory_laws.specs.Changes.{IsTaken, GivesNone, IsGivenBack}
 
 -- an Alloc that the rules of the pool allow
 pub record IsAlloc (s : Start) (past : List Mark) (m : Mark) (size addr : ℕ) (new : SpaceState) :
@@ -29,12 +25,7 @@ abbrev pub AllocsAreMarks : Type 0
 AllocsAreMarks =
     (s : Start) (past : List Mark) (old new : SpaceState) (m : Mark) (e : Event) (size addr : ℕ) →
     StandsFor s past old →
-    IsLeastPlace (side_of old.sides Replay).pool size addr →
-    1 ≤ size →
-    new.sides ≡ with_side old.sides Replay (with_blocks (side_of old.sides Replay)
-    (with_block (side_of old.sides Replay).pool.blocks (record { addr = addr; len = size }))) →
-    FillsWith (record { addr = addr; len = size }) (Some 0) old.bytes new.bytes →
-    new.held ≡ old.held →
+    IsTaken Replay old new size addr →
     m.act ≡ Made e →
     e.kind ≡ Alloc addr size →
     has m (OfKey (key Pool 0)) ≡ true →
@@ -45,7 +36,7 @@ abbrev pub RefusedAllocsAreMarks : Type 0
 RefusedAllocsAreMarks =
     (s : Start) (past : List Mark) (memory : SpaceState) (m : Mark) (e : Event) (size : ℕ) →
     StandsFor s past memory →
-    ((size ≡ 0) ⊎ ((addr : ℕ) → ¬ pool.IsPlace (side_of memory.sides Replay).pool size addr)) →
+    GivesNone Replay memory size →
     m.act ≡ Made e →
     e.kind ≡ Alloc 0 size →
     IsAlloc s past m size 0 memory
@@ -55,11 +46,7 @@ abbrev pub FreesAreMarks : Type 0
 FreesAreMarks =
     (s : Start) (past : List Mark) (old new : SpaceState) (m : Mark) (e : Event) (addr size : ℕ) →
     StandsFor s past old →
-    length_at (side_of old.sides Replay).pool.blocks addr ≡ Some size →
-    new.sides ≡ with_side old.sides Replay (with_blocks (side_of old.sides Replay)
-    (without_block (side_of old.sides Replay).pool.blocks addr)) →
-    FillsWith (record { addr = addr; len = size }) None old.bytes new.bytes →
-    new.held ≡ old.held →
+    IsGivenBack Replay old new addr size →
     ((r : Refusal) → ¬ IsFreeRefused Replay (side_of old.sides Replay).pool.blocks old.held.regions addr
     r) →
     m.act ≡ Made e →

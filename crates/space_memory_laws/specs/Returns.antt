@@ -1,5 +1,5 @@
 -- Rets: the marks that `release` is, and what the checks of a run find where it refuses one.
-use Rattle.std.specs.Prelude.{if◌then◌else◌, ◌≡◌, ◌↔◌, ℕ, ◌-◌, ◌<◌, ◌≤◌, ◌==◌, Bool, true, not, List, [], ◌∷◌, ◌++◌, length, Option, Some, None, option_map, slice_index, slice_set, All}
+use Rattle.std.specs.Prelude.{if◌then◌else◌, ◌≡◌, ◌↔◌, ℕ, ◌<◌, ◌≤◌, ◌==◌, Bool, true, not, List, [], ◌∷◌, ◌++◌, length, Option, Some, None, option_map, All}
 use Rattle.run_events.specs.declared.key.Class.TheVariants.{Async}
 use Rattle.marks.specs.Places.{thread_count}
 use Rattle.marks.specs.declared.range.Range.{Range}
@@ -8,7 +8,7 @@ use Rattle.marks.specs.Wants.{same_origin}
 use Rattle.marks.specs.Marks.{Commit, NoRegion, Withheld, Released, released, Ret, Event, Made, Mark}
 use Rattle.space_memory_bytes.specs.Areas.{AreaState, byte_at}
 use Rattle.space_memory_bytes.specs.Numbers.{HasBytes}
-use Rattle.space_memory_access.specs.Held.{HeldState, innermost, prepared_region, without_closed}
+use Rattle.space_memory_access.specs.Held.{HeldState, innermost, prepared_region}
 use Rattle.space_memory_access.specs.declared.refusal.Refusal.{Refusal}
 use Rattle.replay_runs.specs.Runs.{Start, OfKey, has, marks_of}
 use Rattle.replay_runs.specs.Keys.{key}
@@ -18,11 +18,12 @@ use Rattle.replay_runs.specs.Rules.{Closes}
 use Rattle.replay_runs.specs.Checks.{Finding, Answered, Passes, Finds, return_checks}
 use Rattle.replay_runs.specs.Returns.{ReleasesInUse}
 use Rattle.space_memory.specs.Spaces.{SpaceState}
-use Rattle.space_memory.specs.Releases.{committed_size, committed_key, AllReturned, HasKey, IsReleaseRefused}
+use Rattle.space_memory.specs.Releases.{committed_size, AllReturned, HasKey, IsReleaseRefused}
 use Rattle.space_memory_laws.specs.Shown.{value_when_held}
 use Rattle.space_memory_laws.specs.StandsFor.{StandsFor}
 use Rattle.space_memory_laws.specs.Marks.{IsMark}
 use Rattle.space_memory_laws.specs.Refusals.{finding_of}
+use Rattle.space_memory_laws.specs.Changes.{IsReleased}
 
 -- of the region of a NULL pointer nothing is used
 abbrev pub used_at : Range → ℕ → ℕ
@@ -55,25 +56,29 @@ pub record IsRet (s : Start) (past : List Mark) (m : Mark) (pieces : List Piece)
   pub fits : All FitsIn (pieces ++ released commit)
   pub in_use : ReleasesInUse s past commit
 
--- a release is a Ret with the bytes of the regions, over the ranges of the call that it closes
+-- the mark is a Ret that closes a call of the function, over the ranges that the call holds, with the bytes that memory shows of
+-- each, as many as are used
+pub record ShowsRet (s : Start) (past : List Mark) (memory : SpaceState) (m : Mark) (func : ℕ)
+    (args : List ℕ) (pieces : List Piece) (commit : Commit) (used : List ℕ)
+    (committing : Option (ℕ × ℕ)) : Type 0 where
+  pub event : Event
+  pub act : m.act ≡ Made event
+  pub result : ℕ
+  pub same : Bool
+  pub kind : event.kind ≡ Ret func args result same pieces commit
+  pub closes : Closes (open_calls (marks_of s m.thread past)) func args (piece_ranges pieces)
+  pub commits : CommitsAs m memory.held committing commit
+  pub shows : ShowUsed memory.bytes (pieces ++ released commit) (used ++ committed_size committing)
+
+-- a release is a Ret with the bytes of the regions
 abbrev pub ReturnsAreMarks : Type 0
 ReturnsAreMarks =
-    (s : Start) (past : List Mark) (old new : SpaceState) (m : Mark) (e : Event) (func : ℕ) (args : List ℕ)
-    (result : ℕ) (same : Bool) (pieces : List Piece) (commit : Commit) (used : List ℕ) (committing :
-    Option (ℕ × ℕ)) →
+    (s : Start) (past : List Mark) (old new : SpaceState) (m : Mark) (func : ℕ) (args : List ℕ)
+    (pieces : List Piece) (commit : Commit) (used : List ℕ) (committing : Option (ℕ × ℕ)) →
     StandsFor s past old →
     m.thread < thread_count →
-    new.held.regions ≡ without_closed (innermost old.held m.thread) (committed_key committing)
-    old.held.regions →
-    new.held.depths ≡ slice_set old.held.depths m.thread (slice_index old.held.depths m.thread - 1) →
-    new ≡ record old { held = new.held } →
-    HasKey old.held.regions committing →
-    AllReturned old.bytes old.held.regions (innermost old.held m.thread) used committing →
-    m.act ≡ Made e →
-    e.kind ≡ Ret func args result same pieces commit →
-    Closes (open_calls (marks_of s m.thread past)) func args (piece_ranges pieces) →
-    CommitsAs m old.held committing commit →
-    ShowUsed old.bytes (pieces ++ released commit) (used ++ committed_size committing) →
+    IsReleased old new m.thread used committing →
+    ShowsRet s past old m func args pieces commit used committing →
     IsRet s past m pieces committing commit new
 
 -- the byte isn't what it was when it was held

@@ -6,14 +6,13 @@ use Rattle.marks.specs.Ranges.{bytes_of_number, any_range, covers}
 use Rattle.marks.specs.Ranges as marks
 use Rattle.marks.specs.Marks.{Mark}
 use Rattle.marks.specs.Bytes.{Live, IsHeld}
-use Rattle.space_memory_bytes.specs.Numbers.{HasNumber}
 use Rattle.space_memory_access.specs.Held.{IsServed}
-use Rattle.space_memory_access.specs.Accesses.{IsAllowed}
 use Rattle.replay_runs.specs.Runs.{Start, marks_of, byte}
 use Rattle.replay_runs.specs.Threads.{OpenCall, open_calls}
 use Rattle.space_memory.specs.Spaces.{SpaceState}
 use Rattle.space_memory_laws.specs.StandsFor.{StandsFor}
 use Rattle.space_memory_laws.specs.Owed.{any_out, IsPreparedUnder}
+use Rattle.space_memory_laws.specs.Changes.{IsLoaded}
 
 -- one of the calls reads the byte
 abbrev pub any_in : List OpenCall → ℕ → Bool
@@ -44,14 +43,7 @@ LoadsBelowShowTheRun =
     (s : Start) (past : List Mark) (memory : SpaceState) (thread addr width value : ℕ) →
     StandsFor s past memory →
     addr < 2 ^ 64 →
-    HasNumber memory.bytes addr width value →
-    IsAllowed memory.bytes memory.held.regions (record {
-      side = System;
-      thread = thread;
-      range =
-          record { addr = addr; len = width };
-      write = false;
-    }) →
+    IsLoaded System memory thread addr width value →
     (x : ℕ) → covers (record { addr = addr; len = width }) x ≡ true → is_system x ≡ false →
     ((byte s x past).cell ≡ Live (marks.byte_at addr (bytes_of_number width value) x)) ⊎
     IsHeld (byte s x past).cell

@@ -57,17 +57,24 @@ module _ (old new : MemoryAbove) (t addr width value : ℕ) (origin : Option ℕ
   n : length (bytes_of_number width value) ≡ width
   n = (bytes_of width value).count
 
-  passes : (write : Bool) (program : Program) (memory : ℕ → Byte) (past : List Mark) → StandsForAbove program memory past old → IsAllowed old.spaces.bytes old.spaces.held.regions (access t addr width write) → AnswersBy old.watch t r write (Ok tt) → Passes (range_checks (fresh memory) past t write [] (range addr (length (bytes_of_number width value))) Done)
+  passes : (write : Bool) (program : Program) (memory : ℕ → Byte) (past : List Mark) → StandsForAbove program memory past old →
+      IsAllowed old.spaces.bytes old.spaces.held.regions (access t addr width write) → AnswersBy old.watch t r write (Ok tt) →
+      Passes (range_checks (fresh memory) past t write [] (range addr (length (bytes_of_number width value))) Done)
   passes write program memory past h ok free = subst (λ k. Passes (range_checks (fresh memory) past t write [] (range addr k) Done)) (sym n)
       ((finds program memory past old h t addr width write small (free (told past) h.watch)).passes.1 ok)
 
-  ends : (write : Bool) (program : Program) (memory : ℕ → Byte) (past : List Mark) → StandsForAbove program memory past old → IsAllowed old.spaces.bytes old.spaces.held.regions (access t addr width write) → addr + length (bytes_of_number width value) < 2 ^ 64
+  ends : (write : Bool) (program : Program) (memory : ℕ → Byte) (past : List Mark) → StandsForAbove program memory past old →
+      IsAllowed old.spaces.bytes old.spaces.held.regions (access t addr width write) → addr + length (bytes_of_number width value) < 2 ^ 64
   ends write program memory past h ok = let e = reach_ends (fresh memory) past old.spaces t addr width write h.spaces small ok in omega (arith, e, n)
 
-  taken : (write : Bool) (past : List Mark) → Stands (told past) old.watch → WasTold (Accessed t r write) old.watch new.watch → Stands (Accessed t (range addr (length (bytes_of_number width value))) write ∷ told past) new.watch
+  taken : (write : Bool) (past : List Mark) → Stands (told past) old.watch → WasTold (Accessed t r write) old.watch new.watch →
+      Stands (Accessed t (range addr (length (bytes_of_number width value))) write ∷ told past) new.watch
   taken write past h one = subst (λ k. Stands (Accessed t (range addr k) write ∷ told past) new.watch) (sym n) (one (told past) h)
 
-  pub load_made : IsAllowed old.spaces.bytes old.spaces.held.regions (access t addr width false) → HasNumber old.spaces.bytes addr width value → new.spaces ≡ old.spaces → AnswersBy old.watch t r false (Ok tt) → WasTold (Accessed t r false) old.watch new.watch → Makes old t (Loads origin addr width) (Load origin addr (bytes_of_number width value)) new
+  pub load_made : IsAllowed old.spaces.bytes old.spaces.held.regions (access t addr width false) →
+      HasNumber old.spaces.bytes addr width value → new.spaces ≡ old.spaces → AnswersBy old.watch t r false (Ok tt) →
+      WasTold (Accessed t r false) old.watch new.watch →
+      Makes old t (Loads origin addr width) (Load origin addr (bytes_of_number width value)) new
   load_made ok has same free one program memory past h modes =
       let act : Act = Load origin addr (bytes_of_number width value) in
       let m : Mark = next_mark memory past t act in
@@ -84,12 +91,16 @@ module _ (old new : MemoryAbove) (t addr width value : ℕ) (origin : Option ℕ
         modes = tt;
         carries = tt;
         first = tt;
-        mark = subst (IsMark (fresh memory) past m) (sym same) (loads (fresh memory) past old.spaces m origin t addr width value h.spaces small has ok refl);
+        mark = subst (IsMark (fresh memory) past m) (sym same) (loads (fresh memory) past old.spaces m origin t addr width value h.spaces small (record { number = has; allowed = ok }) refl);
         watch = taken false past h.watch one;
       })
       (subst (λ k. Passes (range_checks (fresh memory) past t false [] (range addr k) Done)) n pass)
 
-  pub store_made : IsAllowed old.spaces.bytes old.spaces.held.regions (access t addr width true) → HasNumber new.spaces.bytes addr width value → SameOutside r old.spaces.bytes new.spaces.bytes → new.spaces ≡ record old.spaces { bytes = new.spaces.bytes } → AnswersBy old.watch t r true (Ok tt) → WasTold (Accessed t r true) old.watch new.watch → Makes old t (Stores origin addr (bytes_of_number width value)) (Store origin addr (bytes_of_number width value)) new
+  pub store_made : IsAllowed old.spaces.bytes old.spaces.held.regions (access t addr width true) →
+      HasNumber new.spaces.bytes addr width value → SameOutside r old.spaces.bytes new.spaces.bytes →
+      new.spaces ≡ record old.spaces { bytes = new.spaces.bytes } → AnswersBy old.watch t r true (Ok tt) →
+      WasTold (Accessed t r true) old.watch new.watch →
+      Makes old t (Stores origin addr (bytes_of_number width value)) (Store origin addr (bytes_of_number width value)) new
   store_made ok has outside same free one program memory past h modes =
       let act : Act = Store origin addr (bytes_of_number width value) in
       let m : Mark = next_mark memory past t act in
@@ -106,16 +117,20 @@ module _ (old new : MemoryAbove) (t addr width value : ℕ) (origin : Option ℕ
         modes = tt;
         carries = tt;
         first = tt;
-        mark = stores (fresh memory) past old.spaces new.spaces m origin t addr width value h.spaces small has outside same ok refl;
+        mark = stores (fresh memory) past old.spaces new.spaces m origin t addr width value h.spaces small (record { allowed = ok; number = has; others = outside; rest = same }) refl;
         watch = taken true past h.watch one;
       })
       pass
 
 -- and what refuses them is found
-pub load_refused : (above : MemoryAbove) (t addr width : ℕ) (refusal found : StepRefusal) → FindsAt above t false (record { addr = addr; len = width }) refusal → found ≡ refusal → (origin : Option ℕ) → Refuses above t (Loads origin addr width) found
+pub load_refused : (above : MemoryAbove) (t addr width : ℕ) (refusal found : StepRefusal) →
+    FindsAt above t false (record { addr = addr; len = width }) refusal → found ≡ refusal → (origin : Option ℕ) →
+    Refuses above t (Loads origin addr width) found
 load_refused above t addr width refusal found finds is origin program memory past h modes = subst (IsFound (range_checks (fresh memory) past t false [] (range addr width) Done)) (sym is) (finds program memory past h)
 
-pub store_refused : (above : MemoryAbove) (t addr width value : ℕ) (refusal found : StepRefusal) → FindsAt above t true (record { addr = addr; len = width }) refusal → found ≡ refusal → (origin : Option ℕ) → Refuses above t (Stores origin addr (bytes_of_number width value)) found
+pub store_refused : (above : MemoryAbove) (t addr width value : ℕ) (refusal found : StepRefusal) →
+    FindsAt above t true (record { addr = addr; len = width }) refusal → found ≡ refusal → (origin : Option ℕ) →
+    Refuses above t (Stores origin addr (bytes_of_number width value)) found
 store_refused above t addr width value refusal found finds is origin program memory past h modes =
     subst (λ k. IsFound (range_checks (fresh memory) past t true [] (range addr k) Done) found) (sym (bytes_of width value).count)
     (subst (IsFound (range_checks (fresh memory) past t true [] (range addr width) Done)) (sym is) (finds program memory past h))

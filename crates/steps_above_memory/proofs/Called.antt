@@ -68,7 +68,8 @@ live_small program memory past old h x live = elim (cases_lt x (2 ^ 64)) [
 
 -- a Call has the keys under which it prepares
 module _ (program : Program) (memory : ℕ → Byte) (past : List Mark) (t func : ℕ) (args : List ℕ) (pieces : List Piece) (outs : List Range) (ps : List Prepared) (marks : List KeyMark) where
-  pub has_keys : map (λ q. q.key) marks ≡ sorted_keys (keys_for program.interface t (marks_of (fresh memory) t past) (Call func args pieces outs ps)) → (k : ℕ) → prepares_key ps k ≡ true → is_listed marks (key Async k) ≡ true
+  pub has_keys : map (λ q. q.key) marks ≡ sorted_keys (keys_for program.interface t (marks_of (fresh memory) t past) (Call func args pieces outs ps)) →
+      (k : ℕ) → prepares_key ps k ≡ true → is_listed marks (key Async k) ≡ true
   has_keys keys k e =
       let i = program.interface in
       listed_of marks (i.keys_at_call func args ++ (map (key Callback) (i.registers func args) ++ map (λ p. key Async p.key) ps)) (key Async k) keys
@@ -80,7 +81,10 @@ tell_append : (t : ℕ) (w : Bool) (xs ys : List Range) (past : List Told) → t
 tell_append t w [] ys past = refl
 tell_append t w (x ∷ xs) ys past = tell_append t w xs ys (Accessed t x w ∷ past)
 
-pub told_call : (t : ℕ) (regions : CallRegions) (keys : List Key) (old read held prepared new : WatchState) → WasToldAccesses t false regions.ins.now old read → WasToldAccesses t true regions.outs.now read held → WasToldAccesses t true regions.prepared.now held prepared → WasTold (Happened (occurrence t keys)) prepared new → WasToldCall t regions keys old new
+pub told_call : (t : ℕ) (regions : CallRegions) (keys : List Key) (old read held prepared new : WatchState) →
+    WasToldAccesses t false regions.ins.now old read → WasToldAccesses t true regions.outs.now read held →
+    WasToldAccesses t true regions.prepared.now held prepared → WasTold (Happened (occurrence t keys)) prepared new →
+    WasToldCall t regions keys old new
 told_call t regions keys old read held prepared new reads holds prepares happens past h =
     subst (λ (ps : List Told). Stands (Happened (occurrence t keys) ∷ ps) new) (sym (tell_append t true regions.outs.now regions.prepared.now (tell t false regions.ins.now past)))
     (happens _ (prepares _ (holds _ (reads past h))))
@@ -88,14 +92,20 @@ told_call t regions keys old read held prepared new reads holds prepares happens
 -- ---- part by part
 
 module _ (old : MemoryAbove) (t : ℕ) where
-  pub open_parts : (first : SpaceState) → t < thread_count → first.held ≡ record old.spaces.held { depths = slice_set old.spaces.held.depths t (slice_index old.spaces.held.depths t + 1) } → first ≡ record old.spaces { held = first.held } → HasParts old t [] first
+  pub open_parts : (first : SpaceState) → t < thread_count →
+      first.held ≡ record old.spaces.held { depths = slice_set old.spaces.held.depths t (slice_index old.spaces.held.depths t + 1) } →
+      first ≡ record old.spaces { held = first.held } → HasParts old t [] first
   open_parts first lt held rest program memory past h = record { stands = h; call = opened (fresh memory) past old.spaces first t h.spaces lt held rest; unraced = All-nil (IsUnraced past t) }
 
   more_parts : (parts more : List Part) (mid new : SpaceState) → HasParts old t parts mid → Adds t more old.watch mid new → HasParts old t (parts ++ more) new
   more_parts parts more mid new has adds program memory past h = adds program memory past old parts refl (has program memory past h)
 
   -- a call that is undone leaves all as it was
-  pub undone_call : (parts : List Part) (watch : WatchState) (mid now new : SpaceState) → watch ≡ old.watch → HasParts old t parts mid → AddsSome t watch mid now → new.held.regions ≡ without_call (innermost now.held t) now.held.regions → new.held.depths ≡ slice_set now.held.depths t (slice_index now.held.depths t - 1) → new ≡ record now { held = new.held } → (program : Program) (memory : ℕ → Byte) (past : List Mark) → StandsForAbove program memory past old → (new ≡ old.spaces) × (watch ≡ old.watch)
+  pub undone_call : (parts : List Part) (watch : WatchState) (mid now new : SpaceState) → watch ≡ old.watch → HasParts old t parts mid →
+      AddsSome t watch mid now → new.held.regions ≡ without_call (innermost now.held t) now.held.regions →
+      new.held.depths ≡ slice_set now.held.depths t (slice_index now.held.depths t - 1) → new ≡ record now { held = new.held } →
+      (program : Program) (memory : ℕ → Byte) (past : List Mark) → StandsForAbove program memory past old →
+      (new ≡ old.spaces) × (watch ≡ old.watch)
   undone_call parts watch mid now new seen has some regions depths rest program memory past h = (
     undone (fresh memory) past old.spaces now new t (parts ++ some.0) (more_parts parts some.0 mid now has (subst (λ w. Adds t some.0 w mid now) seen some.1) program memory past h).call regions depths rest,
     seen,
@@ -117,7 +127,8 @@ module _ (old : MemoryAbove) (t : ℕ) where
     pub tested_parts : (now tested : SpaceState) → HasParts old t (parts_of ins outs []) now → Adds t (map (held_part true) regions.prepared.now) old.watch now tested → TakesRanges old t regions
     tested_parts now tested has adds = (tested, subst (λ ps. HasParts old t ps tested) (holds_more ins outs regions.prepared.now) (more_parts (parts_of ins outs []) (map (held_part true) regions.prepared.now) now tested has adds))
 
-    pub prepared_parts : (now new : SpaceState) → HasParts old t (parts_of ins outs []) now → Adds t (map prepared_part (prepares regions)) old.watch now new → HasParts old t (parts_of ins outs (prepares regions)) new
+    pub prepared_parts : (now new : SpaceState) → HasParts old t (parts_of ins outs []) now →
+        Adds t (map prepared_part (prepares regions)) old.watch now new → HasParts old t (parts_of ins outs (prepares regions)) new
     prepared_parts now new has adds = subst (λ ps. HasParts old t ps new) (prepares_more ins outs [] (prepares regions)) (more_parts (parts_of ins outs []) (map prepared_part (prepares regions)) now new has adds)
 
     -- ---- what is refused
@@ -131,12 +142,14 @@ module _ (old : MemoryAbove) (t : ℕ) where
     refused_outs mid found has refused program memory past indirect func args h w =
         refused program memory past old ins [] (prepared_ranges (prepares regions)) outs (prepares regions) indirect func args refl (has program memory past h) w refl
 
-    pub refused_ranges : (now : SpaceState) (found : StepRefusal) → AreRegions regions → HasParts old t (parts_of ins outs []) now → RefusesAmong t true regions.prepared.now old.watch now found → RefusesCall old t regions found
+    pub refused_ranges : (now : SpaceState) (found : StepRefusal) → AreRegions regions → HasParts old t (parts_of ins outs []) now →
+        RefusesAmong t true regions.prepared.now old.watch now found → RefusesCall old t regions found
     refused_ranges now found are has refused program memory past indirect func args h w =
         refused program memory past old ins outs [] outs (prepares regions) indirect func args refl (has program memory past h) w
         (ap (λ rs. outs ++ rs) (ranges_under regions.under.now regions.prepared.now are.under ∙ sym (append-nil regions.prepared.now)))
 
-    pub unprepared_range : (now : SpaceState) (found : StepRefusal) → HasParts old t (parts_of ins outs []) now → RefusesToPrepare t (prepares regions) old.watch now (unprepared.Refused found) → RefusesCall old t regions found
+    pub unprepared_range : (now : SpaceState) (found : StepRefusal) → HasParts old t (parts_of ins outs []) now →
+        RefusesToPrepare t (prepares regions) old.watch now (unprepared.Refused found) → RefusesCall old t regions found
     unprepared_range now found has refused program memory past indirect func args h w =
         refused program memory past old ins outs [] [] indirect func args refl (has program memory past h)
         (subst (Wanted program.interface indirect func args ins outs) (sym (append-nil (prepares regions))) w)
@@ -162,7 +175,9 @@ module _ (old : MemoryAbove) (t : ℕ) where
       refused_still found refused program memory past indirect func args h w = refused program memory past indirect func args (stands_still program memory past h) w
 
       -- a key in use, where all ranges were tested
-      pub key_in_use : (now : SpaceState) (addr : ℕ) → AreRegions regions → HasParts old t (parts_of ins outs []) now → RefusesToPrepare t (prepares regions) old.watch now (unprepared.KeyInUse addr) → TakesRanges mid t regions → RefusesCall old t regions (Breach breach.KeyInUse addr None)
+      pub key_in_use : (now : SpaceState) (addr : ℕ) → AreRegions regions → HasParts old t (parts_of ins outs []) now →
+          RefusesToPrepare t (prepares regions) old.watch now (unprepared.KeyInUse addr) → TakesRanges mid t regions →
+          RefusesCall old t regions (Breach breach.KeyInUse addr None)
       key_in_use now addr are has refused takes program memory past indirect func args h w =
           let k = takes.1 program memory past (stands_still program memory past h) in
           let ps = prepares regions in
@@ -170,7 +185,9 @@ module _ (old : MemoryAbove) (t : ℕ) where
           refused program memory past old ins outs [] [] takes.0 indirect func args refl (has program memory past h)
           (record {
             stands = h;
-            call = subst (λ rs. InCall (fresh memory) past t (parts_of ins rs []) old.spaces takes.0) ranges (subst (λ q. InCall (fresh memory) past t (parts_of ins (outs ++ regions.prepared.now) []) q takes.0) (same program memory past h).0 k.call);
+            call = subst (λ rs. InCall (fresh memory) past t (parts_of ins rs []) old.spaces takes.0) ranges
+                (subst (λ q. InCall (fresh memory) past t (parts_of ins (outs ++ regions.prepared.now) []) q takes.0)
+                (same program memory past h).0 k.call);
             unraced = subst (λ rs. All (IsUnraced past t) (parts_of ins rs [])) ranges k.unraced;
           })
           (subst (Wanted program.interface indirect func args ins outs) (sym (append-nil ps)) w)
@@ -181,9 +198,12 @@ module _ (old : MemoryAbove) (t : ℕ) where
       pub call_passes : TakesCall old t regions
       call_passes program memory past indirect func args h w =
           let k = has program memory past h in
-          made_passes program.interface (fresh memory) past old.spaces new t indirect func args ins outs (prepares regions) w k.call (unraced_reads past t ins outs (prepares regions) k.unraced) (unraced_writes past t ins outs (prepares regions) k.unraced)
+          made_passes program.interface (fresh memory) past old.spaces new t indirect func args ins outs (prepares regions) w k.call
+          (unraced_reads past t ins outs (prepares regions) k.unraced) (unraced_writes past t ins outs (prepares regions) k.unraced)
 
-      pub call_made : (after : MemoryAbove) (keys : List Key) → after.spaces ≡ new → prepared_ranges (prepares regions) ≡ regions.prepared.now → WasToldCall t regions keys old.watch after.watch → MakesCall old t regions keys after
+      pub call_made : (after : MemoryAbove) (keys : List Key) → after.spaces ≡ new →
+          prepared_ranges (prepares regions) ≡ regions.prepared.now → WasToldCall t regions keys old.watch after.watch →
+          MakesCall old t regions keys after
       call_made after keys same ranges one program memory past steps clock marks func args pieces h is_keys is_ins shown may =
           let ps = prepares regions in
           let m : Mark = next_event memory past t (Call func args pieces outs ps) steps marks clock in
@@ -204,7 +224,9 @@ module _ (old : MemoryAbove) (t : ℕ) where
                   writing = λ x u e r. writes x u e r;
                 }))
                 tt refl
-                (λ x e. live_small program memory past old h x (⊎_elim (λ z. shown_live pieces x (byte (fresh memory) x past).cell z (may.bytes x).0) (λ z. (may.bytes x).1 z) (or_cases (any_piece pieces x) (any_range outs x || any_prepared ps x) e)));
+                (λ x e. live_small program memory past old h x
+                (⊎_elim (λ z. shown_live pieces x (byte (fresh memory) x past).cell z (may.bytes x).0) (λ z. (may.bytes x).1 z)
+                (or_cases (any_piece pieces x) (any_range outs x || any_prepared ps x) e)));
             spaces = subst (StandsFor (fresh memory) (m ∷ past)) (sym same) call.mark.stands;
             watch = subst (λ ks. Stands (Happened (occurrence t ks) ∷ tell t true (outs ++ prepared_ranges ps) (tell t false (piece_ranges pieces) (told past))) after.watch) (sym is_keys)
                 (subst (λ l. Stands (Happened (occurrence t keys) ∷ tell t true (outs ++ l) (tell t false (piece_ranges pieces) (told past))) after.watch) (sym ranges)

@@ -67,20 +67,27 @@ module _ (s : Start) (past : List Mark) (t : ℕ) (w : Bool) (more : List Range)
   found_first Memory h = tt
 
 -- what is found at the checks of a part is found, want of memory always
-lift : (at : Checks → Checks) (whole : Checks) (refusal : StepRefusal) → ((f : Finding) → ((cs : Checks) → Finds (at cs) f) → Finds whole f) → ((cs : Checks) → IsFound (at cs) refusal) → IsFound whole refusal
+lift : (at : Checks → Checks) (whole : Checks) (refusal : StepRefusal) → ((f : Finding) → ((cs : Checks) → Finds (at cs) f) → Finds whole f) →
+    ((cs : Checks) → IsFound (at cs) refusal) → IsFound whole refusal
 lift at whole (Fault kind) on h = on (FaultFound kind) h
 lift at whole (Breach kind addr other) on h = on (BreachFound kind addr other) h
 lift at whole Memory on h = tt
 
 module _ (i : Interface) (s : Start) (past : List Mark) (base memory : SpaceState) (t : ℕ) (indirect : Bool) (func : ℕ) (args : List ℕ) (refusal : StepRefusal) where
-  pub on_read : (before after outs : List Range) (prepared : List Prepared) (r : Range) → Wanted i indirect func args (before ++ r ∷ after) outs prepared → InCall s past t (parts_of before [] []) base memory → AllUnraced past t false before → ((cs : Checks) → IsFound (range_checks s past t false [] r cs) refusal) → IsFound (checks i s past t (Calls indirect func args)) refusal
+  pub on_read : (before after outs : List Range) (prepared : List Prepared) (r : Range) →
+      Wanted i indirect func args (before ++ r ∷ after) outs prepared → InCall s past t (parts_of before [] []) base memory →
+      AllUnraced past t false before → ((cs : Checks) → IsFound (range_checks s past t false [] r cs) refusal) →
+      IsFound (checks i s past t (Calls indirect func args)) refusal
   on_read before after outs prepared r w call unraced = lift (range_checks s past t false [] r) (checks i s past t (Calls indirect func args)) refusal (λ f found.
       let held : Checks = hold_checks s past t [] (outs ++ prepared_ranges prepared) (key_checks s past [] prepared Done) in
       wanted_checks (λ cs. Finds cs f) (onward f) i s past t indirect func args (before ++ r ∷ after) outs prepared w
       (past_reads (λ cs. Finds cs f) (onward f) s past t base call.stands before (r ∷ after) held (free_reads base before [] [] call.free) unraced
       (found (read_checks s past t after held))))
 
-  pub on_write : (ins held after outs : List Range) (here prepared : List Prepared) (r : Range) → Wanted i indirect func args ins outs prepared → outs ++ prepared_ranges prepared ≡ (held ++ prepared_ranges here) ++ r ∷ after → InCall s past t (parts_of ins held here) base memory → AllUnraced past t false ins → AllUnraced past t true (held ++ prepared_ranges here)
+  pub on_write : (ins held after outs : List Range) (here prepared : List Prepared) (r : Range) →
+      Wanted i indirect func args ins outs prepared → outs ++ prepared_ranges prepared ≡ (held ++ prepared_ranges here) ++ r ∷ after →
+      InCall s past t (parts_of ins held here) base memory → AllUnraced past t false ins →
+      AllUnraced past t true (held ++ prepared_ranges here)
       → ((cs : Checks) → IsFound (range_checks s past t true (piled (held ++ prepared_ranges here) []) r cs) refusal) → IsFound (checks i s past t (Calls indirect func args)) refusal
   on_write ins held after outs here prepared r w all call unraced_ins unraced = lift (range_checks s past t true (piled (held ++ prepared_ranges here) []) r) (checks i s past t (Calls indirect func args)) refusal (λ f found.
       let keys : Checks = key_checks s past [] prepared Done in
@@ -88,15 +95,18 @@ module _ (i : Interface) (s : Start) (past : List Mark) (base memory : SpaceStat
       (subst (λ rs. Finds (read_checks s past t rs (hold_checks s past t [] (outs ++ prepared_ranges prepared) keys)) f) (append-nil ins)
       (past_reads (λ cs. Finds cs f) (onward f) s past t base call.stands ins [] (hold_checks s past t [] (outs ++ prepared_ranges prepared) keys) (free_reads base ins held here call.free) unraced_ins
       (subst (λ rs. Finds (hold_checks s past t [] rs keys) f) (sym all)
-      (past_holds (λ cs. Finds cs f) (onward f) s past t base call.stands (held ++ prepared_ranges here) (r ∷ after) [] keys (free_holds base ins held here call.free) unraced (apart_mid s past t ins held here base memory call) (λ x in'. refl)
+      (past_holds (λ cs. Finds cs f) (onward f) s past t base call.stands (held ++ prepared_ranges here) (r ∷ after) [] keys
+      (free_holds base ins held here call.free) unraced (apart_mid s past t ins held here base memory call) (λ x in'. refl)
       (found (hold_checks s past t (r ∷ piled (held ++ prepared_ranges here) []) after keys)))))))
 
 -- ---- what comes before memory is asked
 
-foreign_found : (s : Start) (past : List Mark) (t : ℕ) (w : Bool) (more : List Range) (r : Range) (x : ℕ) → IsLeastIn r (IsInRange SYSTEM_MEMORY) x → Finds (range_checks s past t w more r Done) (BreachFound breach.OtherSpace x None)
+foreign_found : (s : Start) (past : List Mark) (t : ℕ) (w : Bool) (more : List Range) (r : Range) (x : ℕ) →
+    IsLeastIn r (IsInRange SYSTEM_MEMORY) x → Finds (range_checks s past t w more r Done) (BreachFound breach.OtherSpace x None)
 foreign_found s past t w more r x p = inl (x, ((covered r x p.in_range.0 p.in_range.1, system_in x p.holds), λ y bad. let q = cover_parts r y bad.0 in let z = in_system y bad.1 in p.least y (q.0, q.1, z.2) z), refl)
 
-raced_found : (s : Start) (past : List Mark) (t : ℕ) (w : Bool) (more : List Range) (r : Range) (f : Finding) → NoneIn r (IsInRange SYSTEM_MEMORY) → Finds (race_check past t w r Done) f → Finds (range_checks s past t w more r Done) f
+raced_found : (s : Start) (past : List Mark) (t : ℕ) (w : Bool) (more : List Range) (r : Range) (f : Finding) →
+    NoneIn r (IsInRange SYSTEM_MEMORY) → Finds (race_check past t w r Done) f → Finds (range_checks s past t w more r Done) f
 raced_found s past t w more r f none found = inr (
   (λ x bad. let q = cover_parts r x bad.0 in let z = in_system x bad.1 in none x (q.0, q.1, z.2) z),
   elim found [
@@ -125,11 +135,19 @@ module _ (t : ℕ) (watch : WatchState) (old : SpaceState) (r : Range) (small : 
     free write parts h none = unraced program memory past before h.stands t r.addr r.len write small (none (told past) (subst (Stands (told past)) same h.stands.watch))
 
     -- what is found where the range is written, the Call finds
-    module _ (ins held after outs : List Range) (here prepared : List Prepared) (indirect : Bool) (func : ℕ) (args : List ℕ) (h : IsMaking program memory past t (parts_of ins held here) before old) (w : Wanted program.interface indirect func args ins outs prepared) (all : outs ++ prepared_ranges prepared ≡ (held ++ prepared_ranges here) ++ r ∷ after) where
-      pub found_write : (refusal : StepRefusal) → ((cs : Checks) → IsFound (range_checks (fresh memory) past t true (piled (held ++ prepared_ranges here) []) r cs) refusal) → IsFound (checks program.interface (fresh memory) past t (Calls indirect func args)) refusal
-      found_write refusal found = on_write program.interface (fresh memory) past before.spaces old t indirect func args refusal ins held after outs here prepared r w all h.call (unraced_reads past t ins held here h.unraced) (unraced_writes past t ins held here h.unraced) found
+    module _ (ins held after outs : List Range) (here prepared : List Prepared) (indirect : Bool) (func : ℕ) (args : List ℕ)
+        (h : IsMaking program memory past t (parts_of ins held here) before old)
+        (w : Wanted program.interface indirect func args ins outs prepared)
+        (all : outs ++ prepared_ranges prepared ≡ (held ++ prepared_ranges here) ++ r ∷ after) where
+      pub found_write : (refusal : StepRefusal) →
+          ((cs : Checks) → IsFound (range_checks (fresh memory) past t true (piled (held ++ prepared_ranges here) []) r cs) refusal) →
+          IsFound (checks program.interface (fresh memory) past t (Calls indirect func args)) refusal
+      found_write refusal found = on_write program.interface
+          (fresh memory) past before.spaces old t indirect func args refusal ins held after outs here prepared r w all h.call
+          (unraced_reads past t ins held here h.unraced) (unraced_writes past t ins held here h.unraced) found
 
-      pub refused_write : (f : Refusal) → SeesNoRace t true r watch → IsRefused old.bytes old.held.regions (region_access t r true) f → IsFound (checks program.interface (fresh memory) past t (Calls indirect func args)) (refusal_of f)
+      pub refused_write : (f : Refusal) → SeesNoRace t true r watch → IsRefused old.bytes old.held.regions (region_access t r true) f →
+          IsFound (checks program.interface (fresh memory) past t (Calls indirect func args)) (refusal_of f)
       refused_write f none p = found_write (refusal_of f) (λ cs. as_found (range_checks (fresh memory) past t true (piled (held ++ prepared_ranges here) []) r cs) f
           (refused_mid (fresh memory) past t ins held here before.spaces old h.call true (piled (held ++ prepared_ranges here) []) (waiting held here) r r small region cs (free true (parts_of ins held here) h none) f p))
 
@@ -139,15 +157,23 @@ module _ (t : ℕ) (watch : WatchState) (old : SpaceState) (r : Range) (small : 
   -- what is found before memory is asked
   pub range_among : (write : Bool) (found : StepRefusal) → RefusesRange t write r watch found → RefusesAmong t write (r ∷ []) watch old found
   range_among false found refused = λ program memory past before ins after outs prepared indirect func args same h w.
-      on_read program.interface (fresh memory) past before.spaces old t indirect func args found ins after outs prepared r w h.call (unraced_reads past t ins [] [] h.unraced) (λ cs. found_first (fresh memory) past t false [] r cs found (refused program memory past before [] same h.stands))
+      on_read program.interface (fresh memory) past before.spaces old t indirect func args found ins after outs prepared r w h.call
+      (unraced_reads past t ins [] [] h.unraced)
+      (λ cs. found_first (fresh memory) past t false [] r cs found (refused program memory past before [] same h.stands))
   range_among true found refused = λ program memory past before ins held after outs prepared indirect func args same h w all.
-      found_write program memory past before same ins held after outs [] prepared indirect func args h w (all ∙ same_all held after) found (λ cs. found_first (fresh memory) past t true (piled (held ++ []) []) r cs found (refused program memory past before (piled (held ++ []) []) same h.stands))
+      found_write program memory past before same ins held after outs [] prepared indirect func args h w (all ∙ same_all held after) found
+      (λ cs. found_first (fresh memory) past t true (piled (held ++ []) []) r cs found
+      (refused program memory past before (piled (held ++ []) []) same h.stands))
 
   -- what memory refuses
-  pub refused_among : (write : Bool) (f : Refusal) (found : StepRefusal) → SeesNoRace t write r watch → IsRefused old.bytes old.held.regions (region_access t r write) f → found ≡ refusal_of f → RefusesAmong t write (r ∷ []) watch old found
+  pub refused_among : (write : Bool) (f : Refusal) (found : StepRefusal) → SeesNoRace t write r watch →
+      IsRefused old.bytes old.held.regions (region_access t r write) f → found ≡ refusal_of f →
+      RefusesAmong t write (r ∷ []) watch old found
   refused_among false f found none p is = λ program memory past before ins after outs prepared indirect func args same h w.
       subst (IsFound (checks program.interface (fresh memory) past t (Calls indirect func args))) (sym is)
-      (on_read program.interface (fresh memory) past before.spaces old t indirect func args (refusal_of f) ins after outs prepared r w h.call (unraced_reads past t ins [] [] h.unraced) (λ cs. as_found (range_checks (fresh memory) past t false [] r cs) f
+      (on_read program.interface (fresh memory) past before.spaces old t indirect func args
+      (refusal_of f) ins after outs prepared r w h.call (unraced_reads past t ins [] [] h.unraced)
+      (λ cs. as_found (range_checks (fresh memory) past t false [] r cs) f
       (refused_mid (fresh memory) past t ins [] [] before.spaces old h.call false [] (λ x. refl) r r small region cs (free program memory past before same false (parts_of ins [] []) h none) f p)))
   refused_among true f found none p is = λ program memory past before ins held after outs prepared indirect func args same h w all.
       subst (IsFound (checks program.interface (fresh memory) past t (Calls indirect func args))) (sym is)
@@ -159,14 +185,19 @@ module _ (t : ℕ) (watch : WatchState) (old : SpaceState) (r : Range) (small : 
   lacks_among true found is = λ program memory past before ins held after outs prepared indirect func args same h w all. subst (IsFound (checks program.interface (fresh memory) past t (Calls indirect func args))) (sym is) tt
 
   -- one part more
-  pub one_more : (program : Program) (memory : ℕ → Byte) (past : List Mark) (before : MemoryAbove) (parts : List Part) (p : Part) (new : SpaceState) → IsMaking program memory past t parts before old → IsUnraced past t p → InCall (fresh memory) past t (parts ++ p ∷ []) before.spaces new → IsMaking program memory past t (parts ++ p ∷ []) before new
+  pub one_more : (program : Program) (memory : ℕ → Byte) (past : List Mark) (before : MemoryAbove) (parts : List Part) (p : Part) (new : SpaceState) →
+      IsMaking program memory past t parts before old → IsUnraced past t p →
+      InCall (fresh memory) past t (parts ++ p ∷ []) before.spaces new → IsMaking program memory past t (parts ++ p ∷ []) before new
   one_more program memory past before parts p new h none call = record {
     stands = h.stands;
     call = call;
     unraced = All-append (IsUnraced past t) parts (p ∷ []) h.unraced (All-cons (IsUnraced past t) p [] none (All-nil (IsUnraced past t)));
   }
 
-  pub adds_one : (write : Bool) (new : SpaceState) → SeesNoRace t write r watch → AddsRegion old.bytes (region_range r) (holder_of write (innermost old.held t)) old.held new.held → new ≡ record old { held = new.held } → IsAllowed old.bytes old.held.regions (region_access t r write) → Adds t (held_part write r ∷ []) watch old new
+  pub adds_one : (write : Bool) (new : SpaceState) → SeesNoRace t write r watch →
+      AddsRegion old.bytes (region_range r) (holder_of write (innermost old.held t)) old.held new.held →
+      new ≡ record old { held = new.held } → IsAllowed old.bytes old.held.regions (region_access t r write) →
+      Adds t (held_part write r ∷ []) watch old new
   adds_one false new none adds rest ok = λ program memory past before parts same h.
       one_more program memory past before parts (Reads r) new h (free program memory past before same false parts h none)
       (held_range (fresh memory) past before.spaces old new t parts r r h.call small region rest false adds ok)
@@ -176,7 +207,9 @@ module _ (t : ℕ) (watch : WatchState) (old : SpaceState) (r : Range) (small : 
 
 -- ---- range after range
 
-pub refused_later : (t : ℕ) (write : Bool) (rs : List Range) (i : ℕ) (d : Range) (watch : WatchState) (old mid : SpaceState) (found : StepRefusal) → i < length rs → Adds t (map (held_part write) (take i rs)) watch old mid → RefusesAmong t write (get_or rs i d ∷ []) watch mid found → RefusesAmong t write rs watch old found
+pub refused_later : (t : ℕ) (write : Bool) (rs : List Range) (i : ℕ) (d : Range) (watch : WatchState) (old mid : SpaceState) (found : StepRefusal) →
+    i < length rs → Adds t (map (held_part write) (take i rs)) watch old mid → RefusesAmong t write (get_or rs i d ∷ []) watch mid found →
+    RefusesAmong t write rs watch old found
 refused_later t false rs i d watch old mid found lt first refused = λ program memory past before ins after outs prepared indirect func args same h w.
     refused program memory past before (ins ++ take i rs) (drop (suc i) rs ++ after) outs prepared indirect func args same
     (subst (λ ps. IsMaking program memory past t ps before mid) (reads_more ins (take i rs)) (first program memory past before (parts_of ins [] []) same h))

@@ -68,7 +68,10 @@ module _ (program : Program) (memory : ℕ → Byte) (past : List Mark) (t : ℕ
   m = next_mark memory past t act
 
   -- the mark is one by the rules
-  pub allowed : (want : Want) → GoesWell program memory past → t < thread_count → IsWanted program memory past t want → is_reply want act ≡ true → KeepsModes program.interface want → Carries program.interface s t (marks_of s t past) want act → ((x : ℕ) → touches act x ≡ true → is_system x ≡ false) → ((x : ℕ) → writes act x ≡ true → is_constant x ≡ false) → Asks act (λ x. byte s x past) → Allowed (replay_rules program s) s past m
+  pub allowed : (want : Want) → GoesWell program memory past → t < thread_count → IsWanted program memory past t want →
+      is_reply want act ≡ true → KeepsModes program.interface want → Carries program.interface s t (marks_of s t past) want act →
+      ((x : ℕ) → touches act x ≡ true → is_system x ≡ false) → ((x : ℕ) → writes act x ≡ true → is_constant x ≡ false) →
+      Asks act (λ x. byte s x past) → Allowed (replay_rules program s) s past m
   allowed want h lt w reply modes carries own writable asks = record {
     own = record {
       thread = lt;
@@ -93,7 +96,10 @@ module _ (program : Program) (memory : ℕ → Byte) (past : List Mark) (t : ℕ
 
 -- a run with one more mark, whichever, goes well
 module _ (program : Program) (memory : ℕ → Byte) (past : List Mark) (t : ℕ) (act : Act) where
-  pub goes_on : GoesWell program memory past → Allowed (replay_rules program (fresh memory)) (fresh memory) past (next_mark memory past t act) → NoRace past (next_mark memory past t act) → LeavesFirst act (frames (marks_of (fresh memory) t past)) → is_fault act ≡ 0 → ((x : ℕ) → touches act x ≡ true → x < 2 ^ 64) → GoesWell program memory (next_mark memory past t act ∷ past)
+  pub goes_on : GoesWell program memory past →
+      Allowed (replay_rules program (fresh memory)) (fresh memory) past (next_mark memory past t act) →
+      NoRace past (next_mark memory past t act) → LeavesFirst act (frames (marks_of (fresh memory) t past)) → is_fault act ≡ 0 →
+      ((x : ℕ) → touches act x ≡ true → x < 2 ^ 64) → GoesWell program memory (next_mark memory past t act ∷ past)
   goes_on h may free first none small = record {
     calm = record {
       starts = h.calm.starts;

@@ -42,7 +42,9 @@ splits before xs after i d lt =
 pub adds_none : (t : ℕ) (watch : WatchState) (old : SpaceState) → Adds t [] watch old old
 adds_none t watch old = λ program memory past before parts same h. subst (λ ps. IsMaking program memory past t ps before old) (sym (append-nil parts)) h
 
-pub adds_next : {A : Type 0} (t : ℕ) (part : A → Part) (xs : List A) (i : ℕ) (d : A) (watch : WatchState) (old mid new : SpaceState) → i < length xs → Adds t (map part (take i xs)) watch old mid → Adds t (part (get_or xs i d) ∷ []) watch mid new → Adds t (map part (take (i + 1) xs)) watch old new
+pub adds_next : {A : Type 0} (t : ℕ) (part : A → Part) (xs : List A) (i : ℕ) (d : A) (watch : WatchState) (old mid new : SpaceState) →
+    i < length xs → Adds t (map part (take i xs)) watch old mid → Adds t (part (get_or xs i d) ∷ []) watch mid new →
+    Adds t (map part (take (i + 1) xs)) watch old new
 adds_next t part xs i d watch old mid new lt first then' = λ program memory past before parts same h.
     subst (λ ps. IsMaking program memory past t ps before new)
     (append_assoc parts (map part (take i xs)) (part (get_or xs i d) ∷ [])
@@ -85,7 +87,8 @@ ranges_under [] (r ∷ rs) e = absurd (omega (arith, e))
 ranges_under (k ∷ ks) [] e = absurd (omega (arith, e))
 ranges_under (k ∷ ks) (r ∷ rs) e = ap (λ qs. r ∷ qs) (ranges_under ks rs (omega (arith, e)))
 
-pub region_at : (ks : List ℕ) (rs : List Range) (i : ℕ) (k : ℕ) (r : Range) (d : Prepared) → length ks ≡ length rs → i < length rs → get_or (regions_under ks rs) i d ≡ record { key = get_or ks i k; range = get_or rs i r }
+pub region_at : (ks : List ℕ) (rs : List Range) (i : ℕ) (k : ℕ) (r : Range) (d : Prepared) → length ks ≡ length rs → i < length rs →
+    get_or (regions_under ks rs) i d ≡ record { key = get_or ks i k; range = get_or rs i r }
 region_at [] [] i k r d e lt = absurd (omega (arith, lt))
 region_at [] (q ∷ rs) i k r d e lt = absurd (omega (arith, e))
 region_at (j ∷ ks) [] i k r d e lt = absurd (omega (arith, e))

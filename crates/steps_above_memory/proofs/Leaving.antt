@@ -78,15 +78,25 @@ module _ (old : MemoryAbove) (t : ℕ) (frame : Range) (lt : t < thread_count) (
   leave_raced e found answers is program memory past h modes = subst (IsFound (range_checks (fresh memory) past t true [] (range frame.addr frame.len) Done)) (sym is)
       (by_watch program memory past old h t frame.addr frame.len true (small program memory past h) e (own program memory past h) (answers (told past) h.watch))
 
-  pub leave_refused : (r : Refusal) (found : StepRefusal) → AnswersBy old.watch t frame true (Ok tt) → IsLeaveRefused Replay old.spaces.held.regions (top_of old.spaces.sides.replay t) r → found ≡ refusal_of r → Refuses old t (Leaves frame.addr frame.len) found
+  pub leave_refused : (r : Refusal) (found : StepRefusal) → AnswersBy old.watch t frame true (Ok tt) →
+      IsLeaveRefused Replay old.spaces.held.regions (top_of old.spaces.sides.replay t) r → found ≡ refusal_of r →
+      Refuses old t (Leaves frame.addr frame.len) found
   leave_refused r found answers p is program memory past h modes = subst (IsFound (range_checks (fresh memory) past t true [] (range frame.addr frame.len) Done)) (sym is)
       (as_found (range_checks (fresh memory) past t true [] (range frame.addr frame.len) Done) r
       ((finds program memory past old h t frame.addr frame.len true (small program memory past h) (answers (told past) h.watch)).refused r ((leaves_as_writes (fresh memory) past old.spaces t frame h.spaces lt top r).0 p)))
 
-  pub leave_made : (new : MemoryAbove) → frames_of old.spaces.sides.replay t ≡ frames_of new.spaces.sides.replay t ++ frame ∷ [] → new.spaces.sides ≡ with_side old.spaces.sides Replay (with_thread old.spaces.sides.replay t (frames_of new.spaces.sides.replay t)) → ((r : Refusal) → IsLeaveRefused Replay old.spaces.held.regions (top_of old.spaces.sides.replay t) r → ⊥) → new.spaces.held ≡ old.spaces.held → FillsWith frame None old.spaces.bytes new.spaces.bytes → AnswersBy old.watch t frame true (Ok tt) → WasTold (Accessed t frame true) old.watch new.watch → Makes old t (Leaves frame.addr frame.len) (Leave frame.addr frame.len) new
+  pub leave_made : (new : MemoryAbove) → frames_of old.spaces.sides.replay t ≡ frames_of new.spaces.sides.replay t ++ frame ∷ [] →
+      new.spaces.sides ≡ with_side old.spaces.sides Replay (with_thread old.spaces.sides.replay t (frames_of new.spaces.sides.replay t)) →
+      ((r : Refusal) → IsLeaveRefused Replay old.spaces.held.regions (top_of old.spaces.sides.replay t) r → ⊥) →
+      new.spaces.held ≡ old.spaces.held → FillsWith frame None old.spaces.bytes new.spaces.bytes → AnswersBy old.watch t frame true (Ok tt) →
+      WasTold (Accessed t frame true) old.watch new.watch → Makes old t (Leaves frame.addr frame.len) (Leave frame.addr frame.len) new
   leave_made new left sides free held fills answers one program memory past h modes =
-      let pass : Passes (range_checks (fresh memory) past t true [] (range frame.addr frame.len) Done) = (finds program memory past old h t frame.addr frame.len true (small program memory past h) (answers (told past) h.watch)).passes.1 (allowed program memory past h free) in
-      let k : IsInnermost (frames (marks_of (fresh memory) t past)) (frames_of new.spaces.sides.replay t) frame = innermost (frames (marks_of (fresh memory) t past)) (frames_of new.spaces.sides.replay t) frame (sym (ap (λ (q : StackState). q.frames) (h.spaces.stacks t lt)) ∙ left) in
+      let pass : Passes (range_checks (fresh memory) past t true [] (range frame.addr frame.len) Done) =
+      (finds program memory past old h t frame.addr frame.len true (small program memory past h) (answers (told past) h.watch)).passes.1
+      (allowed program memory past h free) in
+      let k : IsInnermost (frames (marks_of (fresh memory) t past)) (frames_of new.spaces.sides.replay t) frame = innermost
+      (frames (marks_of (fresh memory) t past)) (frames_of new.spaces.sides.replay t) frame
+      (sym (ap (λ (q : StackState). q.frames) (h.spaces.stacks t lt)) ∙ left) in
       let top' : IsTop (byte_at old.spaces.bytes) t frame = there program memory past h in
       range_made program memory past old new t (Leaves frame.addr frame.len) (Leave frame.addr frame.len) true (range frame.addr frame.len) h
       (record {
@@ -100,7 +110,7 @@ module _ (old : MemoryAbove) (t : ℕ) (frame : Range) (lt : t < thread_count) (
         modes = tt;
         carries = tt;
         first = subst (LeavesFirst (Leave frame.addr frame.len)) (sym k.is) (ap (λ (r : Range). r.addr) k.frame_is, ap (λ (r : Range). r.len) k.frame_is);
-        mark = leaves (fresh memory) past old.spaces new.spaces (next_mark memory past t (Leave frame.addr frame.len)) frame h.spaces lt left sides free held fills refl;
+        mark = leaves (fresh memory) past old.spaces new.spaces (next_mark memory past t (Leave frame.addr frame.len)) frame h.spaces lt free (record { frames = left; sides = sides; dead = fills; held = held }) refl;
         watch = one (told past) h.watch;
       })
       pass

@@ -41,7 +41,9 @@ pub record IsStep (program : Program) (memory : ℕ → Byte) (past : List Mark)
   pub mark : IsMark (fresh memory) past (next_mark memory past t act) new.spaces
   pub watch : Stands (told (next_mark memory past t act ∷ past)) new.watch
 
-pub step_made : (program : Program) (memory : ℕ → Byte) (past : List Mark) (old new : MemoryAbove) (t : ℕ) (want : Want) (act : Act) → StandsForAbove program memory past old → IsStep program memory past t want act new → Passes (checks program.interface (fresh memory) past t want) → IsMade program memory past t want act new
+pub step_made : (program : Program) (memory : ℕ → Byte) (past : List Mark) (old new : MemoryAbove) (t : ℕ) (want : Want) (act : Act) →
+    StandsForAbove program memory past old → IsStep program memory past t want act new →
+    Passes (checks program.interface (fresh memory) past t want) → IsMade program memory past t want act new
 step_made program memory past old new t want act h a passes = record {
   passes = passes;
   no_race = a.no_race;
@@ -70,7 +72,9 @@ pub record IsAccess (program : Program) (memory : ℕ → Byte) (past : List Mar
   pub watch : Stands (told (next_mark memory past t act ∷ past)) new.watch
 
 -- where the checks of the range pass, it is made
-pub range_made : (program : Program) (memory : ℕ → Byte) (past : List Mark) (old new : MemoryAbove) (t : ℕ) (want : Want) (act : Act) (write : Bool) (r : Range) → StandsForAbove program memory past old → IsAccess program memory past t want act write r new → Passes (checks program.interface (fresh memory) past t want) → IsMade program memory past t want act new
+pub range_made : (program : Program) (memory : ℕ → Byte) (past : List Mark) (old new : MemoryAbove) (t : ℕ) (want : Want) (act : Act) (write : Bool) (r : Range) →
+    StandsForAbove program memory past old → IsAccess program memory past t want act write r new →
+    Passes (checks program.interface (fresh memory) past t want) → IsMade program memory past t want act new
 range_made program memory past old new t want act write r h a passes =
     step_made program memory past old new t want act h
     (record {

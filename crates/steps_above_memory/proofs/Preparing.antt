@@ -53,7 +53,8 @@ module _ (t key : ℕ) (watch : WatchState) (old : SpaceState) (r : Range) (smal
       found_write t watch old r small region program memory past before same ins outs (prepared_ranges after) outs here (here ++ one ∷ after) indirect func args h w (ranges_split outs here (one ∷ after)) refusal
       (λ cs. found_first (fresh memory) past t true (piled (outs ++ prepared_ranges here) []) r cs refusal (refused program memory past before (piled (outs ++ prepared_ranges here) []) same h.stands)))
 
-  key_found : SeesNoRace t true r watch → IsAllowed old.bytes old.held.regions (region_access t r true) → IsInUse old.held.regions key → RefusesToPrepare t (one ∷ []) watch old (unprepared.KeyInUse key)
+  key_found : SeesNoRace t true r watch → IsAllowed old.bytes old.held.regions (region_access t r true) → IsInUse old.held.regions key →
+      RefusesToPrepare t (one ∷ []) watch old (unprepared.KeyInUse key)
   key_found none ok used program memory past before ins outs here after tested indirect func args same h k w =
       refused_key program.interface (fresh memory) past before.spaces tested old t indirect func args ins outs here after one r w
       (record {
@@ -66,7 +67,9 @@ module _ (t key : ℕ) (watch : WatchState) (old : SpaceState) (r : Range) (smal
       })
       (KeyInUse key) (inr (ok, used, refl))
 
-  pub unprepared_one : (f : Refusal) (found : Unprepared) → SeesNoRace t true r watch → IsPrepareRefused old.bytes old.held.regions (region_access t r true) key f → found ≡ unprepared_by f → RefusesToPrepare t (one ∷ []) watch old found
+  pub unprepared_one : (f : Refusal) (found : Unprepared) → SeesNoRace t true r watch →
+      IsPrepareRefused old.bytes old.held.regions (region_access t r true) key f → found ≡ unprepared_by f →
+      RefusesToPrepare t (one ∷ []) watch old found
   unprepared_one f found none (inl range) is = subst (RefusesToPrepare t (one ∷ []) watch old) (sym (is ∙ by_range f t r old range)) (λ program memory past before ins outs here after indirect func args same h w.
       refused_write t watch old r small region program memory past before same ins outs (prepared_ranges after) outs here (here ++ one ∷ after) indirect func args h w (ranges_split outs here (one ∷ after)) f none range)
   unprepared_one f found none (inr why) is = subst (RefusesToPrepare t (one ∷ []) watch old) (sym (is ∙ ap unprepared_by why.2)) (key_found none why.0 why.1)
@@ -74,7 +77,11 @@ module _ (t key : ℕ) (watch : WatchState) (old : SpaceState) (r : Range) (smal
   pub lacks_one : (found : Unprepared) → found ≡ unprepared.Refused Memory → RefusesToPrepare t (one ∷ []) watch old found
   lacks_one found is = subst (RefusesToPrepare t (one ∷ []) watch old) (sym is) (λ program memory past before ins outs here after indirect func args same h w. tt)
 
-  pub prepares_one : (new : SpaceState) → SeesNoRace t true r watch → AddsRegion old.bytes (region_range r) (Key key (Some (innermost old.held t))) old.held new.held → new ≡ record old { held = new.held } → IsAllowed old.bytes old.held.regions (region_access t r true) → ((f : Refusal) → IsPrepareRefused old.bytes old.held.regions (region_access t r true) key f → ⊥) → Adds t (Prepares key r ∷ []) watch old new
+  pub prepares_one : (new : SpaceState) → SeesNoRace t true r watch →
+      AddsRegion old.bytes (region_range r) (Key key (Some (innermost old.held t))) old.held new.held → new ≡ record old { held = new.held } →
+      IsAllowed old.bytes old.held.regions (region_access t r true) →
+      ((f : Refusal) → IsPrepareRefused old.bytes old.held.regions (region_access t r true) key f → ⊥) →
+      Adds t (Prepares key r ∷ []) watch old new
   prepares_one new none adds rest ok free_key = λ program memory past before parts same h.
       one_more t watch old r small region program memory past before parts (Prepares key r) new h (free t watch old r small region program memory past before same true parts h none)
       (prepared_range (fresh memory) past before.spaces old new t parts r r h.call small region rest key adds ok free_key)
@@ -88,7 +95,9 @@ not_both r a e p q = absurd (other (sym p ∙ q))
 
 -- ---- region after region
 
-pub unprepared_later : (t : ℕ) (ps : List Prepared) (i : ℕ) (d : Prepared) (watch : WatchState) (old mid : SpaceState) (found : Unprepared) → i < length ps → Adds t (map prepared_part (take i ps)) watch old mid → RefusesToPrepare t (get_or ps i d ∷ []) watch mid found → RefusesToPrepare t ps watch old found
+pub unprepared_later : (t : ℕ) (ps : List Prepared) (i : ℕ) (d : Prepared) (watch : WatchState) (old mid : SpaceState) (found : Unprepared) →
+    i < length ps → Adds t (map prepared_part (take i ps)) watch old mid → RefusesToPrepare t (get_or ps i d ∷ []) watch mid found →
+    RefusesToPrepare t ps watch old found
 unprepared_later t ps i d watch old mid (unprepared.Refused refusal) lt first refused = λ program memory past before ins outs here after indirect func args same h w.
     refused program memory past before ins outs (here ++ take i ps) (drop (suc i) ps ++ after) indirect func args same
     (subst (λ qs. IsMaking program memory past t qs before mid) (prepares_more ins outs here (take i ps)) (first program memory past before (parts_of ins outs here) same h))

@@ -85,13 +85,17 @@ module _ (program : Program) (memory : ℕ → Byte) (past : List Mark) (above :
   finds none = findings s past above.spaces t addr len write h.spaces small (unraced none)
 
   -- a refusal by the watch, where memory is the own side's
-  pub by_watch : (e : WatchError) → ((x : ℕ) → IsRefused above.spaces.bytes above.spaces.held.regions (access t addr len write) (OtherSpace x) → ⊥) → Answers (told past) t r write (Err e) → IsFound (range_checks s past t write [] (range addr len) Done) (refusal_by e)
+  pub by_watch : (e : WatchError) →
+      ((x : ℕ) → IsRefused above.spaces.bytes above.spaces.held.regions (access t addr len write) (OtherSpace x) → ⊥) →
+      Answers (told past) t r write (Err e) → IsFound (range_checks s past t write [] (range addr len) Done) (refusal_by e)
   by_watch (error.Race other at) own b = (second s past above.spaces t addr len write small).race (BreachFound breach.Race at (Some other)) own (race_found other at b)
   by_watch error.Memory own b = tt
 
 -- ---- for every run
 
-own_if_else : (above : MemoryAbove) (t addr len : ℕ) (write : Bool) (r : Refusal) → IsRefused above.spaces.bytes above.spaces.held.regions (access t addr len write) r → ((x : ℕ) → r ≡ OtherSpace x → ⊥) → (x : ℕ) → IsRefused above.spaces.bytes above.spaces.held.regions (access t addr len write) (OtherSpace x) → ⊥
+own_if_else : (above : MemoryAbove) (t addr len : ℕ) (write : Bool) (r : Refusal) →
+    IsRefused above.spaces.bytes above.spaces.held.regions (access t addr len write) r → ((x : ℕ) → r ≡ OtherSpace x → ⊥) → (x : ℕ) →
+    IsRefused above.spaces.bytes above.spaces.held.regions (access t addr len write) (OtherSpace x) → ⊥
 own_if_else above t addr len write (NotLive y) h ne x k = h.0 x k.in_range k.holds
 own_if_else above t addr len write (Pending y) h ne x k = h.0 x k.in_range k.holds
 own_if_else above t addr len write (OtherSpace y) h ne x k = ne y refl
@@ -105,7 +109,9 @@ own_if_else above t addr len write (Size y) h ne x k = h
 abbrev pub FindsAt : MemoryAbove → ℕ → Bool → Range → StepRefusal → Type 0
 FindsAt above t write r refusal = (program : Program) (memory : ℕ → Byte) (past : List Mark) → StandsForAbove program memory past above → IsFound (range_checks (fresh memory) past t write [] (marks.range r.addr r.len) Done) refusal
 
-pub found_at : (above : MemoryAbove) (t : ℕ) (write : Bool) (r : Range) (refused : Refusal) (refusal : StepRefusal) → FindsRefusal above t write r refused refusal → IsRefused above.spaces.bytes above.spaces.held.regions (access t r.addr r.len write) refused → FindsAt above t write r refusal
+pub found_at : (above : MemoryAbove) (t : ℕ) (write : Bool) (r : Range) (refused : Refusal) (refusal : StepRefusal) →
+    FindsRefusal above t write r refused refusal →
+    IsRefused above.spaces.bytes above.spaces.held.regions (access t r.addr r.len write) refused → FindsAt above t write r refusal
 found_at above t write r refused refusal finds p program memory past h = finds program memory past h p
 
 module _ (above : MemoryAbove) (t : ℕ) (write : Bool) (range : Range) (small : range.addr < 2 ^ 64) where
@@ -122,8 +128,11 @@ module _ (above : MemoryAbove) (t : ℕ) (write : Bool) (range : Range) (small :
 
   -- then what memory refuses
   pub unraced_refusal : (r : Refusal) → AnswersBy above.watch t range write (Ok tt) → FindsRefusal above t write range r (refusal_of r)
-  unraced_refusal r answers program memory past h p = as_found (range_checks (fresh memory) past t write [] (marks.range range.addr range.len) Done) r ((finds program memory past above h t range.addr range.len write small (answers (told past) h.watch)).refused r p)
+  unraced_refusal r answers program memory past h p = as_found
+      (range_checks (fresh memory) past t write [] (marks.range range.addr range.len) Done) r
+      ((finds program memory past above h t range.addr range.len write small (answers (told past) h.watch)).refused r p)
 
   -- a race of what memory allows
-  pub raced_alone : (e : WatchError) → IsAllowed above.spaces.bytes above.spaces.held.regions (access t range.addr range.len write) → AnswersBy above.watch t range write (Err e) → FindsAt above t write range (refusal_by e)
+  pub raced_alone : (e : WatchError) → IsAllowed above.spaces.bytes above.spaces.held.regions (access t range.addr range.len write) →
+      AnswersBy above.watch t range write (Err e) → FindsAt above t write range (refusal_by e)
   raced_alone e ok answers program memory past h = by_watch program memory past above h t range.addr range.len write small e (λ x k. ok.own x k.in_range k.holds) (answers (told past) h.watch)

@@ -43,7 +43,8 @@ tell_snoc : (t : ℕ) (w : Bool) (xs : List Range) (r : Range) (past : List Told
 tell_snoc t w [] r past = refl
 tell_snoc t w (x ∷ xs) r past = tell_snoc t w xs r (Accessed t x w ∷ past)
 
-pub tell_more : (t : ℕ) (w : Bool) (rs : List Range) (i : ℕ) (d : Range) (old mid new : WatchState) → i < length rs → WasToldAccesses t w (take i rs) old mid → WasTold (Accessed t (get_or rs i d) w) mid new → WasToldAccesses t w (take (i + 1) rs) old new
+pub tell_more : (t : ℕ) (w : Bool) (rs : List Range) (i : ℕ) (d : Range) (old mid new : WatchState) → i < length rs →
+    WasToldAccesses t w (take i rs) old mid → WasTold (Accessed t (get_or rs i d) w) mid new → WasToldAccesses t w (take (i + 1) rs) old new
 tell_more t w rs i d old mid new lt before one past h =
     subst (λ (ps : List Told). Stands ps new) (sym (ap (λ xs. tell t w xs past) (take_more rs i d lt) ∙ tell_snoc t w (take i rs) (get_or rs i d) past)) (one (tell t w (take i rs) past) (before past h))
 
@@ -63,10 +64,26 @@ module _ (program : Program) (memory' : ℕ → Byte) (past : List Mark) (old : 
   ]
 
 module _ (old new : MemoryAbove) (t : ℕ) (lt : t < thread_count) (used : List ℕ) (committing : Option (ℕ × ℕ)) (ranges : List Range) (keys : List Key) where
-  pub return_made : new.spaces.held.regions ≡ without_closed (innermost old.spaces.held t) (committed_key committing) old.spaces.held.regions → new.spaces.held.depths ≡ slice_set old.spaces.held.depths t (slice_index old.spaces.held.depths t - 1) → new.spaces ≡ record old.spaces { held = new.spaces.held } → HasKey old.spaces.held.regions committing → AllReturned old.spaces.bytes old.spaces.held.regions (innermost old.spaces.held t) used committing → WasToldReturn t keys ranges old.watch new.watch → MakesReturn old t used committing ranges keys new
+  pub return_made : new.spaces.held.regions ≡ without_closed (innermost old.spaces.held t) (committed_key committing) old.spaces.held.regions →
+      new.spaces.held.depths ≡ slice_set old.spaces.held.depths t (slice_index old.spaces.held.depths t - 1) →
+      new.spaces ≡ record old.spaces { held = new.spaces.held } → HasKey old.spaces.held.regions committing →
+      AllReturned old.spaces.bytes old.spaces.held.regions (innermost old.spaces.held t) used committing →
+      WasToldReturn t keys ranges old.watch new.watch → MakesReturn old t used committing ranges keys new
   return_made regions depths rest has_key filled one program memory' past steps clock marks func args result same pieces commit h is_keys is_ranges commits shows may =
       let m : Mark = next_event memory' past t (Ret func args result same pieces commit) steps marks clock in
-      let ret : IsRet (fresh memory') past m pieces committing commit new.spaces = memory.returns (fresh memory') past old.spaces new.spaces m (record { kind = Ret func args result same pieces commit; steps = steps; keys = marks; clock = clock }) func args result same pieces commit used committing h.spaces lt regions depths rest has_key filled refl refl may.own.carries.closes commits shows in
+      let ret : IsRet (fresh memory') past m pieces committing commit new.spaces = memory.returns (fresh memory') past old.spaces new.spaces m func args pieces commit used committing h.spaces lt
+      (record { key = has_key; returned = filled; regions = regions; depths = depths; rest = rest })
+      (record {
+        event = record { kind = Ret func args result same pieces commit; steps = steps; keys = marks; clock = clock };
+        act =
+            refl;
+        result = result;
+        same = same;
+        kind = refl;
+        closes = may.own.carries.closes;
+        commits = commits;
+        shows = shows;
+      }) in
       record {
         goes_well = goes_on program memory' past t (Made (record { kind = Ret func args result same pieces commit; steps = steps; keys = marks; clock = clock })) h.goes_well may
             (race_with_nothing program (fresh memory') past h.goes_well.calm m may tt)
@@ -78,13 +95,19 @@ module _ (old new : MemoryAbove) (t : ℕ) (lt : t < thread_count) (used : List 
       }
 
 module _ (above : MemoryAbove) (t : ℕ) (lt : t < thread_count) (used : List ℕ) (committing : Option (ℕ × ℕ)) where
-  finds : (program : Program) (memory' : ℕ → Byte) (past : List Mark) (func : ℕ) (args : List ℕ) (result : ℕ) → StandsForAbove program memory' past above → IsReturnOf program memory' past t func args result used committing → ReturnsFind program.interface (fresh memory') past above.spaces t func args result used committing
+  finds : (program : Program) (memory' : ℕ → Byte) (past : List Mark) (func : ℕ) (args : List ℕ) (result : ℕ) →
+      StandsForAbove program memory' past above → IsReturnOf program memory' past t func args result used committing →
+      ReturnsFind program.interface (fresh memory') past above.spaces t func args result used committing
   finds program memory' past func args result h of = returns_found program.interface (fresh memory') past above.spaces t func args result used committing h.spaces lt of.closes of.sizes of.commits
 
-  pub return_refused : (r : Refusal) (found : StepRefusal) → IsReleaseRefused above.spaces.bytes above.spaces.held.regions (innermost above.spaces.held t) used committing r → found ≡ refusal_of r → RefusesReturn above t used committing found
+  pub return_refused : (r : Refusal) (found : StepRefusal) →
+      IsReleaseRefused above.spaces.bytes above.spaces.held.regions (innermost above.spaces.held t) used committing r → found ≡ refusal_of r →
+      RefusesReturn above t used committing found
   return_refused r found p is program memory' past func args result h of =
       subst (IsFound (return_checks program.interface (fresh memory') past (filled above.spaces) func args result)) (sym is)
       (as_found (return_checks program.interface (fresh memory') past (filled above.spaces) func args result) r ((finds program memory' past func args result h of).refused r p))
 
-  pub return_taken : HasKey above.spaces.held.regions committing → AllReturned above.spaces.bytes above.spaces.held.regions (innermost above.spaces.held t) used committing → TakesReturn above t used committing
+  pub return_taken : HasKey above.spaces.held.regions committing →
+      AllReturned above.spaces.bytes above.spaces.held.regions (innermost above.spaces.held t) used committing →
+      TakesReturn above t used committing
   return_taken has_key filled program memory' past func args result h of = (finds program memory' past func args result h of).passes.1 (has_key, filled)

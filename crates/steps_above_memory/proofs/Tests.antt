@@ -22,7 +22,8 @@ module _ (bytes : List AreaState) (regions : List Region) (t addr len : ℕ) whe
   refused_too (Size x) h = h
 
   -- else only a constant does
-  pub constant_refused : (x : ℕ) → IsAllowed bytes regions (access t addr len false) → IsLeastIn (access t addr len true).range (IsInRange CONSTANTS) x → IsRefused bytes regions (access t addr len true) (ReadOnly x)
+  pub constant_refused : (x : ℕ) → IsAllowed bytes regions (access t addr len false) →
+      IsLeastIn (access t addr len true).range (IsInRange CONSTANTS) x → IsRefused bytes regions (access t addr len true) (ReadOnly x)
   constant_refused x ok least = (ok.own, ok.live, ok.free, least)
 
   pub written_allowed : IsAllowed bytes regions (access t addr len false) → NoneIn (access t addr len true).range (IsInRange CONSTANTS) → IsAllowed bytes regions (access t addr len true)

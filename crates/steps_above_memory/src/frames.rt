@@ -1,13 +1,15 @@
 //! Frames.
 
 ghost use Rattle.std.specs.Prelude.{◌≡◌, ◌+◌, ◌<◌, ◌≤◌, ℕ, Bool, List, Some, length, slice_index, IfOk, IfErr, OnErr};
+ghost use Rattle.marks.specs.declared.side.Side.TheVariants.{Replay};
 ghost use Rattle.marks.specs.Marks.{Enter, Leave};
 ghost use Rattle.marks.specs.Wants.{Enters, Leaves};
 ghost use Rattle.memory_map.specs.declared.areas.TheConstants.{THREADS};
 ghost use Rattle.marks.specs.declared.range.Range.{Range};
 ghost use Rattle.space_memory.specs.Sides.{frames_of, top_of};
 ghost use Rattle.space_memory_laws.specs.FrameMarks.{bytes_with_args};
-ghost use Rattle.steps_above_memory.specs.Spaces.{IsEntered, IsLeft};
+ghost use Rattle.space_memory_laws.specs.Changes.{IsEntered};
+ghost use Rattle.steps_above_memory.specs.Spaces.{LeavesFrame};
 ghost use Rattle.steps_above_memory.specs.Steps.{HasCause, Makes, Refuses};
 
 use crate::above::MemoryAbove;
@@ -36,7 +38,7 @@ impl MemoryAbove {
             let bytes = bytes_with_args size offsets.now widths.now args.now in
             Makes self.old thread (Enters indirect func values bytes)
             (Enter func values addr bytes) self.new) }
-        ensures spaces { IfOk result (λ addr. IsEntered self.old.spaces self.new.spaces thread addr size
+        ensures spaces { IfOk result (λ addr. IsEntered Replay self.old.spaces self.new.spaces thread addr size
             (bytes_with_args size offsets.now widths.now args.now)) }
         ensures refused { IfErr result (λ refusal. (indirect : Bool) (func : ℕ) (values : List ℕ) →
             let bytes = bytes_with_args size offsets.now widths.now args.now in
@@ -67,7 +69,7 @@ impl MemoryAbove {
         ensures top { IfOk result (λ frame. top_of self.old.spaces.sides.replay thread ≡ Some frame) }
         ensures left { IfOk result (λ frame. Makes self.old thread (Leaves frame.addr frame.len)
             (Leave frame.addr frame.len) self.new) }
-        ensures spaces { IfOk result (IsLeft self.old.spaces self.new.spaces thread) }
+        ensures spaces { IfOk result (LeavesFrame self.old.spaces self.new.spaces thread) }
         ensures refused { IfErr result (λ refusal. (frame : Range) →
             top_of self.old.spaces.sides.replay thread ≡ Some frame →
             Refuses self.old thread (Leaves frame.addr frame.len) refusal) }

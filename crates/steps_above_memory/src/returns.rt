@@ -4,7 +4,7 @@ ghost use Rattle.std.specs.Prelude.{◌≡◌, ◌<◌, ◌≤◌, length, slice
 ghost use Rattle.memory_map.specs.declared.areas.TheConstants.{THREADS};
 ghost use Rattle.space_memory_access.specs.Held.{innermost};
 ghost use Rattle.space_memory.specs.Releases.{outs_of};
-ghost use Rattle.steps_above_memory.specs.Spaces.{IsReleased};
+ghost use Rattle.space_memory_laws.specs.Changes.{IsReleased};
 ghost use Rattle.steps_above_memory.specs.Steps.{HasCause};
 ghost use Rattle.steps_above_memory.specs.Returns.{MakesReturn, RefusesReturn, TakesReturn, WasToldReturn, WasToldAccesses};
 

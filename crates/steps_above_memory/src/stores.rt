@@ -2,12 +2,13 @@
 
 ghost use Rattle.std.specs.Prelude.{◌≡◌, ◌<◌, ◌≤◌, ◌↔◌, true, Option, ℕ, IsOk, IfErr, OnOk, OnErr};
 ghost use Rattle.marks.specs.Ranges.{bytes_of_number};
+ghost use Rattle.marks.specs.declared.side.Side.TheVariants.{Replay};
 ghost use Rattle.marks.specs.Marks.{Store};
 ghost use Rattle.marks.specs.Wants.{Stores};
 ghost use Rattle.memory_map.specs.declared.areas.TheConstants.{THREADS};
 ghost use Rattle.space_memory_access.specs.Accesses.{IsAllowed, IsRefused};
 ghost use Rattle.space_memory_laws.specs.Refusals.{access};
-ghost use Rattle.steps_above_memory.specs.Spaces.{IsStored};
+ghost use Rattle.space_memory_laws.specs.Changes.{IsStored};
 ghost use Rattle.steps_above_memory.specs.Steps.{Makes, Refuses};
 
 use crate::above::MemoryAbove;
@@ -47,7 +48,7 @@ impl MemoryAbove {
         ensures stored { OnOk result ((origin : Option ℕ) → Makes self.old thread
             (Stores origin addr (bytes_of_number width value))
             (Store origin addr (bytes_of_number width value)) self.new) }
-        ensures spaces { OnOk result (IsStored self.old.spaces self.new.spaces thread addr width value) }
+        ensures spaces { OnOk result (IsStored Replay self.old.spaces self.new.spaces thread addr width value) }
         ensures refused { IfErr result (λ refusal. (origin : Option ℕ) → Refuses self.old thread
             (Stores origin addr (bytes_of_number width value)) refusal) }
         ensures unchanged { OnErr result (self.new ≡ self.old) }
@@ -77,7 +78,7 @@ impl MemoryAbove {
         ensures stored { OnOk result ((origin : Option ℕ) → Makes self.old thread
             (Stores origin addr (bytes_of_number width value))
             (Store origin addr (bytes_of_number width value)) self.new) }
-        ensures spaces { OnOk result (IsStored self.old.spaces self.new.spaces thread addr width value) }
+        ensures spaces { OnOk result (IsStored Replay self.old.spaces self.new.spaces thread addr width value) }
         ensures refused { IfErr result (λ refusal. (origin : Option ℕ) → Refuses self.old thread
             (Stores origin addr (bytes_of_number width value)) refusal) }
         ensures unchanged { OnErr result (self.new ≡ self.old) }

@@ -1,5 +1,5 @@
 -- Where a text is cut, as a search of many bytes says it.
-use Rattle.std.proofs.Common.{◌≡◌, ℕ, ◌+◌, ◌-◌, ◌<◌, ◌≤◌, List, [], ◌∷◌, length, get_or, take, drop, Some, None, arith, sym, eq-eqb, eqb-true}
+use Rattle.std.proofs.Common.{◌≡◌, ℕ, ◌+◌, ◌-◌, ◌<◌, List, [], ◌∷◌, length, get_or, take, drop, Some, None, arith, sym, eq-eqb, eqb-true}
 use Rattle.memchr.specs.Find.{Nowhere, Passes, is_byte}
 use Rattle.memchr.specs.Find as find
 use Rattle.sys_script_lines.specs.Parts.{cut_at, parts}

@@ -1,6 +1,7 @@
 -- Lists that are read item by item.
 use Rattle.std.proofs.Common.{◌≡◌, ℕ, List, [], ◌∷◌, ◌++◌, Option, Some, None, refl, sym, ap, ◌∙◌, append_assoc, append-nil}
 use Rattle.std.specs.Option.{option_map, option_and_then}
+use Rattle.std.proofs.lemmas.Option.{same_Some}
 use Rattle.sys_script_lines.specs.Each.{before, each}
 
 -- the items so far, and those that are left
@@ -22,6 +23,14 @@ module _ {A : Type 0} where
       sym (ap (λ ws. joined xs (each item ws)) is
       ∙ (ap (λ o. joined xs (option_and_then (before (each item words)) o)) e
       ∙ joined_before xs x (each item words)))
+
+  -- the same, as it is said of the items so far
+  pub each_added : (item : List ℕ → Option A) (xs ys : List A) (word : List ℕ) (words : List (List ℕ)) (all : List (List ℕ)) → all ≡ word ∷ words → option_map (λ x. xs ++ x ∷ []) (item word) ≡ Some ys → joined ys (each item words) ≡ joined xs (each item all)
+  each_added item xs ys word words all is e = by (item word) refl e
+    where
+      by : (o : Option A) → item word ≡ o → option_map (λ x. xs ++ x ∷ []) o ≡ Some ys → joined ys (each item words) ≡ joined xs (each item all)
+      by None z k = absurd cc
+      by (Some x) z k = ap (λ zs. joined zs (each item words)) (sym (same_Some (xs ++ x ∷ []) ys k)) ∙ each_goes_on item xs x word words all is z
 
   -- a word that is wrong
   pub each_stops : (item : List ℕ → Option A) (xs : List A) (word : List ℕ) (words : List (List ℕ)) (all : List (List ℕ)) → all ≡ word ∷ words → item word ≡ None → joined xs (each item all) ≡ None

@@ -1,5 +1,6 @@
 pub mod Cuts
 pub mod FarEnds
+pub mod Firsts
 pub mod Joined
 pub mod Hex
 pub mod Digits

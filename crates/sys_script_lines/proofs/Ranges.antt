@@ -10,11 +10,9 @@ use Rattle.std.proofs.lemmas.Option.{same_Some}
 use Rattle.system_side.specs.declared.file.Scripted.{Scripted}
 use Rattle.system_side.specs.declared.file.SysFile.{SysFile}
 use Rattle.sys_script_lines.specs.declared.externals.External.{External}
-use Rattle.sys_script_lines.specs.declared.item.Item.{Item}
-use Rattle.sys_script_lines.specs.declared.item.Item.TheVariants.{Nothing, Budget, Chunk, Schedule, Answer}
 use Rattle.sys_script_lines.specs.Answers.{answer, answer_by, answer_of, result_in, scripted}
 use Rattle.sys_script_lines.specs.Each.{before, each}
-use Rattle.sys_script_lines.specs.Lines.{answer_line, budget_line, chunk_line, said_by, says, schedule_line}
+use Rattle.sys_script_lines.specs.Lines.{Item, Nothing, Budget, Chunk, Schedule, Answer, answer_line, budget_line, chunk_line, said_by, says, schedule_line}
 use Rattle.sys_script_lines.specs.Numbers.{number, number_in, within}
 use Rattle.sys_script_lines.specs.Parts.{cut_at, parts}
 use Rattle.sys_script_lines.specs.Pieces.{hex_byte, hex_bytes, hex_digit, piece}

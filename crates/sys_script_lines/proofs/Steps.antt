@@ -1,8 +1,8 @@
 -- A file, line by line.
-use Rattle.std.proofs.Common.{◌≡◌, ℕ, ◌+◌, List, [], ◌∷◌, Option, Some, None, refl, sym, ap, ◌∙◌}
+use Rattle.std.proofs.Common.{◌≡◌, ℕ, ◌+◌, List, ◌∷◌, Option, Some, None, sym, ap, ◌∙◌}
 use Rattle.sys_script_lines.specs.declared.externals.External.{External}
 use Rattle.sys_script_lines.specs.Parts.{parts}
-use Rattle.sys_script_lines.specs.Scripts.{SaidSoFar, Script, Breaks, after_line, goes_on, script}
+use Rattle.sys_script_lines.specs.Scripts.{SaidSoFar, Breaks, after_line, goes_on, script}
 use Rattle.sys_script_lines.proofs.Cuts.{first_part}
 
 on_parts : (who : List ℕ → Option External) (line : ℕ) (s : SaidSoFar) (text next : List ℕ) (texts more : List (List ℕ)) → more ≡ next ∷ texts

@@ -1,5 +1,5 @@
 -- What a line says of an answer of a function.
-use Rattle.std.specs.Prelude.{ℕ, ◌-◌, ◌^◌, ◌==◌, if◌then◌else◌, List, [], ◌∷◌, length, Option, Some, None}
+use Rattle.std.specs.Prelude.{ℕ, ◌-◌, ◌^◌, ◌==◌, if◌then◌else◌, List, [], ◌∷◌, ◌++◌, length, Option, None}
 use Rattle.std.specs.Option.{option_map, option_and_then}
 use Rattle.system_side.specs.declared.file.Scripted.{Scripted}
 use Rattle.sys_script_lines.specs.declared.externals.External.{External}
@@ -32,3 +32,7 @@ answer_of e (result ∷ words) = option_and_then (answer_by e result) (each piec
 abbrev pub answer : (List ℕ → Option External) → List (List ℕ) → Option Scripted
 answer who [] = None
 answer who (name ∷ words) = option_and_then (λ e. answer_of e words) (who name)
+
+-- the answers so far, and one more, where there is one
+abbrev pub with_answer : List Scripted → Option Scripted → Option (List Scripted)
+with_answer so_far more = option_map (λ a. so_far ++ a ∷ []) more

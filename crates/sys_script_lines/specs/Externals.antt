@@ -1,9 +1,10 @@
 -- The functions that a system file answers, by their names.
-use Rattle.std.specs.Prelude.{ℕ, List, [], ◌∷◌, map, Option, Some, None, if◌then◌else◌, Vec}
+use Rattle.std.specs.Prelude.{◌≡◌, ℕ, List, [], ◌∷◌, map, Option, Some, None, if◌then◌else◌, Vec}
 use Rattle.std.specs.declared.alloc.Global.{Global}
 use Rattle.std.specs.Map.{lookup}
 use Rattle.std.specs.Str.{bytes_eq}
 use Rattle.sys_script_lines.specs.declared.externals.External.{External}
+use Rattle.sys_script_lines.specs.Parts.{parts}
 
 -- the function of a name; where several have it, the first
 abbrev pub external_named : List ℕ → List (List ℕ × External) → Option External
@@ -29,3 +30,9 @@ texts entries = map (λ e. (e.0.items, e.1)) entries
 -- what is kept under a name
 abbrev pub kept_at : List ℕ → List (Name × External) → Option External
 kept_at name entries = lookup (λ k. bytes_eq name k.items) entries
+
+-- the words are a name and others; the function is that of the name
+pub record IsNamed (es : List (List ℕ × External)) (words : List ℕ) (found : Option External) (rest : List ℕ) : Type 0 where
+  pub name : List ℕ
+  pub words_are : parts 32 words ≡ name ∷ parts 32 rest
+  pub found_is : found ≡ external_named name es

@@ -3,14 +3,22 @@
 use Rattle.std.specs.Prelude.{ℕ, ◌==◌, if◌then◌else◌, List, [], ◌∷◌, codes, Option, Some, None}
 use Rattle.std.specs.Option.{option_map, option_and_then}
 use Rattle.std.specs.Str.{bytes_eq}
+use Rattle.system_side.specs.declared.file.Scripted.{Scripted}
 use Rattle.sys_script_lines.specs.declared.externals.External.{External}
-use Rattle.sys_script_lines.specs.declared.item.Item.{Item}
-use Rattle.sys_script_lines.specs.declared.item.Item.TheVariants.{Nothing, Budget, Chunk, Schedule, Answer}
 use Rattle.sys_script_lines.specs.Answers.{answer}
 use Rattle.sys_script_lines.specs.Each.{each}
 use Rattle.sys_script_lines.specs.Numbers.{number_in}
 use Rattle.sys_script_lines.specs.Parts.{cut_at, parts}
 use Rattle.sys_script_lines.specs.Turns.{turn}
+
+-- what a line says: nothing, how many steps a run may make, how many records a chunk of the log has, which thread is to step
+-- when, or what a function answers
+pub data Item : Type 0 where
+  Nothing : Item
+  Budget : ℕ → Item
+  Chunk : ℕ → Item
+  Schedule : List (ℕ × ℕ) → Item
+  Answer : Scripted → Item
 
 abbrev pub budget_line : List ℕ → Option Item
 budget_line text = option_map Budget (number_in 0 100000000 text)

@@ -1,5 +1,5 @@
 -- Texts that a byte parts: lines, words, the two halves of a turn.
-use Rattle.std.specs.Prelude.{ℕ, ◌==◌, if◌then◌else◌, List, [], ◌∷◌, Option, Some, None}
+use Rattle.std.specs.Prelude.{◌≡◌, ℕ, ◌==◌, if◌then◌else◌, List, [], ◌∷◌, Option, Some, None}
 use Rattle.std.specs.List.{slice_split}
 use Rattle.std.specs.Option.{option_map}
 
@@ -19,3 +19,7 @@ cut_at end (b ∷ bs) = if b == end then Some ([], bs) else option_map (onto b) 
 -- two texts, seen by a view of each
 abbrev pub pair_of : {A B : Type 0} → (A → B) → Option (A × A) → Option (B × B)
 pair_of view found = option_map (λ x. (view x.0, view x.1)) found
+
+-- a text that is one part, since it has no byte of this value
+abbrev pub IsPart : ℕ → List ℕ → Type 0
+IsPart end text = parts end text ≡ text ∷ []

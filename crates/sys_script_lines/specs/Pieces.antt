@@ -1,5 +1,5 @@
 -- Pieces of bytes, in hexadecimal digits of lower case.
-use Rattle.std.specs.Prelude.{ℕ, ◌+◌, ◌*◌, ◌-◌, ◌==◌, ◌&&◌, nat_le, if◌then◌else◌, List, [], ◌∷◌, Option, Some, None}
+use Rattle.std.specs.Prelude.{ℕ, ◌+◌, ◌*◌, ◌-◌, ◌==◌, ◌&&◌, nat_le, if◌then◌else◌, List, [], ◌∷◌, ◌++◌, Option, Some, None}
 use Rattle.std.specs.Option.{option_map, option_and_then}
 use Rattle.sys_script_lines.specs.Each.{before}
 
@@ -23,3 +23,7 @@ abbrev pub piece : List ℕ → Option (List ℕ)
 piece [] = None
 piece (b ∷ []) = if b == 45 then Some [] else None
 piece (b ∷ c ∷ digits) = hex_bytes (b ∷ c ∷ digits)
+
+-- the pieces so far, and one more, where there is one
+abbrev pub with_piece : List (List ℕ) → Option (List ℕ) → Option (List (List ℕ))
+with_piece so_far more = option_map (λ p. so_far ++ p ∷ []) more

@@ -6,9 +6,7 @@ use Rattle.system_side.specs.declared.file.SysFile.{SysFile}
 use Rattle.sys_script_lines.specs.declared.error.ScriptError.{ScriptError}
 use Rattle.sys_script_lines.specs.declared.error.ScriptError.TheVariants.{Line, Memory}
 use Rattle.sys_script_lines.specs.declared.externals.External.{External}
-use Rattle.sys_script_lines.specs.declared.item.Item.{Item}
-use Rattle.sys_script_lines.specs.declared.item.Item.TheVariants.{Nothing, Budget, Chunk, Schedule, Answer}
-use Rattle.sys_script_lines.specs.Lines.{says}
+use Rattle.sys_script_lines.specs.Lines.{Item, Nothing, Budget, Chunk, Schedule, Answer, says}
 use Rattle.sys_script_lines.specs.Parts.{parts}
 
 -- what several lines say

@@ -1,5 +1,5 @@
 -- The turns of a schedule.
-use Rattle.std.specs.Prelude.{ℕ, ◌-◌, List, [], ◌∷◌, Option, Some, None}
+use Rattle.std.specs.Prelude.{ℕ, ◌-◌, List, Option, Some, None}
 use Rattle.std.specs.Option.{option_map, option_and_then}
 use Rattle.run_events.specs.declared.event.TheConstants.{LOG_THREADS}
 use Rattle.sys_script_lines.specs.Parts.{cut_at}

@@ -21,6 +21,20 @@ pub(crate) fn cut(text: &[u8], end: u8) -> Option<(&[u8], &[u8])>
     None
 }
 
+/// The same as `cut`, where the first `end` mostly comes second.
+#[inline(always)]
+pub(crate) fn cut_near(text: &[u8], end: u8) -> Option<(&[u8], &[u8])>
+    ensures cut { pair_of (λ x. x.now) result ≡ cut_at end text.now }
+    ensures parts { IfSome result (λ x. parts end text.now ≡ x.0.now ∷ parts end x.1.now) }
+    ensures last { IfNone result (parts end text.now ≡ text.now ∷ []) }
+    ensures shorter { IfSome result (λ x. length x.1.now < length text.now) }
+{
+    match text {
+        [first, second, ..] if *first != end && *second == end => { Some((&text[..1], &text[2..])) }
+        _ => cut(text, end),
+    }
+}
+
 /// How long a text is in which an `end` may be far.
 const FAR: usize = 32;
 

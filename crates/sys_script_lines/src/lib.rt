@@ -5,7 +5,7 @@ mod answer;
 mod cut;
 mod error;
 mod externals;
-mod item;
+mod finder;
 mod laws;
 mod number;
 mod piece;

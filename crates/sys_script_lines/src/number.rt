@@ -33,6 +33,7 @@ fn number_up_to(text: &[u8], most: u64) -> Option<u64>
 {
     match text {
         [] | [b'0', _, ..] => None,
+        [digit] => with_digit(0, *digit, most),
         _ => digits(text, most),
     }
 }

@@ -2,7 +2,7 @@
 
 ghost use Rattle.std.specs.Prelude.{◌≡◌};
 ghost use Rattle.sys_script_lines.specs.Each.{each};
-ghost use Rattle.sys_script_lines.specs.Pieces.{hex_byte, hex_bytes, hex_digit, piece};
+ghost use Rattle.sys_script_lines.specs.Pieces.{hex_byte, hex_bytes, hex_digit, piece, with_piece};
 ghost use Rattle.sys_script_lines.specs.Says.{Says};
 ghost use Rattle.sys_script_lines.specs.Parts.{parts};
 
@@ -10,6 +10,7 @@ use crate::cut::cut_far;
 use crate::error::Wrong;
 use run_events::Bytes;
 use std::alloc::Global;
+use system_side::AnswersSoFar;
 
 /// The value of a hexadecimal digit in lower case.
 fn hex_digit(byte: u8) -> Option<u8>
@@ -62,18 +63,26 @@ fn piece(alloc: Global, word: &[u8]) -> Result<Vec<u8>, Wrong>
     }
 }
 
-/// The pieces of several words, of which about so many are expected.
-pub(crate) fn pieces(alloc: Global, expected: usize, words: &[u8]) -> Result<Vec<Bytes>, Wrong>
-    ensures { Says (λ v. v.items) result (each piece (parts 32 words.now)) }
+/// Adds the piece that a word is to those of an answer.
+fn add_piece(alloc: Global, answers: &mut AnswersSoFar, word: &[u8]) -> Result<(), Wrong>
+    ensures added { Says (λ _. answers.new.begun) result (with_piece answers.old.begun (piece word.now)) }
+    ensures same { answers.new.ended ≡ answers.old.ended }
 {
-    let mut pieces = Vec::with_capacity(alloc, expected.min(words.len()))?;
+    let bytes = piece(alloc, word)?;
+    answers.add(Bytes::from(bytes))?;
+    Ok(())
+}
+
+/// Begins an answer with the pieces of several words.
+pub(crate) fn pieces(alloc: Global, answers: &mut AnswersSoFar, words: &[u8]) -> Result<(), Wrong>
+    ensures pieces { Says (λ _. answers.new.begun) result (each piece (parts 32 words.now)) }
+    ensures same { answers.new.ended ≡ answers.old.ended }
+{
+    answers.begin();
     let mut rest = words;
     while let Some((word, after)) = cut_far(rest, b' ') {
-        let bytes = piece(alloc, word)?;
-        pieces.push(Bytes::from(bytes))?;
+        add_piece(alloc, answers, word)?;
         rest = after;
     }
-    let bytes = piece(alloc, rest)?;
-    pieces.push(Bytes::from(bytes))?;
-    Ok(pieces)
+    add_piece(alloc, answers, rest)
 }

@@ -2,29 +2,15 @@
 
 ghost use Rattle.std.specs.Prelude.{◌≡◌, ◌≤◌, length};
 ghost use Rattle.sys_script_lines.specs.Externals.{named_in};
-ghost use Rattle.sys_script_lines.specs.Says.{Says};
-ghost use Rattle.sys_script_lines.specs.Scripts.{IsRead, after_line, script_of};
+ghost use Rattle.sys_script_lines.specs.Scripts.{IsRead, script_of};
 
 use crate::cut::cut_far;
-use crate::error::{ScriptError, Wrong};
+use crate::error::ScriptError;
 use crate::externals::Externals;
-use crate::item::item_of;
+use crate::finder::Finder;
 use crate::said::Said;
 use std::alloc::Global;
 use system_side::SysFile;
-
-// Takes what one more line says.
-fn take_line(
-    said: &mut Said,
-    alloc: Global,
-    externals: &Externals,
-    line: &[u8],
-) -> Result<(), Wrong>
-    ensures { Says (λ _. said.new) result (after_line (named_in externals.now) said.old line.now) }
-{
-    let item = item_of(alloc, externals, line)?;
-    said.hear(item)
-}
 
 /// The system file whose bytes these are, where these functions have no body.
 ///
@@ -39,10 +25,11 @@ pub fn read_lines(
     ensures { IsRead (script_of (named_in externals.now) bytes.now) result }
 {
     let mut said = Said::new(alloc);
+    let mut finder = Finder::new(externals, b"".as_slice());
     let mut rest = bytes;
     let mut number = 1;
     while let Some((line, after)) = cut_far(rest, b'\n') {
-        match take_line(&mut said, alloc, externals, line) {
+        match said.hear(alloc, &mut finder, line) {
             Ok(()) => {
                 rest = after;
                 number += 1;

@@ -6,7 +6,7 @@ ghost use Rattle.sys_script_lines.specs.Says.{Says};
 ghost use Rattle.sys_script_lines.specs.Parts.{parts};
 ghost use Rattle.sys_script_lines.specs.Turns.{thread, turn};
 
-use crate::cut::cut;
+use crate::cut::cut_near;
 use crate::error::Wrong;
 use crate::number::number;
 use run_events::LOG_THREADS;
@@ -27,7 +27,7 @@ fn thread(text: &[u8]) -> Option<u8>
 fn turn(word: &[u8]) -> Option<(u8, u32)>
     ensures { result ≡ turn word.now }
 {
-    match cut(word, b'*') {
+    match cut_near(word, b'*') {
         None => {
             let thread = thread(word)?;
             Some((thread, 1))
@@ -46,7 +46,7 @@ pub(crate) fn turns(alloc: Global, words: &[u8]) -> Result<Vec<(u8, u32)>, Wrong
 {
     let mut turns = Vec::new(alloc);
     let mut rest = words;
-    while let Some((word, after)) = cut(rest, b' ') {
+    while let Some((word, after)) = cut_near(rest, b' ') {
         let Some(next) = turn(word) else {
             return Err(Wrong::Text);
         };

@@ -1,4 +1,5 @@
 mod Bits
 mod Rounds
 mod Places
+mod Flat
 mod State

@@ -1,4 +1,5 @@
 pub mod Schedule
 pub mod Threads
 pub mod Answers
+pub mod AnswerLists
 pub mod System

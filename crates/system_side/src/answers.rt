@@ -4,7 +4,7 @@ ghost use Rattle.std.specs.Prelude.{◌≡◌, ℕ, ◌+◌, ◌<◌, ◌++◌, 
 ghost use Rattle.std.specs.List.{slice_get};
 ghost use Rattle.system_side.specs.Answers.{left_of, places_of};
 
-use crate::file::Scripted;
+use crate::answer_list::Answers;
 use std::alloc::{AllocError, Global};
 use std::collections::VecDeque;
 use std::marker::Model;
@@ -69,14 +69,14 @@ impl Model for Left {
 
 impl Left {
     /// The places of all answers.
-    pub fn new(alloc: Global, answers: &[Scripted]) -> Result<Left, AllocError>
+    pub fn new(alloc: Global, answers: &Answers) -> Result<Left, AllocError>
         ensures { IfOk result (λ left. (f : ℕ) → left_of left f ≡ places_of f 0 answers.now) }
     {
         let mut left = Left {
             queues: Vec::new(alloc),
         };
-        for (place, answer) in answers.iter().enumerate() {
-            left.add(alloc, answer.func, place)?;
+        for place in 0..answers.len() {
+            left.add(alloc, answers.get(place).func, place)?;
         }
         Ok(left)
     }

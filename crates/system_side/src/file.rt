@@ -1,6 +1,7 @@
 //! What a system file says.
 
-use crate::lists::{Answers, Schedule};
+use crate::answer_list::Answers;
+use crate::lists::Schedule;
 use run_events::Pieces;
 
 /// What the system side of a run is to do: how many steps it may make, how many records a chunk of the log has, which
@@ -14,7 +15,7 @@ pub struct SysFile {
 }
 
 /// One answer of the function with this number: its result, a 64-bit two's complement pattern, and the bytes that it
-/// writes, one piece for each region.
+/// writes, one piece for each region. Contracts see the answers of a list as such.
 #[derive(Drop)]
 pub struct Scripted {
     pub func: u16,

@@ -1,6 +1,7 @@
 //! The system below the cut: which thread steps next, mutexes, threads, and the answers of a system file.
 #![tactic(auto)]
 
+mod answer_list;
 mod answers;
 mod file;
 mod lists;
@@ -9,7 +10,8 @@ mod system;
 mod threads;
 mod turns;
 
+pub use answer_list::{Answer, Answers, AnswersSoFar};
 pub use file::{Scripted, SysFile};
-pub use lists::{Answers, Schedule};
+pub use lists::Schedule;
 pub use system::System;
 pub use threads::Wait;

@@ -2,9 +2,7 @@
 //! without taking memory.
 
 ghost use Rattle.std.specs.Prelude.{◌≡◌, ℕ, List};
-ghost use Rattle.system_side.specs.declared.file.Scripted.{Scripted};
 
-use crate::file::Scripted;
 use std::marker::Model;
 
 /// Which thread is to step, and for how many steps, one item after the other.
@@ -41,42 +39,5 @@ impl From<Vec<(u8, u32)>> for Schedule {
 
     fn from(items: Vec<(u8, u32)>) -> Schedule {
         Schedule { items }
-    }
-}
-
-/// What functions answer, in the order of the file.
-#[derive(Drop)]
-pub struct Answers {
-    items: Vec<Scripted>,
-}
-
-impl Model for Answers {
-    ghost Value = { List Scripted };
-
-    ghost view = { λ l. l.items.items };
-}
-
-impl Answers {
-    /// The answers, in order.
-    pub fn as_slice(&self) -> &[Scripted]
-        ensures { result.now ≡ self.now }
-    {
-        &self.items
-    }
-
-    /// The vector of the answers.
-    pub fn into_vec(self) -> Vec<Scripted>
-        ensures { result.items ≡ self }
-    {
-        let Answers { items } = self;
-        items
-    }
-}
-
-impl From<Vec<Scripted>> for Answers {
-    ghost from_gives = { λ v l. l ≡ v.items };
-
-    fn from(items: Vec<Scripted>) -> Answers {
-        Answers { items }
     }
 }

@@ -55,7 +55,7 @@ impl System {
     {
         let turns = Turns::new(alloc, &file.schedule)?;
         let threads = Threads::new(alloc)?;
-        let left = Left::new(alloc, file.answers.as_slice())?;
+        let left = Left::new(alloc, &file.answers)?;
         Ok(System {
             turns,
             threads,

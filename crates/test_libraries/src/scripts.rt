@@ -4,7 +4,7 @@ use run_events::Bytes;
 use std::alloc::{AllocError, Global};
 use std::test::Fail;
 use sys_script_lines::{External, Externals, ScriptError, read_lines};
-use system_side::{Scripted, SysFile};
+use system_side::{Answer, SysFile};
 
 /// How many bytes a file may have.
 const MOST_BYTES: usize = 1_048_576;
@@ -86,10 +86,10 @@ fn put_piece(to: &mut String, piece: &Bytes) -> Result<(), AllocError> {
 }
 
 /// Adds an answer: its function, its result, and its pieces.
-fn put_answer(alloc: Global, to: &mut String, answer: &Scripted) -> Result<(), AllocError> {
+fn put_answer(alloc: Global, to: &mut String, answer: Answer<'_>) -> Result<(), AllocError> {
     let text = format!(in alloc; " {}={}", answer.func, answer.result)?;
     to.push_str(text.as_str())?;
-    for piece in answer.pieces.as_slice() {
+    for piece in answer.pieces {
         put_piece(to, piece)?;
     }
     Ok(())
@@ -102,8 +102,8 @@ fn shown(alloc: Global, file: &SysFile) -> Result<String, AllocError> {
         let turn = format!(in alloc; " {thread}*{steps}")?;
         text.push_str(turn.as_str())?;
     }
-    for answer in file.answers.as_slice() {
-        put_answer(alloc, &mut text, answer)?;
+    for place in 0..file.answers.len() {
+        put_answer(alloc, &mut text, file.answers.get(place))?;
     }
     Ok(text)
 }

@@ -4,10 +4,9 @@ ghost use Rattle.std.specs.Prelude.{◌≡◌, ◌<◌, true, length, IfOk};
 ghost use Rattle.std.specs.List.{All};
 ghost use Rattle.system_side.specs.Threads.{has_not_ended};
 
-use run_events::Pieces;
 use std::alloc::{AllocError, Global};
 use std::test::Fail;
-use system_side::{Answers, Schedule, Scripted, SysFile, System};
+use system_side::{AnswersSoFar, Schedule, SysFile, System};
 
 /// What a thread gets that has ended or is blocked, and so makes no call.
 const NO_CALL: Option<i32> = Some(-2);
@@ -29,19 +28,16 @@ enum Call {
 fn file(alloc: Global, turns: &[(u8, u32)], functions: &[u16]) -> Result<SysFile, AllocError>
     ensures { IfOk result (λ f. f.schedule ≡ turns.now) }
 {
-    let mut answers = Vec::new(alloc);
+    let mut answers = AnswersSoFar::new(alloc);
     for func in functions {
-        answers.push(Scripted {
-            func: *func,
-            result: 0,
-            pieces: Pieces::new(alloc),
-        })?;
+        answers.begin();
+        answers.end(*func, 0)?;
     }
     Ok(SysFile {
         budget: 0,
         chunk: 1,
         schedule: Schedule::from(Vec::from_slice(alloc, turns)?),
-        answers: Answers::from(answers),
+        answers: answers.finish(),
     })
 }
 

@@ -5,7 +5,7 @@ use hex::encode;
 use run_events::Bytes;
 use std::alloc::{AllocError, Global};
 use sys_script::{ScriptError, read};
-use system_side::{Scripted, SysFile};
+use system_side::{Answer, SysFile};
 use test_cases::Output;
 
 /// A source, and a system file, has no more bytes.
@@ -27,12 +27,12 @@ fn put_piece(alloc: Global, text: &mut Output, piece: &Bytes) -> Result<(), Allo
 }
 
 /// Adds the line of an answer: the number of its function, its result as a number of 64 bits, and its pieces.
-fn put_answer(alloc: Global, text: &mut Output, answer: &Scripted) -> Result<(), AllocError> {
+fn put_answer(alloc: Global, text: &mut Output, answer: Answer<'_>) -> Result<(), AllocError> {
     text.put("answer ");
     text.put_number(u64::from(answer.func));
     text.put(" ");
     text.put_number(answer.result);
-    for piece in answer.pieces.as_slice() {
+    for piece in answer.pieces {
         put_piece(alloc, text, piece)?;
     }
     text.put("\n");
@@ -54,8 +54,8 @@ fn said_by(alloc: Global, file: &SysFile) -> Result<Output, AllocError> {
         text.put_number(u64::from(turn.1));
         text.put("\n");
     }
-    for answer in file.answers.as_slice() {
-        put_answer(alloc, &mut text, answer)?;
+    for place in 0..file.answers.len() {
+        put_answer(alloc, &mut text, file.answers.get(place))?;
     }
     Ok(text)
 }

@@ -42,7 +42,10 @@ use Rattle.whole_runs_memory.proofs.Seen.{held_same, seen_above, frames_above, o
 use Rattle.whole_runs_memory.proofs.Bytes.{number_bytes, outside_number, written_is}
 
 -- a mark above the cut leaves what is below it as it is
-pub raised : (w : World) (past : List Mark) (now : ℕ → Option ℕ) (old new : SpaceState) (m : Mark) → Stands w past now old → m.side ≡ Replay → StandsFor (begin w) (m ∷ seen past) new → new.sides.system ≡ old.sides.system → HoldsNoConstant new → ((bs : List Range) → act_blocks m.act bs ≡ bs) → ((x : ℕ) → byte_at new.bytes x ≡ left_by w (m ∷ past) x m.act (real w past x)) → StandsForWhole w (m ∷ past) new
+pub raised : (w : World) (past : List Mark) (now : ℕ → Option ℕ) (old new : SpaceState) (m : Mark) → Stands w past now old → m.side ≡ Replay →
+    StandsFor (begin w) (m ∷ seen past) new → new.sides.system ≡ old.sides.system → HoldsNoConstant new →
+    ((bs : List Range) → act_blocks m.act bs ≡ bs) → ((x : ℕ) → byte_at new.bytes x ≡ left_by w (m ∷ past) x m.act (real w past x)) →
+    StandsForWhole w (m ∷ past) new
 raised w past now old new m h above stands system constants blocks bytes = record {
   above = subst (λ p. StandsFor (begin w) p new) (sym (seen_above w m past above)) stands;
   constants = constants;
@@ -54,40 +57,45 @@ raised w past now old new m h above stands system constants blocks bytes = recor
 -- ---- stores and frames
 
 pub stores : (w : World) → StoresAboveAreWhole w
-stores w past old new m origin thread addr width value h above small has same rest ok is =
+stores w past old new m origin thread addr width value h above small k is =
     raised w past (real w past) old new m h above
-    (access.stores (begin w) (seen past) old new m origin thread addr width value h.above small has same rest ok is).stands
-    (ap (λ (q : SpaceState). q.sides.system) rest)
-    (held_same old new (ap (λ (q : SpaceState). q.held) rest) h.constants)
+    (access.stores (begin w) (seen past) old new m origin thread addr width value h.above small k is).stands
+    (ap (λ (q : SpaceState). q.sides.system) k.rest)
+    (held_same old new (ap (λ (q : SpaceState). q.held) k.rest) h.constants)
     (λ bs. ap (λ a. act_blocks a bs) is)
-    (λ x. written_is old.bytes new.bytes addr (bytes_of_number width value) x (real w past x) (number_bytes new.bytes addr width value has) (outside_number (range addr width) old.bytes new.bytes value same) (h.bytes x) ∙ sym (ap (λ a. left_by w (m ∷ past) x a (real w past x)) is))
+    (λ x. written_is old.bytes new.bytes addr (bytes_of_number width value) x (real w past x)
+    (number_bytes new.bytes addr width value k.number) (outside_number (range addr width) old.bytes new.bytes value k.others)
+    (h.bytes x) ∙ sym (ap (λ a. left_by w (m ∷ past) x a (real w past x)) is))
 
 pub enters : (w : World) → EntersAboveAreWhole w
-enters w past old new m func args bytes addr size h above lt sides place free held has same count is =
-    let e = frames.enters (begin w) (seen past) old new m func args bytes addr size h.above lt sides place free held has same count is in
+enters w past old new m func args bytes addr size h above lt k is =
+    let e = frames.enters (begin w) (seen past) old new m func args bytes addr size h.above lt k is in
     record {
       place = e.place ∙ ap (λ mine. end_of (stack Replay m.thread) (opened.frames mine)) (own_seen w m.thread past);
       stands = raised w past (real w past) old new m h above e.mark.stands
-          (ap (λ (q : Sides). q.system) sides)
-          (held_same old new held h.constants)
+          (ap (λ (q : Sides). q.system) k.frame.sides)
+          (held_same old new k.frame.held h.constants)
           (λ bs. ap (λ a. act_blocks a bs) is)
-          (λ x. written_is old.bytes new.bytes addr bytes x (real w past x) has (subst (λ n. SameOutside (range addr n) old.bytes new.bytes) (sym count) same) (h.bytes x) ∙ sym (ap (λ a. left_by w (m ∷ past) x a (real w past x)) is));
+          (λ x. written_is old.bytes new.bytes addr bytes x (real w past x) k.bytes_are
+          (subst (λ n. SameOutside (range addr n) old.bytes new.bytes) (sym k.count) k.others) (h.bytes x) ∙ sym
+          (ap (λ a. left_by w (m ∷ past) x a (real w past x)) is));
     }
 
-filled_is : (old new : SpaceState) (r : Range) (v : Option ℕ) (x : ℕ) (before : Option ℕ) → FillsWith r v old.bytes new.bytes → byte_at old.bytes x ≡ before → byte_at new.bytes x ≡ cond (covers r x) v before
+filled_is : (old new : SpaceState) (r : Range) (v : Option ℕ) (x : ℕ) (before : Option ℕ) → FillsWith r v old.bytes new.bytes →
+    byte_at old.bytes x ≡ before → byte_at new.bytes x ≡ cond (covers r x) v before
 filled_is old new r v x before fills was = elim (cover_cases r x) [
   | inl in' ↦ fills.filled x in'.is ∙ sym (cond-true (covers r x) _ _ in'.is)
   | inr out ↦ fills.others.bytes x out.is ∙ was ∙ sym (cond-false (covers r x) _ _ out.is)
 ]
 
 pub leaves : (w : World) → LeavesAboveAreWhole w
-leaves w past old new m frame h above lt were sides free held fills is =
+leaves w past old new m frame h above lt free k is =
     raised w past (real w past) old new m h above
-    (frames.leaves (begin w) (seen past) old new m frame h.above lt were sides free held fills is).stands
-    (ap (λ (q : Sides). q.system) sides)
-    (held_same old new held h.constants)
+    (frames.leaves (begin w) (seen past) old new m frame h.above lt free k is).stands
+    (ap (λ (q : Sides). q.system) k.sides)
+    (held_same old new k.held h.constants)
     (λ bs. ap (λ a. act_blocks a bs) is)
-    (λ x. filled_is old new frame None x (real w past x) fills (h.bytes x) ∙ sym (ap (λ a. left_by w (m ∷ past) x a (real w past x)) is))
+    (λ x. filled_is old new frame None x (real w past x) k.dead (h.bytes x) ∙ sym (ap (λ a. left_by w (m ∷ past) x a (real w past x)) is))
 
 -- ---- events
 
@@ -95,7 +103,8 @@ leaves w past old new m frame h above lt were sides free held fills is =
 abbrev left_by_event : World → List Mark → Mark → ℕ → EventKind → Option ℕ → Option ℕ
 left_by_event w past m x k v = cond (changes k x) (value_of (event_leaves k x (byte (begin w) x (seen past)).cell)) v
 
-pub event_left : (w : World) (past : List Mark) (m : Mark) (e : Event) (k : EventKind) (x : ℕ) → m.side ≡ Replay → m.act ≡ Made e → e.kind ≡ k → left_by w (m ∷ past) x m.act (real w past x) ≡ left_by_event w past m x k (real w past x)
+pub event_left : (w : World) (past : List Mark) (m : Mark) (e : Event) (k : EventKind) (x : ℕ) → m.side ≡ Replay → m.act ≡ Made e →
+    e.kind ≡ k → left_by w (m ∷ past) x m.act (real w past x) ≡ left_by_event w past m x k (real w past x)
 event_left w past m e k x above is kind =
     ap (λ a. left_by w (m ∷ past) x a (real w past x)) is
     ∙ ap (λ p. cond (changes e.kind x) (value_of (byte (begin w) x p).cell) (real w past x)) (seen_above w m past above)
@@ -115,20 +124,20 @@ dead_bytes true v c = refl
 dead_bytes false v c = refl
 
 pub allocs : (w : World) → AllocsAboveAreWhole w
-allocs w past old new m e size addr h above place some sides fills held is kind keyed =
+allocs w past old new m e size addr h above k is kind keyed =
     raised w past (real w past) old new m h above
-    (pool.allocs (begin w) (seen past) old new m e size addr h.above place some sides fills held is kind keyed).mark.stands
-    (ap (λ (q : Sides). q.system) sides)
-    (held_same old new held h.constants)
+    (pool.allocs (begin w) (seen past) old new m e size addr h.above k is kind keyed).mark.stands
+    (ap (λ (q : Sides). q.system) k.sides)
+    (held_same old new k.held h.constants)
     (no_blocks m e is)
     (λ x.
-    filled_is old new (range addr size) (Some 0) x (real w past x) fills (h.bytes x)
+    filled_is old new (range addr size) (Some 0) x (real w past x) k.fills (h.bytes x)
     ∙ sym (event_left w past m e (Alloc addr size) x above is kind
     ∙ ap (λ n. cond (within addr n x) (value_of (cond (within addr n x) (Live 0) (byte (begin w) x (seen past)).cell)) (real w past x)) all
     ∙ live_bytes (within addr size x) (real w past x) (byte (begin w) x (seen past))))
   where
     low : replay_pool ≤ addr
-    low = (subst (λ q. IsLeastPlace q size addr) h.above.pool place).is_place.from_base
+    low = (subst (λ q. IsLeastPlace q size addr) h.above.pool k.least).is_place.from_base
 
     all : granted addr size ≡ size
     all = cond-false (eqb addr 0) 0 size (ne_eqb addr 0 (λ z. absurd (omega (arith, z, low))))
@@ -146,14 +155,14 @@ refused_allocs w past memory m e size h above none is kind =
     (λ x. h.bytes x ∙ sym (event_left w past m e (Alloc 0 size) x above is kind ∙ cond-false (within 0 0 x) _ (real w past x) (null_within x)))
 
 pub frees : (w : World) → FreesAboveAreWhole w
-frees w past old new m e addr size h above there sides fills held free is kind keyed =
+frees w past old new m e addr size h above k free is kind keyed =
     raised w past (real w past) old new m h above
-    (pool.frees (begin w) (seen past) old new m e addr size h.above there sides fills held free is kind keyed).stands
-    (ap (λ (q : Sides). q.system) sides)
-    (held_same old new held h.constants)
+    (pool.frees (begin w) (seen past) old new m e addr size h.above k free is kind keyed).stands
+    (ap (λ (q : Sides). q.system) k.sides)
+    (held_same old new k.held h.constants)
     (no_blocks m e is)
     (λ x.
-    filled_is old new (range addr size) None x (real w past x) fills (h.bytes x)
+    filled_is old new (range addr size) None x (real w past x) k.dead (h.bytes x)
     ∙ sym (event_left w past m e (Free addr size) x above is kind ∙ dead_bytes (within addr size x) (real w past x) (byte (begin w) x (seen past))))
 
 pub frees_of_null : (w : World) → FreesOfNullAboveAreWhole w

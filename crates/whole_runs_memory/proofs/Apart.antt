@@ -83,12 +83,19 @@ module _ (call : OpenCall) (k x : ℕ) where
     where
       go : (h : Holder) → g.holder ≡ h → covering (outs_of call gs) x + keyed gs ≤ pending gs x → covering (outs_of call (g ∷ gs)) x + keyed (g ∷ gs) ≤ pending (g ∷ gs) x
       go (In c) e again =
-          subst (λ h. covering (cond (is_out_of call h) (g ∷ outs_of call gs) (outs_of call gs)) x + covering (option_to_list (cond (has_key k h) (Some g) (prepared_region gs k))) x ≤ one (is_pending h && covers g.range x) + pending gs x) (sym e) (omega (arith, again))
+          subst (λ h. covering (cond (is_out_of call h) (g ∷ outs_of call gs) (outs_of call gs)) x + covering
+          (option_to_list (cond (has_key k h) (Some g) (prepared_region gs k))) x ≤ one
+          (is_pending h && covers g.range x) + pending gs x) (sym e) (omega (arith, again))
       go (Out c) e again =
           let n = covering_cond (is_same_call c call) g (outs_of call gs) x in
-          subst (λ h. covering (cond (is_out_of call h) (g ∷ outs_of call gs) (outs_of call gs)) x + covering (option_to_list (cond (has_key k h) (Some g) (prepared_region gs k))) x ≤ one (is_pending h && covers g.range x) + pending gs x) (sym e) (omega (arith, n, again))
+          subst (λ h. covering (cond (is_out_of call h) (g ∷ outs_of call gs) (outs_of call gs)) x + covering
+          (option_to_list (cond (has_key k h) (Some g) (prepared_region gs k))) x ≤ one
+          (is_pending h && covers g.range x) + pending gs x) (sym e) (omega (arith, n, again))
       go (Key j by) e again =
-          subst (λ h. covering (cond (is_out_of call h) (g ∷ outs_of call gs) (outs_of call gs)) x + covering (option_to_list (cond (has_key k h) (Some g) (prepared_region gs k))) x ≤ one (is_pending h && covers g.range x) + pending gs x) (sym e) (either_key (eqb j k) g (prepared_region gs k) (covering (outs_of call gs) x) (pending gs x) again)
+          subst (λ h. covering (cond (is_out_of call h) (g ∷ outs_of call gs) (outs_of call gs)) x + covering
+          (option_to_list (cond (has_key k h) (Some g) (prepared_region gs k))) x ≤ one
+          (is_pending h && covers g.range x) + pending gs x) (sym e)
+          (either_key (eqb j k) g (prepared_region gs k) (covering (outs_of call gs) x) (pending gs x) again)
 
 -- ---- targets
 

@@ -35,12 +35,14 @@ use Rattle.whole_runs_memory.proofs.Seen.{held_same, seen_below, frames_own, fra
 use Rattle.whole_runs_memory.proofs.Bytes.{number_bytes, outside_number, written_is}
 
 pub stores : (w : World) → StoresBelowAreWhole w
-stores w past old new m origin thread addr width value h below small has same rest ok is = record {
-  above = subst (λ p. StandsFor (begin w) p new) (sym (seen_below w m past below)) (unseen.stored (begin w) (seen past) old new thread addr width value h.above small has same rest ok);
-  constants = held_same old new (ap (λ (q : SpaceState). q.held) rest) h.constants;
-  bytes = λ x. written_is old.bytes new.bytes addr (bytes_of_number width value) x (real w past x) (number_bytes new.bytes addr width value has) (outside_number (range addr width) old.bytes new.bytes value same) (h.bytes x) ∙ sym (ap (λ a. left_by w (m ∷ past) x a (real w past x)) is);
-  stacks = λ t lt. ap (λ (q : SpaceState). stack_of q.sides.system.stacks t) rest ∙ h.stacks t lt ∙ ap (stack_below t) (sym (frames_still w m past (λ fs. ap (λ a. frames_after a fs) is) t));
-  pool = ap (λ (q : SpaceState). q.sides.system.pool) rest ∙ h.pool ∙ ap pool_below (sym (ap (λ a. act_blocks a (system_blocks past)) is));
+stores w past old new m origin thread addr width value h below small k is = record {
+  above = subst (λ p. StandsFor (begin w) p new) (sym (seen_below w m past below)) (unseen.stored (begin w) (seen past) old new thread addr width value h.above small k);
+  constants = held_same old new (ap (λ (q : SpaceState). q.held) k.rest) h.constants;
+  bytes = λ x. written_is old.bytes new.bytes addr (bytes_of_number width value) x (real w past x)
+      (number_bytes new.bytes addr width value k.number) (outside_number (range addr width) old.bytes new.bytes value k.others) (h.bytes x)
+      ∙ sym (ap (λ a. left_by w (m ∷ past) x a (real w past x)) is);
+  stacks = λ t lt. ap (λ (q : SpaceState). stack_of q.sides.system.stacks t) k.rest ∙ h.stacks t lt ∙ ap (stack_below t) (sym (frames_still w m past (λ fs. ap (λ a. frames_after a fs) is) t));
+  pool = ap (λ (q : SpaceState). q.sides.system.pool) k.rest ∙ h.pool ∙ ap pool_below (sym (ap (λ a. act_blocks a (system_blocks past)) is));
 }
 
 -- ---- frames
@@ -76,29 +78,34 @@ module _ (w : World) (past : List Mark) (now : ℕ → Option ℕ) (memory : Spa
   )
 
 pub enters : (w : World) → EntersBelowAreWhole w
-enters w past old entered new m func args offsets widths values addr size h below lt sides place free fills held widths_same values_same fit areas set rest is = record {
-  place = place ∙ place_is w past (real w past) old m.thread h lt;
-  room = room_is w past (real w past) old m.thread h lt size free;
+enters w past old entered new m func args offsets widths values addr size h below lt f fills values_same areas k is = record {
+  place = f.place ∙ place_is w past (real w past) old m.thread h lt;
+  room = room_is w past (real w past) old m.thread h lt size f.fits;
   stands = record {
-    above = subst (λ p. StandsFor (begin w) p new) (sym (seen_below w m past below)) (unseen.arguments_set (begin w) (seen past) entered new m.thread (range addr size) offsets widths values entered_above lt top widths_same fit set rest);
-    constants = held_same old new (ap (λ (q : SpaceState). q.held) rest ∙ held) h.constants;
-    bytes = λ x. written_is old.bytes new.bytes addr (bytes_with_args size offsets widths values) x (real w past x) put.bytes (subst (λ n. SameOutside (range addr n) old.bytes new.bytes) (sym put.count) put.outside) (h.bytes x) ∙ sym (ap (λ a. left_by w (m ∷ past) x a (real w past x)) is);
-    stacks = λ t lt'. ap (λ (q : SideState). stack_of q.stacks t) (system ∙ ap (λ fs. with_thread old.sides.system m.thread (fs ++ (range addr size) ∷ [])) (frames_are w past (real w past) old m.thread h lt)) ∙ restacked w past m old.sides.system ((range addr size) ∷ frames_on w System m.thread past) h.above.sound.below.threads lt below h.stacks own t lt';
+    above = subst (λ p. StandsFor (begin w) p new) (sym (seen_below w m past below)) (unseen.arguments_set (begin w) (seen past) entered new m.thread (range addr size) offsets widths values entered_above lt top k);
+    constants = held_same old new (ap (λ (q : SpaceState). q.held) k.rest ∙ f.held) h.constants;
+    bytes = λ x. written_is old.bytes new.bytes addr (bytes_with_args size offsets widths values) x (real w past x) put.bytes
+        (subst (λ n. SameOutside (range addr n) old.bytes new.bytes) (sym put.count) put.outside) (h.bytes x) ∙ sym
+        (ap (λ a. left_by w (m ∷ past) x a (real w past x)) is);
+    stacks = λ t lt'. ap (λ (q : SideState). stack_of q.stacks t)
+        (system ∙ ap (λ fs. with_thread old.sides.system m.thread (fs ++ (range addr size) ∷ []))
+        (frames_are w past (real w past) old m.thread h lt)) ∙ restacked w past m old.sides.system
+        ((range addr size) ∷ frames_on w System m.thread past) h.above.sound.below.threads lt below h.stacks own t lt';
     pool = ap (λ (q : SideState). q.pool) system ∙ h.pool ∙ ap pool_below (sym (ap (λ a. act_blocks a (system_blocks past)) is));
   };
 }
   where
     put : HasArgs addr size offsets widths values old.bytes new.bytes
-    put = arguments old.bytes entered.bytes new.bytes (range addr size) offsets widths values fills widths_same values_same fit areas set
+    put = arguments old.bytes entered.bytes new.bytes (range addr size) offsets widths values fills k.widths_same values_same k.fit areas k.set
 
     now : entered.sides.system ≡ with_thread old.sides.system m.thread (frames_of old.sides.system m.thread ++ (range addr size) ∷ [])
-    now = ap (λ (q : Sides). q.system) sides
+    now = ap (λ (q : Sides). q.system) f.sides
 
     system : new.sides.system ≡ with_thread old.sides.system m.thread (frames_of old.sides.system m.thread ++ (range addr size) ∷ [])
-    system = ap (λ (q : SpaceState). q.sides.system) rest ∙ now
+    system = ap (λ (q : SpaceState). q.sides.system) k.rest ∙ now
 
     entered_above : StandsFor (begin w) (seen past) entered
-    entered_above = unseen.entered (begin w) (seen past) old entered m.thread addr size h.above lt sides place free fills held
+    entered_above = unseen.entered (begin w) (seen past) old entered m.thread addr size h.above lt f fills
 
     top : top_of entered.sides.system m.thread ≡ Some (range addr size)
     top =
@@ -110,25 +117,25 @@ enters w past old entered new m func args offsets widths values addr size h belo
     own = frames_own w m past below ∙ ap (λ a. frames_after a (frames_on w System m.thread past)) is ∙ ap (λ n. range addr n ∷ frames_on w System m.thread past) put.count
 
 pub leaves : (w : World) → LeavesBelowAreWhole w
-leaves w past old new m frame h below lt were sides fills held is = record {
-  above = subst (λ p. StandsFor (begin w) p new) (sym (seen_below w m past below)) (unseen.left (begin w) (seen past) old new m.thread frame h.above lt were sides fills held);
-  constants = held_same old new held h.constants;
+leaves w past old new m frame h below lt l is = record {
+  above = subst (λ p. StandsFor (begin w) p new) (sym (seen_below w m past below)) (unseen.left (begin w) (seen past) old new m.thread frame h.above lt l);
+  constants = held_same old new l.held h.constants;
   bytes = λ x. gone x ∙ sym (ap (λ a. left_by w (m ∷ past) x a (real w past x)) is);
   stacks = λ t lt'. ap (λ (q : SideState). stack_of q.stacks t) (system ∙ ap (with_thread old.sides.system m.thread) k.rest_is) ∙ restacked w past m old.sides.system k.below h.above.sound.below.threads lt below h.stacks own t lt';
   pool = ap (λ (q : SideState). q.pool) system ∙ h.pool ∙ ap pool_below (sym (ap (λ a. act_blocks a (system_blocks past)) is));
 }
   where
     k : IsInnermost (frames_on w System m.thread past) (frames_of new.sides.system m.thread) frame
-    k = innermost (frames_on w System m.thread past) (frames_of new.sides.system m.thread) frame (sym (frames_are w past (real w past) old m.thread h lt) ∙ were)
+    k = innermost (frames_on w System m.thread past) (frames_of new.sides.system m.thread) frame (sym (frames_are w past (real w past) old m.thread h lt) ∙ l.frames)
 
     system : new.sides.system ≡ with_thread old.sides.system m.thread (frames_of new.sides.system m.thread)
-    system = ap (λ (q : Sides). q.system) sides
+    system = ap (λ (q : Sides). q.system) l.sides
 
     own : frames_on w System m.thread (m ∷ past) ≡ k.below
     own = frames_own w m past below ∙ ap (λ a. frames_after a (frames_on w System m.thread past)) is ∙ ap (λ fs. frames_after (Leave frame.addr frame.len) fs) k.is
 
     gone : (x : ℕ) → byte_at new.bytes x ≡ cond (within frame.addr frame.len x) None (real w past x)
     gone x = elim (cover_cases frame x) [
-      | inl in' ↦ fills.filled x in'.is ∙ sym (cond-true (covers frame x) _ _ in'.is)
-      | inr out ↦ fills.others.bytes x out.is ∙ h.bytes x ∙ sym (cond-false (covers frame x) _ _ out.is)
+      | inl in' ↦ l.dead.filled x in'.is ∙ sym (cond-true (covers frame x) _ _ in'.is)
+      | inr out ↦ l.dead.others.bytes x out.is ∙ h.bytes x ∙ sym (cond-false (covers frame x) _ _ out.is)
     ]

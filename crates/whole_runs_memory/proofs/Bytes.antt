@@ -23,14 +23,16 @@ pub outside_number : (r : Range) (old new : List AreaState) (value : ℕ) → Sa
 outside_number r old new value same = subst (λ n. SameOutside (range r.addr n) old new) (sym (count r.len value)) same
 
 -- a byte of such a list
-pub bytes_byte : (bytes : List AreaState) (addr : ℕ) (values : List ℕ) (x : ℕ) → HasBytes bytes addr values → covers (range addr (length values)) x ≡ true → byte_at bytes x ≡ Some (marks.byte_at addr values x)
+pub bytes_byte : (bytes : List AreaState) (addr : ℕ) (values : List ℕ) (x : ℕ) → HasBytes bytes addr values →
+    covers (range addr (length values)) x ≡ true → byte_at bytes x ≡ Some (marks.byte_at addr values x)
 bytes_byte bytes addr values x has c =
     let p = cover_parts (range addr (length values)) x c in
     let at : addr + (x - addr) ≡ x = omega (arith, p.0) in
     ap (byte_at bytes) (sym at) ∙ has (x - addr) (omega (arith, p.0, p.1))
 
 -- memory after a list of bytes was written
-pub written_is : (old new : List AreaState) (addr : ℕ) (values : List ℕ) (x : ℕ) (v : Option ℕ) → HasBytes new addr values → SameOutside (range addr (length values)) old new → byte_at old x ≡ v → byte_at new x ≡ written addr values x v
+pub written_is : (old new : List AreaState) (addr : ℕ) (values : List ℕ) (x : ℕ) (v : Option ℕ) → HasBytes new addr values →
+    SameOutside (range addr (length values)) old new → byte_at old x ≡ v → byte_at new x ≡ written addr values x v
 written_is old new addr values x v has same was = elim (cover_cases (range addr (length values)) x) [
   | inl in' ↦ bytes_byte new addr values x has in'.is ∙ sym (cond-true (covers (range addr (length values)) x) _ _ in'.is)
   | inr out ↦ same.bytes x out.is ∙ was ∙ sym (cond-false (covers (range addr (length values)) x) _ _ out.is)
@@ -72,7 +74,10 @@ zeros_are addr n x v =
     fits_filled (range addr n) (replicate n 0) x v (omega (arith, count_is))
     ∙ ap (λ k. cond (covers (range addr k) x) (Some (marks.byte_at addr (replicate n 0) x)) v) count_is
     ∙ elim (cover_cases (range addr n) x) [
-      | inl in' ↦ cond-true (covers (range addr n) x) _ _ in'.is ∙ ap (λ b. Some b) (get_or-replicate n (x - addr) 0 0 (omega (arith, in'.from, in'.below))) ∙ sym (cond-true (covers (range addr n) x) _ _ in'.is)
+      | inl in' ↦
+          cond-true (covers (range addr n) x) _ _ in'.is
+          ∙ ap (λ b. Some b) (get_or-replicate n (x - addr) 0 0 (omega (arith, in'.from, in'.below)))
+          ∙ sym (cond-true (covers (range addr n) x) _ _ in'.is)
       | inr out ↦ cond-false (covers (range addr n) x) _ _ out.is ∙ sym (cond-false (covers (range addr n) x) _ _ out.is)
     ]
   where

@@ -27,7 +27,8 @@ first_is : (r : Range) (fs : List Range) → IsFirst r fs → first_of fs ≡ So
 first_is r [] h = absurd h
 first_is r (f ∷ fs) h = ap (λ q. Some q) (sym h)
 
-frame_is : (w : World) (past : List Mark) (t : ℕ) (side : Side) (at size : ℕ) → EndsInnermost side (Leaves at size) (opens_by (own w t past)) → first_of (frames_on w side t past) ≡ Some (range at size)
+frame_is : (w : World) (past : List Mark) (t : ℕ) (side : Side) (at size : ℕ) →
+    EndsInnermost side (Leaves at size) (opens_by (own w t past)) → first_of (frames_on w side t past) ≡ Some (range at size)
 frame_is w past t Replay at size h = first_is (range at size) (frames_on w Replay t past) h
 frame_is w past t System at size h = first_is (range at size) (frames_on w System t past) h
 

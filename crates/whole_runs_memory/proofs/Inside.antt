@@ -50,7 +50,9 @@ misses o x area out = elim (cover_cases (object_range o) x) [
 
 none_of : (os : List Place) (x : ℕ) (v : Option ℕ) → All IsInArea os → IsOutside x → byte_of os x v ≡ v
 none_of [] x v areas out = refl
-none_of (o ∷ rest) x v areas out = ap (byte_of rest x) (cond-false (covers (object_range o) x) _ v (misses o x (All-head IsInArea o rest areas) out)) ∙ none_of rest x v (All-tail IsInArea o rest areas) out
+none_of (o ∷ rest) x v areas out =
+    ap (byte_of rest x) (cond-false (covers (object_range o) x) _ v (misses o x (All-head IsInArea o rest areas) out))
+    ∙ none_of rest x v (All-tail IsInArea o rest areas) out
 
 pub none_placed : (w : World) (x : ℕ) → All IsInArea w.laid.placed.globals → All IsInArea w.laid.placed.strings → IsOutside x → placed_at w x ≡ None
 none_placed w x globals strings out = none_of w.laid.placed.strings x (byte_of w.laid.placed.globals x None) strings out ∙ none_of w.laid.placed.globals x None globals out
@@ -69,7 +71,10 @@ freed_none : (b : Bool) (c : Cell) (v : Option ℕ) → v ≡ None → cond b (v
 freed_none true c v e = refl
 freed_none false c v e = e
 
-module _ (w : World) (past : List Mark) (m : Mark) (s : Picked w past) (made : IsMade w past s m) (above : m.side ≡ Replay) (still : IsNoStep m.act) (lt : m.thread < thread_count) (whole : IsWhole (begin w) (seen past)) (after : IsWhole (begin w) (seen (m ∷ past))) (x : ℕ) (out : IsOutside x) (none : real w past x ≡ None) (dead : (byte (begin w) x (seen past)).cell ≡ Dead) where
+module _ (w : World) (past : List Mark) (m : Mark) (s : Picked w past) (made : IsMade w past s m) (above : m.side ≡ Replay)
+    (still : IsNoStep m.act) (lt : m.thread < thread_count) (whole : IsWhole (begin w) (seen past))
+    (after : IsWhole (begin w) (seen (m ∷ past))) (x : ℕ) (out : IsOutside x) (none : real w past x ≡ None)
+    (dead : (byte (begin w) x (seen past)).cell ≡ Dead) where
   abbrev i : Interface
   i = interface w
 
@@ -125,7 +130,9 @@ module _ (w : World) (past : List Mark) (m : Mark) (s : Picked w past) (made : I
 
     allocs : (at size : ℕ) → e.kind ≡ Alloc at size → cond (within at (granted at size) x) (value_of (cond (within at (granted at size) x) (Live 0) c)) v ≡ None
     allocs at size kind =
-        let place : IsPlace replay_pool (blocks_from (begin w).blocks (new_events (OfKey (key Pool 0)) (seen past))) size at = subst (λ k. SharedEvent i (begin w) Pool 0 (new_events (OfKey (key Pool 0)) (seen past)) k) kind (shared (key Pool 0) (has_it (Alloc at size) [] (key Pool 0) kind refl)) in
+        let place : IsPlace replay_pool (blocks_from (begin w).blocks (new_events (OfKey (key Pool 0)) (seen past))) size at = subst
+        (λ k. SharedEvent i (begin w) Pool 0 (new_events (OfKey (key Pool 0)) (seen past)) k) kind
+        (shared (key Pool 0) (has_it (Alloc at size) [] (key Pool 0) kind refl)) in
         elim (cover_cases (range at (granted at size)) x) [
           | inr apart ↦ cond-false (covers (range at (granted at size)) x) _ v apart.is ∙ none
           | inl in' ↦ elim place [
@@ -142,7 +149,9 @@ module _ (w : World) (past : List Mark) (m : Mark) (s : Picked w past) (made : I
             go false = omega arith
 
     -- what a Ret commits is in use
-    used_in_use : (f : ℕ) (args : List ℕ) (r : ℕ) (same : Bool) (outs : List Piece) (k : ℕ) (u : Option ℕ) (commit : Commit) → e.kind ≡ Ret f args r same outs commit → i.commits f args r ≡ Some (record { key = k; used = u }) → CommitsUsed k u commit → ReleasesInUse (begin w) (seen past) commit
+    used_in_use : (f : ℕ) (args : List ℕ) (r : ℕ) (same : Bool) (outs : List Piece) (k : ℕ) (u : Option ℕ) (commit : Commit) →
+        e.kind ≡ Ret f args r same outs commit → i.commits f args r ≡ Some (record { key = k; used = u }) → CommitsUsed k u commit →
+        ReleasesInUse (begin w) (seen past) commit
     used_in_use f args r same outs k None commit kind o c = subst (ReleasesInUse (begin w) (seen past)) (sym c) tt
     used_in_use f args r same outs k (Some n) NoRegion kind o c = tt
     used_in_use f args r same outs k (Some n) Withheld kind o c = tt
@@ -151,7 +160,8 @@ module _ (w : World) (past : List Mark) (m : Mark) (s : Picked w past) (made : I
         let rule = subst (λ q. SharedEvent i (begin w) Async k (new_events (OfKey (key Async k)) (seen past)) q) kind (shared (key Async k) there) in
         ap (λ a. in_use (begin w) a (seen past)) c.0 ∙ rule c.0
 
-    committed_in_use : (f : ℕ) (args : List ℕ) (r : ℕ) (same : Bool) (outs : List Piece) (q : Option Committing) (commit : Commit) → e.kind ≡ Ret f args r same outs commit → i.commits f args r ≡ q → Commits q commit → ReleasesInUse (begin w) (seen past) commit
+    committed_in_use : (f : ℕ) (args : List ℕ) (r : ℕ) (same : Bool) (outs : List Piece) (q : Option Committing) (commit : Commit) →
+        e.kind ≡ Ret f args r same outs commit → i.commits f args r ≡ q → Commits q commit → ReleasesInUse (begin w) (seen past) commit
     committed_in_use f args r same outs None commit kind o c = subst (ReleasesInUse (begin w) (seen past)) (sym c) tt
     committed_in_use f args r same outs (Some q) commit kind o c = used_in_use f args r same outs q.key q.used commit kind o c
 

@@ -58,7 +58,8 @@ past_indirect w true f cs p = p.1
 past_indirect w false f cs p = p
 
 module _ (w : World) (past : List Mark) (t : ℕ) where
-  pub store_tested : (want : Want) (o : Option ℕ) (at : ℕ) (bytes : List ℕ) → is_some (answer_to want (Store o at bytes)) ≡ true → Passes (checks_below w past t want) → Passes (touch_checks w past t true (range at (length bytes)) Done)
+  pub store_tested : (want : Want) (o : Option ℕ) (at : ℕ) (bytes : List ℕ) → is_some (answer_to want (Store o at bytes)) ≡ true →
+      Passes (checks_below w past t want) → Passes (touch_checks w past t true (range at (length bytes)) Done)
   unfolding answer_to
   store_tested (Stores q y bs) o at bytes e p =
       let k = and_parts (same_origin o q) (eqb at y && same_numbers bytes bs) (some_if (same_origin o q && (eqb at y && same_numbers bytes bs)) _ e) in
@@ -94,7 +95,9 @@ module _ (w : World) (past : List Mark) (t : ℕ) where
   not_back f bytes true e p = absurd (true≢false e)
   not_back f bytes false e p = p.1
 
-  pub enter_tested : (want : Want) (g : ℕ) (args : List ℕ) (at : ℕ) (bytes : List ℕ) → is_some (answer_to want (Enter g args at bytes)) ≡ true → goes_up w past want ≡ false → Passes (checks_below w past t want) → HasRoomOn w System t past (length bytes)
+  pub enter_tested : (want : Want) (g : ℕ) (args : List ℕ) (at : ℕ) (bytes : List ℕ) →
+      is_some (answer_to want (Enter g args at bytes)) ≡ true → goes_up w past want ≡ false → Passes (checks_below w past t want) →
+      HasRoomOn w System t past (length bytes)
   unfolding answer_to
   enter_tested (Enters i f bs b) g args at bytes e up p =
       let k = and_parts (eqb g f) (same_numbers args bs && same_numbers bytes b) (some_if (eqb g f && (same_numbers args bs && same_numbers bytes b)) _ e) in
@@ -119,7 +122,9 @@ module _ (w : World) (past : List Mark) (t : ℕ) where
   enter_tested (Steps i f bs) g args at bytes e up p = absurd (true≢false (sym e))
   enter_tested (Fails k) g args at bytes e up p = absurd (true≢false (sym e))
 
-  pub step_tested : (want : Want) (g : ℕ) (args : List ℕ) (v : ℕ) (ins pieces : List Piece) (freed : List Range) → is_some (answer_to want (Step g args v ins pieces freed)) ≡ true → Passes (checks_below w past t want) → Passes (step_checks w past t g args (builtin_of g))
+  pub step_tested : (want : Want) (g : ℕ) (args : List ℕ) (v : ℕ) (ins pieces : List Piece) (freed : List Range) →
+      is_some (answer_to want (Step g args v ins pieces freed)) ≡ true → Passes (checks_below w past t want) →
+      Passes (step_checks w past t g args (builtin_of g))
   unfolding answer_to
   step_tested (Steps i f bs) g args v ins pieces freed e p =
       let k = and_parts (eqb g f) (same_numbers args bs) (some_if (eqb g f && same_numbers args bs) _ e) in
@@ -163,7 +168,8 @@ module _ (w : World) (past : List Mark) (t : ℕ) where
   leave_wanted (Fails k) at size e = absurd (true≢false (sym e))
 
   -- above the cut each Step is a breach
-  pub no_step_above : (want : Want) (g : ℕ) (args : List ℕ) (v : ℕ) (ins pieces : List Piece) (freed : List Range) → is_some (answer_to want (Step g args v ins pieces freed)) ≡ true → Passes (checks_above w past t want) → ⊥
+  pub no_step_above : (want : Want) (g : ℕ) (args : List ℕ) (v : ℕ) (ins pieces : List Piece) (freed : List Range) →
+      is_some (answer_to want (Step g args v ins pieces freed)) ≡ true → Passes (checks_above w past t want) → ⊥
   unfolding answer_to
   no_step_above (Steps i f bs) g args v ins pieces freed e p = p.0 (function_address f) refl
   no_step_above Outside g args v ins pieces freed e p = absurd (true≢false (sym e))
@@ -208,7 +214,9 @@ handed_held_by w past t x whole (inl out) = whole.held x (Calling t) (sym (same_
 handed_held_by w past t x whole (inr (inl read)) = absurd (true≢false read.0)
 handed_held_by w past t x whole (inr (inr (k, under))) = whole.held x (Preparing k) (ap (λ o. is_in o x) under.1 ∙ under.2)
 
-module _ (w : World) (past : List Mark) (t x : ℕ) (own : is_system x ≡ false) (whole : IsWhole (begin w) (seen past)) (really : IsReally (byte (begin w) x (seen past)).cell (real w past x)) (inside : is_constant x ≡ false → is_replay x ≡ false → (byte (begin w) x (seen past)).cell ≡ Dead) where
+module _ (w : World) (past : List Mark) (t x : ℕ) (own : is_system x ≡ false) (whole : IsWhole (begin w) (seen past))
+    (really : IsReally (byte (begin w) x (seen past)).cell (real w past x))
+    (inside : is_constant x ≡ false → is_replay x ≡ false → (byte (begin w) x (seen past)).cell ≡ Dead) where
   -- what may be written is pending
   pub touched : (r : Range) (cs : Checks) → Passes (touch_checks w past t true r cs) → covers r x ≡ true → IsHeld (byte (begin w) x (seen past)).cell
   touched r cs p c = elim (cases_Bool (is_constant x)) [

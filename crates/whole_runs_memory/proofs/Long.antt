@@ -98,20 +98,24 @@ may_touch w past memory t func args result used committing answer xs more write 
 
 -- ---- a key that isn't in use
 
-module _ (i : Interface) (s : Start) (past : List Mark) (memory : SpaceState) (func : ℕ) (args : List ℕ) (result : ℕ) (a : Answered) (h : (k : ℕ) → option_map (λ (g : Region). g.range) (prepared_region memory.held.regions k) ≡ in_use s k past) where
+module _ (i : Interface) (s : Start) (past : List Mark) (memory : SpaceState) (func : ℕ) (args : List ℕ) (result : ℕ) (a : Answered)
+    (h : (k : ℕ) → option_map (λ (g : Region). g.range) (prepared_region memory.held.regions k) ≡ in_use s k past) where
   abbrev checks_of : Option Committing → Checks
   checks_of o = return_checks (record i { commits = λ f b v. o }) s past a func args result
 
   lacks : (k n : ℕ) → prepared_region memory.held.regions k ≡ None → Finds (checks_of (Some (record { key = k; used = Some n }))) (BreachFound breach.NoKey k None)
   lacks k n none = inl (k, ((refl, sym (h k) ∙ ap (option_map (λ (g : Region). g.range)) none), λ y bad. omega (arith, bad.0)), refl)
 
-  by_used : (k : ℕ) (u : Option ℕ) (committing : Option (ℕ × ℕ)) (key : ℕ) → committing ≡ option_map (λ n. (k, n)) u → LacksKey memory.held.regions committing key → Finds (checks_of (Some (record { key = k; used = u }))) (BreachFound breach.NoKey key None)
+  by_used : (k : ℕ) (u : Option ℕ) (committing : Option (ℕ × ℕ)) (key : ℕ) → committing ≡ option_map (λ n. (k, n)) u →
+      LacksKey memory.held.regions committing key →
+      Finds (checks_of (Some (record { key = k; used = u }))) (BreachFound breach.NoKey key None)
   by_used k None committing key e l = absurd (subst (λ c. LacksKey memory.held.regions c key) e l)
   by_used k (Some n) committing key e l =
       let q = subst (λ c. LacksKey memory.held.regions c key) e l in
       subst (λ j. Finds (checks_of (Some (record { key = k; used = Some n }))) (BreachFound breach.NoKey j None)) (sym q.1) (lacks k n q.0)
 
-  by_commit : (o : Option Committing) (committing : Option (ℕ × ℕ)) (key : ℕ) → IsCommitted o committing → LacksKey memory.held.regions committing key → Finds (checks_of o) (BreachFound breach.NoKey key None)
+  by_commit : (o : Option Committing) (committing : Option (ℕ × ℕ)) (key : ℕ) → IsCommitted o committing →
+      LacksKey memory.held.regions committing key → Finds (checks_of o) (BreachFound breach.NoKey key None)
   by_commit None committing key e l = absurd (subst (λ c. LacksKey memory.held.regions c key) e l)
   by_commit (Some c) committing key e l = by_used c.key c.used committing key e l
 

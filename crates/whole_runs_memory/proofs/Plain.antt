@@ -149,7 +149,8 @@ first_last : (fs : List Range) → slice_get (innermost_last fs) (length (innerm
 first_last [] = refl
 first_last (f ∷ fs) = last_of (innermost_last fs) f
 
-frames_seen : (w : World) (past : List Mark) (memory : SpaceState) (t : ℕ) → StandsForWhole w past memory → t < thread_count → stack_of memory.sides.replay.stacks t ≡ record { base = stack Replay t; frames = innermost_last (frames_on w Replay t past) }
+frames_seen : (w : World) (past : List Mark) (memory : SpaceState) (t : ℕ) → StandsForWhole w past memory → t < thread_count →
+    stack_of memory.sides.replay.stacks t ≡ record { base = stack Replay t; frames = innermost_last (frames_on w Replay t past) }
 frames_seen w past memory t h lt = h.above.stacks t lt ∙ ap (λ mine. let k : StackState = record { base = stack Replay t; frames = innermost_last (frames mine) } in k) (own_seen w t past)
 
 pub frames_there : (w : World) → FramesAreThere w

@@ -45,13 +45,17 @@ laid_out w past now memory h = subst (λ (q : PoolState). LieBetween q.base (q.b
 abbrev step_of : ℕ → List ℕ → ℕ → List Piece → List Range → StepOf
 step_of func args result pieces freed = record { func = func; args = args; result = result; ins = []; pieces = pieces; freed = freed }
 
-agreed : (w : World) (past : List Mark) (m : Mark) (want : Want) (b : Option Builtin) (func : ℕ) (args : List ℕ) (result : ℕ) (pieces : List Piece) (freed : List Range) → builtin_of func ≡ b → m.act ≡ Step func args result [] pieces freed → IsStep w past m.thread (step_of func args result pieces freed) b → Agrees w past m.thread m.side want m.act
+agreed : (w : World) (past : List Mark) (m : Mark) (want : Want) (b : Option Builtin) (func : ℕ) (args : List ℕ) (result : ℕ) (pieces : List Piece) (freed : List Range) →
+    builtin_of func ≡ b → m.act ≡ Step func args result [] pieces freed → IsStep w past m.thread (step_of func args result pieces freed) b →
+    Agrees w past m.thread m.side want m.act
 agreed w past m want b func args result pieces freed e is step =
     subst (λ a. Agrees w past m.thread m.side want a) (sym is)
     (subst (IsStep w past m.thread (step_of func args result pieces freed)) (sym e) step)
 
 -- the blocks after it
-blocks_now : (m : Mark) (past : List Mark) (b : Option Builtin) (func : ℕ) (args : List ℕ) (result : ℕ) (pieces : List Piece) (freed : List Range) → builtin_of func ≡ b → m.act ≡ Step func args result [] pieces freed → system_blocks (m ∷ past) ≡ builtin_blocks b args result (system_blocks past)
+blocks_now : (m : Mark) (past : List Mark) (b : Option Builtin) (func : ℕ) (args : List ℕ) (result : ℕ) (pieces : List Piece) (freed : List Range) →
+    builtin_of func ≡ b → m.act ≡ Step func args result [] pieces freed →
+    system_blocks (m ∷ past) ≡ builtin_blocks b args result (system_blocks past)
 blocks_now m past b func args result pieces freed e is = ap (λ a. act_blocks a (system_blocks past)) is ∙ ap (λ c. builtin_blocks c args result (system_blocks past)) e
 
 -- ---- blocks that are given
@@ -62,25 +66,28 @@ fits bs size addr some p = record { some = some; aligned = p.aligned; low = p.fr
 fits_back : (bs : List Range) (size addr : ℕ) → Fits system_pool bs size addr → pool.IsPlace (pool_below bs) size addr
 fits_back bs size addr f = record { aligned = f.aligned; from_base = f.low; in_pool = f.high; free = misses_all bs addr size f.free }
 
-with_pool : (old : SideState) (bs : List Range) (size addr : ℕ) → old.pool ≡ pool_below bs → (with_blocks old (with_block old.pool.blocks (record { addr = addr; len = size }))).pool ≡ pool_below (range addr size ∷ bs)
+with_pool : (old : SideState) (bs : List Range) (size addr : ℕ) → old.pool ≡ pool_below bs →
+    (with_blocks old (with_block old.pool.blocks (record { addr = addr; len = size }))).pool ≡ pool_below (range addr size ∷ bs)
 with_pool old bs size addr e = ap (λ (q : PoolState). let p : PoolState = record { base = q.base; size = q.size; blocks = with_block q.blocks (record { addr = addr; len = size }) } in p) e
 
-without_pool : (old : SideState) (bs : List Range) (addr : ℕ) → old.pool ≡ pool_below bs → LieBetween system_pool (system_pool + pool_size) (by_address bs) → (with_blocks old (without_block old.pool.blocks addr)).pool ≡ pool_below (without addr bs)
+without_pool : (old : SideState) (bs : List Range) (addr : ℕ) → old.pool ≡ pool_below bs →
+    LieBetween system_pool (system_pool + pool_size) (by_address bs) →
+    (with_blocks old (without_block old.pool.blocks addr)).pool ≡ pool_below (without addr bs)
 without_pool old bs addr e laid =
     ap (λ (q : PoolState). let p : PoolState = record { base = q.base; size = q.size; blocks = without_block q.blocks addr } in p) e
     ∙ ap (λ l. let p : PoolState = record { base = system_pool; size = pool_size; blocks = l } in p) (sym (by_address_without system_pool (system_pool + pool_size) bs addr laid))
 
 pub allocs : (w : World) → AllocsBelowAreWhole w
-allocs w past old new m want func args addr h below malloc place some sides fills held is = record {
+allocs w past old new m want func args addr h below malloc k is = record {
   agrees = agreed w past m want (Some builtins.Malloc) func args addr (zeros addr (granted addr (first args))) [] malloc is (record {
-    place = inl (fits (system_blocks past) (first args) addr some place_is.is_place, λ x f. place_is.least x (fits_back (system_blocks past) (first args) x f));
+    place = inl (fits (system_blocks past) (first args) addr k.some place_is.is_place, λ x f. place_is.least x (fits_back (system_blocks past) (first args) x f));
     ins = refl;
     pieces = refl;
     freed = refl;
   });
   stands = record {
-    above = subst (λ p. StandsFor (begin w) p new) (sym (seen_below w m past below)) (unseen.taken (begin w) (seen past) old new addr (first args) h.above place some sides fills held);
-    constants = held_same old new held h.constants;
+    above = subst (λ p. StandsFor (begin w) p new) (sym (seen_below w m past below)) (unseen.taken (begin w) (seen past) old new addr (first args) h.above k);
+    constants = held_same old new k.held h.constants;
     bytes = λ x. zeroed x ∙ sym (zeros_are addr (first args) x (real w past x)) ∙ ap (λ n. filled (zeros addr n) x (real w past x)) (sym all) ∙ sym (ap (λ a. left_by w (m ∷ past) x a (real w past x)) is);
     stacks = λ t lt. ap (λ (q : SideState). stack_of q.stacks t) system ∙ h.stacks t lt ∙ ap (stack_below t) (sym (frames_still w m past (λ fs. ap (λ a. frames_after a fs) is) t));
     pool = ap (λ (q : SideState). q.pool) system ∙ with_pool old.sides.system (system_blocks past) (first args) addr h.pool ∙ ap pool_below (sym now);
@@ -88,24 +95,24 @@ allocs w past old new m want func args addr h below malloc place some sides fill
 }
   where
     place_is : IsLeastPlace (pool_below (system_blocks past)) (first args) addr
-    place_is = subst (λ q. IsLeastPlace q (first args) addr) h.pool place
+    place_is = subst (λ q. IsLeastPlace q (first args) addr) h.pool k.least
 
     all : granted addr (first args) ≡ (first args)
     all = cond-false (eqb addr 0) 0 (first args) (ne_eqb addr 0 (λ z. absurd (omega (arith, z, place_is.is_place.from_base))))
 
     system : new.sides.system ≡ with_blocks old.sides.system (with_block old.sides.system.pool.blocks (record { addr = addr; len = (first args) }))
-    system = ap (λ (q : Sides). q.system) sides
+    system = ap (λ (q : Sides). q.system) k.sides
 
     now : system_blocks (m ∷ past) ≡ range addr (first args) ∷ (system_blocks past)
     now =
         blocks_now m past (Some builtins.Malloc) func args addr (zeros addr (granted addr (first args))) [] malloc is
         ∙ ap (λ n. cond (eqb n 0) (system_blocks past) (range addr (first args) ∷ (system_blocks past))) all
-        ∙ cond-false (eqb (first args) 0) (system_blocks past) (range addr (first args) ∷ (system_blocks past)) (ne_eqb (first args) 0 (λ z. absurd (omega (arith, z, some))))
+        ∙ cond-false (eqb (first args) 0) (system_blocks past) (range addr (first args) ∷ (system_blocks past)) (ne_eqb (first args) 0 (λ z. absurd (omega (arith, z, k.some))))
 
     zeroed : (x : ℕ) → byte_at new.bytes x ≡ cond (covers (range addr (first args)) x) (Some 0) (real w past x)
     zeroed x = elim (cover_cases (range addr (first args)) x) [
-      | inl in' ↦ fills.filled x in'.is ∙ sym (cond-true (covers (range addr (first args)) x) _ _ in'.is)
-      | inr out ↦ fills.others.bytes x out.is ∙ h.bytes x ∙ sym (cond-false (covers (range addr (first args)) x) _ _ out.is)
+      | inl in' ↦ k.fills.filled x in'.is ∙ sym (cond-true (covers (range addr (first args)) x) _ _ in'.is)
+      | inr out ↦ k.fills.others.bytes x out.is ∙ h.bytes x ∙ sym (cond-false (covers (range addr (first args)) x) _ _ out.is)
     ]
 
 null_covers : (x : ℕ) → covers (range 0 0) x ≡ false
@@ -141,14 +148,17 @@ block_bytes : (at : ℕ) (bs : List Range) (n x : ℕ) (v : Option ℕ) → bs �
 block_bytes at bs n x v e = ap (λ q. cond (any_range q x) None v) e ∙ elim (covers (range at n) x) as (λ b. cond (b || false) None v ≡ cond b None v) [ true ↦ refl | false ↦ refl ]
 
 pub frees : (w : World) → FreesBelowAreWhole w
-frees w past old new m want func args size h below free there sides fills held is = record {
+frees w past old new m want func args size h below free k is = record {
   agrees = agreed w past m want (Some builtins.Free) func args 0 [] (block_at (first args) past) free is (record { result = refl; ins = refl; pieces = refl; freed = refl });
   stands = record {
-    above = subst (λ p. StandsFor (begin w) p new) (sym (seen_below w m past below)) (unseen.given (begin w) (seen past) old new (first args) size h.above there sides fills held);
-    constants = held_same old new held h.constants;
+    above = subst (λ p. StandsFor (begin w) p new) (sym (seen_below w m past below)) (unseen.given (begin w) (seen past) old new (first args) size h.above k);
+    constants = held_same old new k.held h.constants;
     bytes = λ x. gone x ∙ sym (block_bytes (first args) (block_at (first args) past) size x (real w past x) block) ∙ sym (ap (λ a. left_by w (m ∷ past) x a (real w past x)) is);
     stacks = λ t lt. ap (λ (q : SideState). stack_of q.stacks t) system ∙ h.stacks t lt ∙ ap (stack_below t) (sym (frames_still w m past (λ fs. ap (λ a. frames_after a fs) is) t));
-    pool = ap (λ (q : SideState). q.pool) system ∙ without_pool old.sides.system (system_blocks past) (first args) h.pool laid ∙ ap pool_below (sym (blocks_now m past (Some builtins.Free) func args 0 [] (block_at (first args) past) free is));
+    pool =
+        ap (λ (q : SideState). q.pool) system
+        ∙ without_pool old.sides.system (system_blocks past) (first args) h.pool laid
+        ∙ ap pool_below (sym (blocks_now m past (Some builtins.Free) func args 0 [] (block_at (first args) past) free is));
   };
 }
   where
@@ -156,15 +166,17 @@ frees w past old new m want func args size h below free there sides fills held i
     laid = laid_out w past (real w past) old h
 
     block : (block_at (first args) past) ≡ range (first args) size ∷ []
-    block = blocks_at system_pool (system_pool + pool_size) (system_blocks past) (first args) laid ∙ ap (as_range (first args)) (sym (ap (λ (q : PoolState). length_at q.blocks (first args)) h.pool) ∙ there)
+    block =
+        blocks_at system_pool (system_pool + pool_size) (system_blocks past) (first args) laid
+        ∙ ap (as_range (first args)) (sym (ap (λ (q : PoolState). length_at q.blocks (first args)) h.pool) ∙ k.block)
 
     system : new.sides.system ≡ with_blocks old.sides.system (without_block old.sides.system.pool.blocks (first args))
-    system = ap (λ (q : Sides). q.system) sides
+    system = ap (λ (q : Sides). q.system) k.sides
 
     gone : (x : ℕ) → byte_at new.bytes x ≡ cond (covers (range (first args) size) x) None (real w past x)
     gone x = elim (cover_cases (range (first args) size) x) [
-      | inl in' ↦ fills.filled x in'.is ∙ sym (cond-true (covers (range (first args) size) x) _ _ in'.is)
-      | inr out ↦ fills.others.bytes x out.is ∙ h.bytes x ∙ sym (cond-false (covers (range (first args) size) x) _ _ out.is)
+      | inl in' ↦ k.dead.filled x in'.is ∙ sym (cond-true (covers (range (first args) size) x) _ _ in'.is)
+      | inr out ↦ k.dead.others.bytes x out.is ∙ h.bytes x ∙ sym (cond-false (covers (range (first args) size) x) _ _ out.is)
     ]
 
 pub frees_of_null : (w : World) → FreesOfNullBelowAreWhole w
@@ -175,7 +187,11 @@ frees_of_null w past memory m want func args h below free null is = record {
     constants = h.constants;
     bytes = λ x. h.bytes x ∙ sym (ap (λ q. cond (any_range q x) None (real w past x)) none) ∙ sym (ap (λ a. left_by w (m ∷ past) x a (real w past x)) is);
     stacks = λ t lt. h.stacks t lt ∙ ap (stack_below t) (sym (frames_still w m past (λ fs. ap (λ a. frames_after a fs) is) t));
-    pool = h.pool ∙ ap pool_below (sym (blocks_now m past (Some builtins.Free) func args 0 [] (block_at 0 past) free is ∙ ap (λ a. without a (system_blocks past)) null ∙ nothing_without system_pool (system_pool + pool_size) (system_blocks past) 0 laid (omega arith)));
+    pool =
+        h.pool
+        ∙ ap pool_below (sym (blocks_now m past (Some builtins.Free) func args 0 [] (block_at 0 past) free is ∙ ap
+        (λ a. without a (system_blocks past)) null ∙ nothing_without system_pool (system_pool + pool_size) (system_blocks past) 0 laid
+        (omega arith)));
   };
 }
   where

@@ -165,7 +165,8 @@ module _ (w : World) (past : List Mark) (m : Mark) (s : Picked w past) (made : I
   few = omega (arith, thread_is, lt)
 
   -- a frame that is entered below lies in the thread's stack
-  entered : (g : ℕ) (args : List ℕ) (at : ℕ) (bytes : List ℕ) → m.act ≡ Enter g args at bytes → m.side ≡ System → (at ≡ place_on w System s.thread past) × HasRoomOn w System s.thread past (length bytes)
+  entered : (g : ℕ) (args : List ℕ) (at : ℕ) (bytes : List ℕ) → m.act ≡ Enter g args at bytes → m.side ≡ System →
+      (at ≡ place_on w System s.thread past) × HasRoomOn w System s.thread past (length bytes)
   entered g args at bytes e below =
       let side : s.side ≡ System = code_side (Enter g args at bytes) e tt ∙ below in
       let a = agrees_as (Enter g args at bytes) e in
@@ -194,7 +195,13 @@ module _ (w : World) (past : List Mark) (m : Mark) (s : Picked w past) (made : I
         let side : s.side ≡ System = code_side (Store q at bytes) e tt ∙ below in
         let p = store_tested w past s.thread s.want q at bytes (answers_as (Store q at bytes) e) (passes_below side) in
         elim (cover_cases (range at (length bytes)) x) [
-          | inl in' ↦ inr (touched w past s.thread x own whole (f.real_is x own) (λ a b. dead_outside x (record { constant = a; replay = b; system = own })) (range at (length bytes)) Done p in'.is, λ none. some_none _ (sym (cond-true (covers (range at (length bytes)) x) _ v in'.is) ∙ none))
+          | inl in' ↦ inr (
+            touched w past s.thread x own whole (f.real_is x own)
+                (λ a b. dead_outside x (record { constant = a; replay = b; system = own }))
+                (range at (length bytes)) Done p in'.is,
+            λ none. some_none _
+                (sym (cond-true (covers (range at (length bytes)) x) _ v in'.is) ∙ none),
+          )
           | inr out ↦ inl (cond-false (covers (range at (length bytes)) x) _ v out.is)
         ]
 
@@ -235,18 +242,26 @@ module _ (w : World) (past : List Mark) (m : Mark) (s : Picked w past) (made : I
     no_pieces_keep : (g : ℕ) (args : List ℕ) (r : ℕ) (ins pieces : List Piece) (freed : List Range) → freed ≡ [] → pieces ≡ [] → Keeps (Step g args r ins pieces freed)
     no_pieces_keep g args r ins pieces freed ef ep = inl (ap (λ rs. cond (any_range rs x) None (filled pieces x v)) ef ∙ ap (λ ps. filled ps x v) ep)
 
-    given_keep : (g : ℕ) (args : List ℕ) (r : ℕ) (ins pieces : List Piece) (freed : List Range) (gv : Given) → GivesStep w past (the_step g args r ins pieces freed) gv → Passes (external_checks w past s.thread g args gv) → Keeps (Step g args r ins pieces freed)
+    given_keep : (g : ℕ) (args : List ℕ) (r : ℕ) (ins pieces : List Piece) (freed : List Range) (gv : Given) →
+        GivesStep w past (the_step g args r ins pieces freed) gv → Passes (external_checks w past s.thread g args gv) →
+        Keeps (Step g args r ins pieces freed)
     given_keep g args r ins pieces freed ByPool a p = absurd a
     given_keep g args r ins pieces freed NoMore a p = absurd a
     given_keep g args r ins pieces freed (Says u bs) a p =
-        let q = pieces_keep w past s.thread x own whole (f.real_is x own) (λ b c. dead_outside x (record { constant = b; replay = c; system = own })) (targets w System past g args r) bs v (subst (λ n. Passes (piece_checks w past s.thread (targets w System past g args n) bs)) (sym a.result_is) p) in
-        let is : left_by w (m ∷ past) x (Step g args r ins pieces freed) v ≡ filled (pieces_for (targets w System past g args r) bs) x v = ap (λ rs. cond (any_range rs x) None (filled pieces x v)) a.freed ∙ ap (λ ps. filled ps x v) a.pieces_are in
+        let q = pieces_keep w past s.thread x own whole (f.real_is x own)
+        (λ b c. dead_outside x (record { constant = b; replay = c; system = own })) (targets w System past g args r) bs v
+        (subst (λ n. Passes (piece_checks w past s.thread (targets w System past g args n) bs)) (sym a.result_is) p) in
+        let is : left_by w (m ∷ past) x (Step g args r ins pieces freed) v ≡ filled (pieces_for (targets w System past g args r) bs) x v =
+        ap (λ rs. cond (any_range rs x) None (filled pieces x v)) a.freed ∙ ap (λ ps. filled ps x v) a.pieces_are in
         elim q [ inl same ↦ inl (is ∙ same) | inr there ↦ inr (there.0, λ n. there.1 (sym is ∙ n)) ]
 
-    says_nothing : (g : ℕ) (args : List ℕ) (r : ℕ) (ins pieces : List Piece) (freed : List Range) (u : ℕ) → IsGiven w past (the_step g args r ins pieces freed) u [] → Keeps (Step g args r ins pieces freed)
+    says_nothing : (g : ℕ) (args : List ℕ) (r : ℕ) (ins pieces : List Piece) (freed : List Range) (u : ℕ) →
+        IsGiven w past (the_step g args r ins pieces freed) u [] → Keeps (Step g args r ins pieces freed)
     says_nothing g args r ins pieces freed u a = no_pieces_keep g args r ins pieces freed a.freed (a.pieces_are ∙ no_pieces (targets w System past g args r))
 
-    mallocs : (g : ℕ) (args : List ℕ) (r : ℕ) (ins pieces : List Piece) (freed : List Range) → IsPlace system_pool (system_blocks past) (first args) r → pieces ≡ zeros r (granted r (first args)) → freed ≡ [] → Keeps (Step g args r ins pieces freed)
+    mallocs : (g : ℕ) (args : List ℕ) (r : ℕ) (ins pieces : List Piece) (freed : List Range) →
+        IsPlace system_pool (system_blocks past) (first args) r → pieces ≡ zeros r (granted r (first args)) → freed ≡ [] →
+        Keeps (Step g args r ins pieces freed)
     mallocs g args r ins pieces freed place ep ef = inl (ap (λ rs. cond (any_range rs x) None (filled pieces x v)) ef
         ∙ ap (λ ps. filled ps x v) ep
         ∙ zeros_are r (granted r (first args)) x v
@@ -264,7 +279,9 @@ module _ (w : World) (past : List Mark) (m : Mark) (s : Picked w past) (made : I
       | inr out ↦ inl (cond-false (any_range freed x) None _ out ∙ ap (λ ps. filled ps x v) ep)
     ]
 
-    steps_keep : (g : ℕ) (args : List ℕ) (r : ℕ) (ins pieces : List Piece) (freed : List Range) (b : Option Builtin) → builtin_of g ≡ b → IsStep w past s.thread (the_step g args r ins pieces freed) b → Passes (step_checks w past s.thread g args b) → Keeps (Step g args r ins pieces freed)
+    steps_keep : (g : ℕ) (args : List ℕ) (r : ℕ) (ins pieces : List Piece) (freed : List Range) (b : Option Builtin) → builtin_of g ≡ b →
+        IsStep w past s.thread (the_step g args r ins pieces freed) b → Passes (step_checks w past s.thread g args b) →
+        Keeps (Step g args r ins pieces freed)
     steps_keep g args r ins pieces freed (Some builtins.Malloc) e a p = mallocs g args r ins pieces freed a.place a.pieces a.freed
     steps_keep g args r ins pieces freed (Some builtins.Free) e a p = frees g args r ins pieces freed a.pieces a.freed
     steps_keep g args r ins pieces freed (Some builtins.Spawn) e a p = says_nothing g args r ins pieces freed _ (subst (λ b. GivesStep w past (the_step g args r ins pieces freed) (given_by w past s.thread g args b)) e a)
@@ -299,7 +316,8 @@ module _ (w : World) (past : List Mark) (m : Mark) (s : Picked w past) (made : I
         no_step (Store q at bytes) e above = tt
         no_step (Enter g args at bytes) e above = tt
         no_step (Leave at size) e above = tt
-        no_step (Step g args r ins pieces freed) e above = no_step_above w past s.thread s.want g args r ins pieces freed (answers_as (Step g args r ins pieces freed) e) (passes_above (code_side (Step g args r ins pieces freed) e tt ∙ above))
+        no_step (Step g args r ins pieces freed) e above = no_step_above w past s.thread s.want g args r ins pieces freed
+            (answers_as (Step g args r ins pieces freed) e) (passes_above (code_side (Step g args r ins pieces freed) e tt ∙ above))
         no_step (Fault k crosses ins outs access) e above = tt
         no_step (Made ev) e above = tt
 
@@ -340,7 +358,9 @@ module _ (w : World) (past : List Mark) (m : Mark) (s : Picked w past) (made : I
       go true = h
       go false = (l.low, l.high, h)
 
-  blocks_pool : (g : ℕ) (args : List ℕ) (r : ℕ) (ins pieces : List Piece) (freed : List Range) (b : Option Builtin) → IsStep w past s.thread (record { func = g; args = args; result = r; ins = ins; pieces = pieces; freed = freed }) b → InPoolBelow (builtin_blocks b args r (system_blocks past))
+  blocks_pool : (g : ℕ) (args : List ℕ) (r : ℕ) (ins pieces : List Piece) (freed : List Range) (b : Option Builtin) →
+      IsStep w past s.thread (record { func = g; args = args; result = r; ins = ins; pieces = pieces; freed = freed }) b →
+      InPoolBelow (builtin_blocks b args r (system_blocks past))
   blocks_pool g args r ins pieces freed (Some builtins.Malloc) a = one_more r (first args) (system_blocks past) f.pooled (place_lies (system_blocks past) (first args) r a.place)
   blocks_pool g args r ins pieces freed (Some builtins.Free) a = in_pool_without (first args) (system_blocks past) f.pooled
   blocks_pool g args r ins pieces freed (Some builtins.Spawn) a = f.pooled

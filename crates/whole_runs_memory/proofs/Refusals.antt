@@ -194,12 +194,15 @@ other_passes w past t (To r) b cs ds p q = (p.0, (p.1.0, (p.1.1.0, (p.1.1.1.0, q
 other_passes w past t Nowhere b cs ds p q = q
 other_passes w past t Missing b cs ds p q = absurd (p.0 0 tt)
 
-other_finds : (w : World) (past : List Mark) (t : ℕ) (x : Target) (b : List ℕ) (cs ds : Checks) (f : Finding) → Passes (piece_check w past t x b cs) → Finds ds f → Finds (piece_check w past t x b ds) f
+other_finds : (w : World) (past : List Mark) (t : ℕ) (x : Target) (b : List ℕ) (cs ds : Checks) (f : Finding) →
+    Passes (piece_check w past t x b cs) → Finds ds f → Finds (piece_check w past t x b ds) f
 other_finds w past t (To r) b cs ds f p q = inr (p.0, inr (p.1.0, inr (p.1.1.0, inr (p.1.1.1.0, q))))
 other_finds w past t Nowhere b cs ds f p q = q
 other_finds w past t Missing b cs ds f p q = absurd (p.0 0 tt)
 
-finds_after : (w : World) (past : List Mark) (t : ℕ) (xs more : List Target) (bs rest : List (List ℕ)) (f : Finding) → length xs ≡ length bs → Passes (piece_checks w past t xs bs) → Finds (piece_checks w past t more rest) f → Finds (piece_checks w past t (xs ++ more) (bs ++ rest)) f
+finds_after : (w : World) (past : List Mark) (t : ℕ) (xs more : List Target) (bs rest : List (List ℕ)) (f : Finding) → length xs ≡ length bs →
+    Passes (piece_checks w past t xs bs) → Finds (piece_checks w past t more rest) f →
+    Finds (piece_checks w past t (xs ++ more) (bs ++ rest)) f
 finds_after w past t [] more [] rest f e p q = q
 finds_after w past t [] more (b ∷ bs) rest f e p q = absurd (omega (arith, e))
 finds_after w past t (x ∷ xs) more [] rest f e p q = absurd (omega (arith, e))
@@ -207,7 +210,9 @@ finds_after w past t (x ∷ xs) more (b ∷ bs) rest f e p q =
     other_finds w past t x b (piece_checks w past t xs bs) (piece_checks w past t (xs ++ more) (bs ++ rest)) f p
     (finds_after w past t xs more bs rest f (omega (arith, e)) (rest_passes w past t x b (piece_checks w past t xs bs) p) q)
 
-passes_after : (w : World) (past : List Mark) (t : ℕ) (xs more : List Target) (bs rest : List (List ℕ)) → length xs ≡ length bs → Passes (piece_checks w past t xs bs) → Passes (piece_checks w past t more rest) → Passes (piece_checks w past t (xs ++ more) (bs ++ rest))
+passes_after : (w : World) (past : List Mark) (t : ℕ) (xs more : List Target) (bs rest : List (List ℕ)) → length xs ≡ length bs →
+    Passes (piece_checks w past t xs bs) → Passes (piece_checks w past t more rest) →
+    Passes (piece_checks w past t (xs ++ more) (bs ++ rest))
 passes_after w past t [] more [] rest e p q = q
 passes_after w past t [] more (b ∷ bs) rest e p q = absurd (omega (arith, e))
 passes_after w past t (x ∷ xs) more [] rest e p q = absurd (omega (arith, e))

@@ -70,7 +70,8 @@ spoiled c d p q n r fits same x bad = (
   ],
 )
 
-alike_size : (c d : ℕ → Bool) (p q n : ℕ) (r : Range) (A B : Checks) → p ≤ r.len → q ≤ r.len → ((y : ℕ) → covers r y ≡ true → c y ≡ d y) → Alike A B → Alike (size_check c p r n A) (size_check d q r n B)
+alike_size : (c d : ℕ → Bool) (p q n : ℕ) (r : Range) (A B : Checks) → p ≤ r.len → q ≤ r.len → ((y : ℕ) → covers r y ≡ true → c y ≡ d y) →
+    Alike A B → Alike (size_check c p r n A) (size_check d q r n B)
 alike_size c d p q n r A B pf qf same k = alike_check _ _ _ A B (spoiled c d p q n r pf same) (spoiled d c q p n r qf (λ y is. sym (same y is))) k
 
 abbrev LengthsFit : List ℕ → List Range → Type 0
@@ -81,7 +82,8 @@ none_long : (rs : List Range) → LengthsFit [] rs
 none_long [] = tt
 none_long (r ∷ rs) = (omega arith, none_long rs)
 
-alike_sizes : (c d : ℕ → Bool) (ps : List ℕ) (rs : List Range) (ns : List ℕ) (A B : Checks) → LengthsFit ps rs → ((y : ℕ) → any_range rs y ≡ true → c y ≡ d y) → Alike A B → Alike (size_checks c ps rs ns A) (size_checks d [] rs ns B)
+alike_sizes : (c d : ℕ → Bool) (ps : List ℕ) (rs : List Range) (ns : List ℕ) (A B : Checks) → LengthsFit ps rs →
+    ((y : ℕ) → any_range rs y ≡ true → c y ≡ d y) → Alike A B → Alike (size_checks c ps rs ns A) (size_checks d [] rs ns B)
 alike_sizes c d ps [] ns A B fits same k = k
 alike_sizes c d ps (r ∷ rs) [] A B fits same k = k
 alike_sizes c d ps (r ∷ rs) (n ∷ ns) A B fits same k =
@@ -108,7 +110,10 @@ pub changed_is : (b : Option ℕ) (v : ℕ) → (b ≡ None → ⊥) → is_chan
 changed_is None v live = absurd (live refl)
 changed_is (Some n) v live = refl
 
-module _ (w : World) (past : List Mark) (memory : SpaceState) (t func : ℕ) (args : List ℕ) (result : ℕ) (used : List ℕ) (committing : Option (ℕ × ℕ)) (pieces : List (List ℕ)) (h : InStep w past (pieces_for (targets w Replay past func args result) pieces) memory) (fit : AllFit (targets w Replay past func args result) pieces) (e : IsEnding w past t func args result used committing) where
+module _ (w : World) (past : List Mark) (memory : SpaceState) (t func : ℕ) (args : List ℕ) (result : ℕ) (used : List ℕ)
+    (committing : Option (ℕ × ℕ)) (pieces : List (List ℕ))
+    (h : InStep w past (pieces_for (targets w Replay past func args result) pieces) memory)
+    (fit : AllFit (targets w Replay past func args result) pieces) (e : IsEnding w past t func args result used committing) where
   abbrev i : Interface
   i = interface w
 
@@ -145,7 +150,8 @@ module _ (w : World) (past : List Mark) (memory : SpaceState) (t func : ℕ) (ar
   abbrev Fits : Option Committing → Type 0
   Fits o = AllFit (map To outs ++ commit_target w Replay past o) pieces
 
-  alike_committed : (k n : ℕ) (o : Option Range) → in_use (begin w) k (seen past) ≡ o → AllFit (map To outs ++ target_at o ∷ []) pieces → Alike (commit_size_check up.changed up.committed o n Done) (commit_size_check below.changed 0 o n Done)
+  alike_committed : (k n : ℕ) (o : Option Range) → in_use (begin w) k (seen past) ≡ o → AllFit (map To outs ++ target_at o ∷ []) pieces →
+      Alike (commit_size_check up.changed up.committed o n Done) (commit_size_check below.changed 0 o n Done)
   alike_committed k n None is f = alike_done
   alike_committed k n (Some r) is f = alike_size up.changed below.changed up.committed 0 (cond (eqb r.addr 0) 0 n) r Done Done (committed_length outs r pieces f) (omega arith) (λ y c. same_byte y (inr (inr (k, (r, is, c))))) alike_done
 

@@ -53,7 +53,9 @@ written_waits t (Key k by) is = refl
 served_waits : (rs : List Region) (t x : ℕ) → IsServed rs t true x → IsPending rs x
 served_waits [] t x is = is
 served_waits (r ∷ rest) t x is = elim (or_cases (serves t true r.holder && covers r.range x) (list_any (λ (q : Region). serves t true q.holder && covers q.range x) rest) is) [
-  | inl here ↦ (let p = and_parts (serves t true r.holder) (covers r.range x) here in or_left (is_pending r.holder && covers r.range x) (list_any (λ (q : Region). is_pending q.holder && covers q.range x) rest) (and_from (is_pending r.holder) (covers r.range x) (written_waits t r.holder p.0) p.1))
+  | inl here ↦ (let p = and_parts (serves t true r.holder) (covers r.range x) here in or_left (is_pending r.holder && covers r.range x)
+      (list_any (λ (q : Region). is_pending q.holder && covers q.range x) rest)
+      (and_from (is_pending r.holder) (covers r.range x) (written_waits t r.holder p.0) p.1))
   | inr more ↦ or_true (is_pending r.holder && covers r.range x) (list_any (λ (q : Region). is_pending q.holder && covers q.range x) rest) (served_waits rest t x more)
 ]
 
@@ -101,7 +103,9 @@ committed_handed s past t x NoRegion in' is = absurd (true≢false (sym is))
 committed_handed s past t x Withheld in' is = absurd (true≢false (sym is))
 committed_handed s past t x (Released k p) in' is = inr (inr (k, (p.range, in', one_piece (covers p.range x) is)))
 
-pub ret_handed : (s : Start) (past : List Mark) (t x : ℕ) (func : ℕ) (args : List ℕ) (pieces : List Piece) (commit : Commit) → Closes (open_calls (marks_of s t past)) func args (piece_ranges pieces) → ReleasesInUse s past commit → any_piece (pieces ++ released commit) x ≡ true → IsHandedDown s past t true x
+pub ret_handed : (s : Start) (past : List Mark) (t x : ℕ) (func : ℕ) (args : List ℕ) (pieces : List Piece) (commit : Commit) →
+    Closes (open_calls (marks_of s t past)) func args (piece_ranges pieces) → ReleasesInUse s past commit →
+    any_piece (pieces ++ released commit) x ≡ true → IsHandedDown s past t true x
 ret_handed s past t x func args pieces commit closes in' is = elim (any_split pieces (released commit) x is) [
   | inl own ↦
       let c = landed.closing (open_calls (marks_of s t past)) func args (piece_ranges pieces) closes in
@@ -138,29 +142,29 @@ filled_out (p ∷ ps) x v out = elim (cases_Bool (covers p.range x)) [
 ]
 
 pub returned : (w : World) → ReturnsAreWhole w
-returned w past old new m e func args result same pieces commit used committing answer h above lt regions depths rest key filled' is kind closes commits shows inside =
+returned w past old new m func args pieces commit used committing answer h above lt done of inside =
     raised w past (λ x. filled answer x (real w past x)) old new m h.stands above r.mark.stands
-    (ap (λ (q : SpaceState). q.sides.system) rest)
-    (λ x c. ap (λ rs. is_held rs x) regions ∙ held_less (innermost old.held m.thread) (committed_key committing) x old.held.regions (h.stands.constants x c))
-    (no_blocks m e is)
-    (λ x. bytes x ∙ sym (event_left w past m e (Ret func args result same pieces commit) x above is kind))
+    (ap (λ (q : SpaceState). q.sides.system) done.rest)
+    (λ x c. ap (λ rs. is_held rs x) done.regions ∙ held_less (innermost old.held m.thread) (committed_key committing) x old.held.regions (h.stands.constants x c))
+    (no_blocks m of.event of.act)
+    (λ x. bytes x ∙ sym (event_left w past m of.event (Ret func args of.result of.same pieces commit) x above of.act of.kind))
   where
     r : IsRet (begin w) (seen past) m pieces committing commit new
-    r = landed.returns (begin w) (seen past) old new m e func args result same pieces commit used committing h.stands.above lt regions depths rest key filled' is kind closes commits shows
+    r = landed.returns (begin w) (seen past) old new m func args pieces commit used committing h.stands.above lt done of
 
     cell : (x : ℕ) → is_system x ≡ false → give_any (pieces ++ released commit) x (byte (begin w) x (seen past)).cell ≡ cell_of (areas.byte_at new.bytes x) (value_when_held new.held.regions x)
     cell x own =
-        sym (ap (λ a. cell_after a x (byte (begin w) x (seen past)).cell) is ∙ ap (λ k. event_leaves k x (byte (begin w) x (seen past)).cell) kind)
+        sym (ap (λ a. cell_after a x (byte (begin w) x (seen past)).cell) of.act ∙ ap (λ k. event_leaves k x (byte (begin w) x (seen past)).cell) of.kind)
         ∙ r.mark.stands.bytes x own
 
     bytes : (x : ℕ) → areas.byte_at new.bytes x ≡ cond (any_piece (pieces ++ released commit) x) (value_of (give_any (pieces ++ released commit) x (byte (begin w) x (seen past)).cell)) (real w past x)
     bytes x = elim (cases_Bool (any_piece (pieces ++ released commit) x)) [
       | inl there ↦
-          let own = handed_own (begin w) (seen past) old m.thread x h.stands.above lt (ret_handed (begin w) (seen past) m.thread x func args pieces commit closes r.in_use there) in
+          let own = handed_own (begin w) (seen past) old m.thread x h.stands.above lt (ret_handed (begin w) (seen past) m.thread x func args pieces commit of.closes r.in_use there) in
           sym (cond-true (any_piece (pieces ++ released commit) x) _ (real w past x) there
           ∙ value_shown (areas.byte_at new.bytes x) (value_when_held new.held.regions x) _ (cell x own) (given_free (pieces ++ released commit) x (byte (begin w) x (seen past)).cell there))
       | inr not ↦
-          ap (λ (q : SpaceState). areas.byte_at q.bytes x) rest
+          ap (λ (q : SpaceState). areas.byte_at q.bytes x) done.rest
           ∙ h.stands.bytes x
           ∙ filled_out answer x (real w past x) (λ is. true≢false (sym (inside x is) ∙ not))
           ∙ sym (cond-false (any_piece (pieces ++ released commit) x) _ (real w past x) not)
@@ -201,19 +205,23 @@ target_split (r ∷ rs) xs x is = elim (or_cases (covers r x) (any_target (map T
 ]
 
 module _ (w : World) (past : List Mark) (x : ℕ) where
-  in_committed : (k : ℕ) (used : Option ℕ) (commit : Commit) → CommitsUsed k used commit → ReleasesInUse (begin w) (seen past) commit → any_target (target_used w Replay k past used ∷ []) x ≡ true → any_piece (released commit) x ≡ true
+  in_committed : (k : ℕ) (used : Option ℕ) (commit : Commit) → CommitsUsed k used commit → ReleasesInUse (begin w) (seen past) commit →
+      any_target (target_used w Replay k past used ∷ []) x ≡ true → any_piece (released commit) x ≡ true
   in_committed k None commit c in' is = absurd (true≢false (sym is))
   in_committed k (Some n) NoRegion c in' is = absurd c
   in_committed k (Some n) Withheld c in' is = absurd c
   in_committed k (Some n) (Released j p) c in' is =
       sym (ap (λ o. any_target (target_at o ∷ []) x) (ap (λ i. in_use (begin w) i (seen past)) (sym c.0) ∙ in')) ∙ is
 
-  in_commit : (o : Option Committing) (commit : Commit) → Commits o commit → ReleasesInUse (begin w) (seen past) commit → any_target (commit_target w Replay past o) x ≡ true → any_piece (released commit) x ≡ true
+  in_commit : (o : Option Committing) (commit : Commit) → Commits o commit → ReleasesInUse (begin w) (seen past) commit →
+      any_target (commit_target w Replay past o) x ≡ true → any_piece (released commit) x ≡ true
   in_commit None commit c in' is = absurd (true≢false (sym is))
   in_commit (Some q) commit c in' is = in_committed q.key q.used commit c in' is
 
 pub lie : (w : World) → AnswersLieInRegions w
-lie w past func args result pieces commit bytes ranges commits in' x is = elim (target_split ((interface w).outs func args) (commit_target w Replay past ((interface w).commits func args result)) x (targeted (targets w Replay past func args result) bytes x is)) [
-  | inl own ↦ any_first pieces (released commit) x (any_pieces pieces x ∙ ap (λ rs. any_range rs x) ranges ∙ own)
-  | inr other ↦ any_second pieces (released commit) x (in_commit w past x ((interface w).commits func args result) commit commits in' other)
-]
+lie w past func args result pieces commit bytes ranges commits in' x is = elim
+    (target_split ((interface w).outs func args) (commit_target w Replay past ((interface w).commits func args result)) x
+    (targeted (targets w Replay past func args result) bytes x is)) [
+      | inl own ↦ any_first pieces (released commit) x (any_pieces pieces x ∙ ap (λ rs. any_range rs x) ranges ∙ own)
+      | inr other ↦ any_second pieces (released commit) x (in_commit w past x ((interface w).commits func args result) commit commits in' other)
+    ]

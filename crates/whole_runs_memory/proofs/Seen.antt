@@ -61,7 +61,8 @@ module _ (w : World) (m : Mark) (past : List Mark) where
       go System e = frames_more e t ∙ stay (eqb m.thread t) _ (frames_on w System t past) (still (frames_on w System t past))
 
 -- a thread's marks that a replay sees are those of what it sees
-push_marks : (w : World) (t : ℕ) (b : Bool) (m : Mark) (past : List Mark) → marks_of (begin w) t (cond b (m ∷ past) past) ≡ cond b (cond (eqb m.thread t) (m ∷ marks_of (begin w) t past) (marks_of (begin w) t past)) (marks_of (begin w) t past)
+push_marks : (w : World) (t : ℕ) (b : Bool) (m : Mark) (past : List Mark) → marks_of (begin w) t (cond b (m ∷ past) past) ≡ cond b
+    (cond (eqb m.thread t) (m ∷ marks_of (begin w) t past) (marks_of (begin w) t past)) (marks_of (begin w) t past)
 push_marks w t true m past = refl
 push_marks w t false m past = refl
 
@@ -84,7 +85,11 @@ own_seen w t (m ∷ past) =
     ∙ sym (push_seen (eqb m.thread t) m (own w t past))
 
 -- the stacks below the cut after the frames of one thread became others
-pub restacked : (w : World) (past : List Mark) (m : Mark) (side : SideState) (fs : List Range) → length side.stacks ≡ thread_count → m.thread < thread_count → m.side ≡ System → ((t : ℕ) → t < thread_count → stack_of side.stacks t ≡ stack_below t (frames_on w System t past)) → frames_on w System m.thread (m ∷ past) ≡ fs → (t : ℕ) → t < thread_count → stack_of (with_thread side m.thread (innermost_last fs)).stacks t ≡ stack_below t (frames_on w System t (m ∷ past))
+pub restacked : (w : World) (past : List Mark) (m : Mark) (side : SideState) (fs : List Range) → length side.stacks ≡ thread_count →
+    m.thread < thread_count → m.side ≡ System →
+    ((t : ℕ) → t < thread_count → stack_of side.stacks t ≡ stack_below t (frames_on w System t past)) →
+    frames_on w System m.thread (m ∷ past) ≡ fs → (t : ℕ) → t < thread_count →
+    stack_of (with_thread side m.thread (innermost_last fs)).stacks t ≡ stack_below t (frames_on w System t (m ∷ past))
 restacked w past m side fs count lt below were is t lt' = elim (cases_eq m.thread t) [
   | inl e ↦ subst (λ v. stack_of (with_thread side m.thread (innermost_last fs)).stacks v ≡ stack_below v (frames_on w System v (m ∷ past))) e
       (same_stack side.stacks m.thread (innermost_last fs) (omega (arith, lt, count))

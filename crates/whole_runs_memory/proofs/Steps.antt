@@ -22,25 +22,25 @@ pub steps_begin : (w : World) → StepsBeginWithNoPiece w
 steps_begin w past memory h = record { stands = h; dead = λ x e. h.bytes x ∙ e }
 
 pub writes : (w : World) → WritesArePieces w
-writes w past old new thread pieces r bytes h small fits has same rest ok = record {
+writes w past old new thread pieces r bytes h small fits k = record {
   stands = record {
-    above = unseen.written (begin w) (seen past) old new thread r.addr bytes h.stands.above small has same rest ok;
-    constants = held_same old new (ap (λ (q : SpaceState). q.held) rest) h.stands.constants;
+    above = unseen.written (begin w) (seen past) old new thread r.addr bytes h.stands.above small k;
+    constants = held_same old new (ap (λ (q : SpaceState). q.held) k.rest) h.stands.constants;
     bytes = λ x.
-        written_is old.bytes new.bytes r.addr bytes x (filled pieces x (real w past x)) has same (h.stands.bytes x)
+        written_is old.bytes new.bytes r.addr bytes x (filled pieces x (real w past x)) k.bytes_are k.others (h.stands.bytes x)
         ∙ sym (fits_filled r bytes x (filled pieces x (real w past x)) fits)
         ∙ sym (filled_more pieces (record { range = r; bytes = bytes }) x (real w past x));
-    stacks = λ t lt. ap (λ (q : SpaceState). stack_of q.sides.system.stacks t) rest ∙ h.stands.stacks t lt;
-    pool = ap (λ (q : SpaceState). q.sides.system.pool) rest ∙ h.stands.pool;
+    stacks = λ t lt. ap (λ (q : SpaceState). stack_of q.sides.system.stacks t) k.rest ∙ h.stands.stacks t lt;
+    pool = ap (λ (q : SpaceState). q.sides.system.pool) k.rest ∙ h.stands.pool;
   };
   dead = λ x e. elim (cover_cases (range r.addr (length bytes)) x) [
-    | inl in' ↦ absurd (ok.live x (in'.from, in'.below, omega (arith, in'.below, ends)) (h.dead x e))
-    | inr out ↦ same.bytes x out.is ∙ h.dead x e
+    | inl in' ↦ absurd (k.allowed.live x (in'.from, in'.below, omega (arith, in'.below, ends)) (h.dead x e))
+    | inr out ↦ k.others.bytes x out.is ∙ h.dead x e
   ];
 }
   where
     ends : r.addr + length bytes < 2 ^ 64
-    ends = live_ends old.bytes (range r.addr (length bytes)) h.stands.above.sound.ends small ok.live
+    ends = live_ends old.bytes (range r.addr (length bytes)) h.stands.above.sound.ends small k.allowed.live
 
 append_assoc' : (xs ys zs : List Piece) → (xs ++ ys) ++ zs ≡ xs ++ (ys ++ zs)
 append_assoc' [] ys zs = refl

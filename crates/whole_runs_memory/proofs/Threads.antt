@@ -36,7 +36,9 @@ bodiless (g ∷ fs) (p ∷ ps) h (suc f) = bodiless fs ps h.1 f
 of_source : (l : Laid) → IsValid l.code → (f : ℕ) → has_entry (entry l f) ≡ true → builtin_count ≤ f
 of_source l valid f body = elim (cases_lt f builtin_count) [
   | inr le ↦ le
-  | inl lt ↦ absurd (true≢false (sym body ∙ ap (λ o. has_entry (entry_of o)) (cond-true (ltb f builtin_count) (slice_get l.code.builtins f) _ (lt-ltb f builtin_count lt)) ∙ ap has_entry (bodiless l.code.builtins prototypes valid.builtins f)))
+  | inl lt ↦ absurd (true≢false (sym body ∙ ap (λ o. has_entry (entry_of o))
+      (cond-true (ltb f builtin_count) (slice_get l.code.builtins f) _ (lt-ltb f builtin_count lt)) ∙ ap has_entry
+      (bodiless l.code.builtins prototypes valid.builtins f)))
 ]
 
 all_answer : (l : Laid) (c : Config) (past : List Mark) → AllGoOn Split l c past → AreAnswers Split l c past

@@ -92,7 +92,8 @@ module _ (memory : SpaceState) (changed : ℕ → Bool) where
     used_is = ap (λ (q : Range). cond (eqb q.addr 0) 0 used) same ∙ sym is
 
     -- a byte past the used size, as it was when it was held
-    was : (i : ℕ) → i < length (drop (used_of g used) g.before) → used_of g used ≤ g.range.len → value_when_held rs (g.range.addr + used_of g used + i) ≡ Some (slice_index (drop (used_of g used) g.before) i)
+    was : (i : ℕ) → i < length (drop (used_of g used) g.before) → used_of g used ≤ g.range.len →
+        value_when_held rs (g.range.addr + used_of g used + i) ≡ Some (slice_index (drop (used_of g used) g.before) i)
     was i lt room =
         let k : used_of g used + i < g.range.len = omega (arith, lt, length-drop (used_of g used) g.before, waits.whole, room) in
         let off : g.range.addr + used_of g used + i - g.range.addr ≡ used_of g used + i = omega arith in
@@ -144,7 +145,10 @@ module _ (memory : SpaceState) (changed : ℕ → Bool) where
   abbrev ranges_of : List Region → List Range
   ranges_of gs = map (λ (g : Region). g.range) gs
 
-  walk_unfilled : (gs : List Region) (ro more : List Range) (bs qs : List (List ℕ)) (us ns : List ℕ) (A : Checks) (x : ℕ) → ranges_of gs ≡ ro → length ro ≡ length bs → AreUsedSizes (ro ++ more) us ns → All (IsWaiting rs) gs → AllFit (map To ro) bs → ((y : ℕ) → any_range ro y ≡ true → changed y ≡ was_changed memory y) → FirstUnfilled memory.bytes gs us x → Finds (size_checks changed (map length (bs ++ qs)) (ro ++ more) ns A) (BreachFound breach.Size x None)
+  walk_unfilled : (gs : List Region) (ro more : List Range) (bs qs : List (List ℕ)) (us ns : List ℕ) (A : Checks) (x : ℕ) →
+      ranges_of gs ≡ ro → length ro ≡ length bs → AreUsedSizes (ro ++ more) us ns → All (IsWaiting rs) gs → AllFit (map To ro) bs →
+      ((y : ℕ) → any_range ro y ≡ true → changed y ≡ was_changed memory y) → FirstUnfilled memory.bytes gs us x →
+      Finds (size_checks changed (map length (bs ++ qs)) (ro ++ more) ns A) (BreachFound breach.Size x None)
   walk_unfilled [] ro more bs qs us ns A x same count sizes waits fit agree first = absurd first
   walk_unfilled (g ∷ gs) [] more bs qs us ns A x same count sizes waits fit agree first = absurd cc
   walk_unfilled (g ∷ gs) (r ∷ ro) more [] qs us ns A x same count sizes waits fit agree first = absurd (omega (arith, count))
@@ -164,7 +168,11 @@ module _ (memory : SpaceState) (changed : ℕ → Bool) where
         )
       ]
 
-  walk_filled : (gs : List Region) (ro more : List Range) (bs qs : List (List ℕ)) (us ns : List ℕ) (A : Checks) (f : Finding) → ranges_of gs ≡ ro → length ro ≡ length bs → AreUsedSizes (ro ++ more) us ns → All (IsWaiting rs) gs → AllFit (map To ro) bs → ((y : ℕ) → any_range ro y ≡ true → changed y ≡ was_changed memory y) → AllFilled memory.bytes gs us → ((us ns : List ℕ) → AreUsedSizes more us ns → Finds (size_checks changed (map length qs) more ns A) f) → Finds (size_checks changed (map length (bs ++ qs)) (ro ++ more) ns A) f
+  walk_filled : (gs : List Region) (ro more : List Range) (bs qs : List (List ℕ)) (us ns : List ℕ) (A : Checks) (f : Finding) →
+      ranges_of gs ≡ ro → length ro ≡ length bs → AreUsedSizes (ro ++ more) us ns → All (IsWaiting rs) gs → AllFit (map To ro) bs →
+      ((y : ℕ) → any_range ro y ≡ true → changed y ≡ was_changed memory y) → AllFilled memory.bytes gs us →
+      ((us ns : List ℕ) → AreUsedSizes more us ns → Finds (size_checks changed (map length qs) more ns A) f) →
+      Finds (size_checks changed (map length (bs ++ qs)) (ro ++ more) ns A) f
   walk_filled [] [] more [] qs us ns A f same count sizes waits fit agree all end = end us ns sizes
   walk_filled [] [] more (b ∷ bs) qs us ns A f same count sizes waits fit agree all end = absurd (omega (arith, count))
   walk_filled [] (r ∷ ro) more bs qs us ns A f same count sizes waits fit agree all end = absurd cc
@@ -218,7 +226,10 @@ at_length (c ∷ bs) rest b = at_length bs rest b
 
 -- ---- a Ret
 
-module _ (w : World) (past : List Mark) (memory : SpaceState) (t func : ℕ) (args : List ℕ) (result : ℕ) (used : List ℕ) (committing : Option (ℕ × ℕ)) (before more : List Range) (bs qs : List (List ℕ)) (h : InStep w past (pieces_for (map To before) bs) memory) (e : IsEnding w past t func args result used committing) (outs_are : (interface w).outs func args ≡ before ++ more) (count : length before ≡ length bs) (fit : AllFit (map To before) bs) where
+module _ (w : World) (past : List Mark) (memory : SpaceState) (t func : ℕ) (args : List ℕ) (result : ℕ) (used : List ℕ)
+    (committing : Option (ℕ × ℕ)) (before more : List Range) (bs qs : List (List ℕ))
+    (h : InStep w past (pieces_for (map To before) bs) memory) (e : IsEnding w past t func args result used committing)
+    (outs_are : (interface w).outs func args ≡ before ++ more) (count : length before ≡ length bs) (fit : AllFit (map To before) bs) where
   abbrev i : Interface
   i = interface w
 
@@ -286,12 +297,15 @@ module _ (w : World) (past : List Mark) (memory : SpaceState) (t func : ℕ) (ar
   abbrev first_held : List Region
   first_held = take (length before) held
 
-  found_before : (A : Checks) (x : ℕ) → FirstUnfilled memory.bytes first_held used x → Finds (size_checks up.changed up.pieces (i.outs func args) (i.used func args result) A) (BreachFound breach.Size x None)
+  found_before : (A : Checks) (x : ℕ) → FirstUnfilled memory.bytes first_held used x →
+      Finds (size_checks up.changed up.pieces (i.outs func args) (i.used func args result) A) (BreachFound breach.Size x None)
   found_before A x first =
       subst (λ o. Finds (size_checks up.changed up.pieces o (i.used func args result) A) (BreachFound breach.Size x None)) (sym outs_are)
       (walk_unfilled memory up.changed first_held before more bs qs used (i.used func args result) A x (take_ranges held before more ranges) count sizes (take_all (IsWaiting regions) (length before) held waiting) fit agree first)
 
-  found_after : (A : Checks) (f : Finding) → AllFilled memory.bytes first_held used → ((us ns : List ℕ) → AreUsedSizes more us ns → Finds (size_checks up.changed (map length qs) more ns A) f) → Finds (size_checks up.changed up.pieces (i.outs func args) (i.used func args result) A) f
+  found_after : (A : Checks) (f : Finding) → AllFilled memory.bytes first_held used →
+      ((us ns : List ℕ) → AreUsedSizes more us ns → Finds (size_checks up.changed (map length qs) more ns A) f) →
+      Finds (size_checks up.changed up.pieces (i.outs func args) (i.used func args result) A) f
   found_after A f all end =
       subst (λ o. Finds (size_checks up.changed up.pieces o (i.used func args result) A) f) (sym outs_are)
       (walk_filled memory up.changed first_held before more bs qs used (i.used func args result) A f (take_ranges held before more ranges) count sizes (take_all (IsWaiting regions) (length before) held waiting) fit agree all end)
@@ -300,30 +314,44 @@ module _ (w : World) (past : List Mark) (memory : SpaceState) (t func : ℕ) (ar
   abbrev checks_of : Option Committing → Checks
   checks_of o = return_checks (record i { commits = λ g b v. o }) (begin w) (seen past) up func args result
 
-  past_key : (k n : ℕ) (f : Finding) → (in_use (begin w) k (seen past) ≡ None → ⊥) → Finds (size_checks up.changed up.pieces (i.outs func args) (i.used func args result) (commit_size_check up.changed up.committed (in_use (begin w) k (seen past)) n Done)) f → Finds (checks_of (Some (record { key = k; used = Some n }))) f
+  past_key : (k n : ℕ) (f : Finding) → (in_use (begin w) k (seen past) ≡ None → ⊥) →
+      Finds (size_checks up.changed up.pieces (i.outs func args) (i.used func args result) (commit_size_check up.changed up.committed (in_use (begin w) k (seen past)) n Done)) f →
+      Finds (checks_of (Some (record { key = k; used = Some n }))) f
   past_key k n f there p = inr ((λ x bad. there bad.1), p)
 
   key_there : (k n : ℕ) → HasKey regions (Some (k, n)) → in_use (begin w) k (seen past) ≡ None → ⊥
   key_there k n has none = has k (no_region (prepared_region regions k) (h.stands.above.keys k ∙ none), refl)
 
-  by_used : (k : ℕ) (u : Option ℕ) (c : Option (ℕ × ℕ)) (f : Finding) → c ≡ option_map (λ n. (k, n)) u → HasKey regions c → ((A : Checks) → Finds (size_checks up.changed up.pieces (i.outs func args) (i.used func args result) A) f) → Finds (checks_of (Some (record { key = k; used = u }))) f
+  by_used : (k : ℕ) (u : Option ℕ) (c : Option (ℕ × ℕ)) (f : Finding) → c ≡ option_map (λ n. (k, n)) u → HasKey regions c →
+      ((A : Checks) → Finds (size_checks up.changed up.pieces (i.outs func args) (i.used func args result) A) f) →
+      Finds (checks_of (Some (record { key = k; used = u }))) f
   by_used k None c f is has p = p Done
   by_used k (Some n) c f is has p = past_key k n f (key_there k n (subst (HasKey regions) is has)) (p _)
 
-  by_commit : (o : Option Committing) (c : Option (ℕ × ℕ)) (f : Finding) → IsCommitted o c → HasKey regions c → ((A : Checks) → Finds (size_checks up.changed up.pieces (i.outs func args) (i.used func args result) A) f) → Finds (checks_of o) f
+  by_commit : (o : Option Committing) (c : Option (ℕ × ℕ)) (f : Finding) → IsCommitted o c → HasKey regions c →
+      ((A : Checks) → Finds (size_checks up.changed up.pieces (i.outs func args) (i.used func args result) A) f) → Finds (checks_of o) f
   by_commit None c f is has p = p Done
   by_commit (Some q) c f is has p = by_used q.key q.used c f is has p
 
-  whatever : (f : Finding) → HasKey regions committing → ((A : Checks) → Finds (size_checks up.changed up.pieces (i.outs func args) (i.used func args result) A) f) → Finds (ret_checks w past func args result (bs ++ qs)) f
+  whatever : (f : Finding) → HasKey regions committing →
+      ((A : Checks) → Finds (size_checks up.changed up.pieces (i.outs func args) (i.used func args result) A) f) →
+      Finds (ret_checks w past func args result (bs ++ qs)) f
   whatever f has p = by_commit (i.commits func args result) committing f e.committed has p
 
 pub long_outs : (w : World) → LongPiecesOfRegionsAreFound w
 long_outs w past memory t func args result used committing before after r bs rest b h e has outs_are count fit long = record {
-  unfilled = λ x first. whatever w past memory t func args result used committing before (r ∷ after) bs (b ∷ rest) h e outs_are count fit (BreachFound breach.Size x None) has (λ A. found_before w past memory t func args result used committing before (r ∷ after) bs (b ∷ rest) h e outs_are count fit A x first);
-  filled = λ all. whatever w past memory t func args result used committing before (r ∷ after) bs (b ∷ rest) h e outs_are count fit (BreachFound breach.Size r.addr None) has (λ A. found_after w past memory t func args result used committing before (r ∷ after) bs (b ∷ rest) h e outs_are count fit A (BreachFound breach.Size r.addr None) all (here A));
+  unfilled = λ x first. whatever w past memory t func args result used committing before (r ∷ after) bs (b ∷ rest) h e outs_are count fit
+      (BreachFound breach.Size x None) has
+      (λ A. found_before w past memory t func args result used committing before (r ∷ after) bs
+      (b ∷ rest) h e outs_are count fit A x first);
+  filled = λ all. whatever w past memory t func args result used committing before (r ∷ after) bs (b ∷ rest) h e outs_are count fit
+      (BreachFound breach.Size r.addr None) has
+      (λ A. found_after w past memory t func args result used committing before (r ∷ after) bs (b ∷ rest) h e outs_are count fit A
+      (BreachFound breach.Size r.addr None) all (here A));
 }
   where
-    here : (A : Checks) (us ns : List ℕ) → AreUsedSizes (r ∷ after) us ns → Finds (size_checks (comes_up w past func args result (bs ++ b ∷ rest)).changed (map length (b ∷ rest)) (r ∷ after) ns A) (BreachFound breach.Size r.addr None)
+    here : (A : Checks) (us ns : List ℕ) → AreUsedSizes (r ∷ after) us ns →
+        Finds (size_checks (comes_up w past func args result (bs ++ b ∷ rest)).changed (map length (b ∷ rest)) (r ∷ after) ns A) (BreachFound breach.Size r.addr None)
     here A (u ∷ us) (n ∷ ns) s = inl (r.addr, ((refl, inl long), λ y bad. omega (arith, bad.0)), refl)
     here A [] ns s = absurd s
     here A (u ∷ us) [] s = absurd s
@@ -344,8 +372,13 @@ append_ranges (r ∷ rs) = ap (λ q. r ∷ q) (append_ranges rs)
 
 pub long_committed : (w : World) → LongCommittedPiecesAreFound w
 long_committed w past memory t func args result used committing k size r bs rest b h e commits there count fit long = record {
-  unfilled = λ x first. decide (BreachFound breach.Size x None) (found_before w past memory t func args result used committing ((interface w).outs func args) [] bs (b ∷ rest) h e outs_are count fit last_check x (subst (λ gs. FirstUnfilled memory.bytes gs used x) (sym all_held) first));
-  filled = λ all. decide (BreachFound breach.Size r.addr None) (found_after w past memory t func args result used committing ((interface w).outs func args) [] bs (b ∷ rest) h e outs_are count fit last_check (BreachFound breach.Size r.addr None) (subst (λ gs. AllFilled memory.bytes gs used) (sym all_held) all) (λ us ns s. last));
+  unfilled = λ x first. decide (BreachFound breach.Size x None)
+      (found_before w past memory t func args result used committing ((interface w).outs func args) [] bs
+      (b ∷ rest) h e outs_are count fit last_check x (subst (λ gs. FirstUnfilled memory.bytes gs used x) (sym all_held) first));
+  filled = λ all. decide (BreachFound breach.Size r.addr None)
+      (found_after w past memory t func args result used committing ((interface w).outs func args) [] bs
+      (b ∷ rest) h e outs_are count fit last_check (BreachFound breach.Size r.addr None)
+      (subst (λ gs. AllFilled memory.bytes gs used) (sym all_held) all) (λ us ns s. last));
 }
   where
     outs_are : (interface w).outs func args ≡ (interface w).outs func args ++ []
@@ -360,11 +393,18 @@ long_committed w past memory t func args result used committing k size r bs rest
     last_check : Checks
     last_check = commit_size_check (comes_up w past func args result (bs ++ b ∷ rest)).changed (comes_up w past func args result (bs ++ b ∷ rest)).committed (in_use (begin w) k (seen past)) size Done
 
-    decide : (f : Finding) → Finds (size_checks (comes_up w past func args result (bs ++ b ∷ rest)).changed (comes_up w past func args result (bs ++ b ∷ rest)).pieces ((interface w).outs func args) ((interface w).used func args result) last_check) f → Finds (ret_checks w past func args result (bs ++ b ∷ rest)) f
-    decide f p = subst (λ o. Finds (return_checks (record (interface w) { commits = λ g c v. o }) (begin w) (seen past) (comes_up w past func args result (bs ++ b ∷ rest)) func args result) f) (sym commits) (inr ((λ x bad. some_none r (sym there ∙ bad.1)), p))
+    decide : (f : Finding) →
+        Finds (size_checks (comes_up w past func args result (bs ++ b ∷ rest)).changed (comes_up w past func args result (bs ++ b ∷ rest)).pieces ((interface w).outs func args) ((interface w).used func args result) last_check) f →
+        Finds (ret_checks w past func args result (bs ++ b ∷ rest)) f
+    decide f p = subst (λ o. Finds
+        (return_checks (record (interface w) { commits = λ g c v. o }) (begin w) (seen past)
+        (comes_up w past func args result (bs ++ b ∷ rest)) func args result) f) (sym commits)
+        (inr ((λ x bad. some_none r (sym there ∙ bad.1)), p))
 
     committed_is : (comes_up w past func args result (bs ++ b ∷ rest)).committed ≡ length b
     committed_is = ap (λ n. length (get_or (bs ++ b ∷ rest) n [])) count ∙ ap length (at_length bs rest b)
 
     last : Finds last_check (BreachFound breach.Size r.addr None)
-    last = subst (λ o. Finds (commit_size_check (comes_up w past func args result (bs ++ b ∷ rest)).changed (comes_up w past func args result (bs ++ b ∷ rest)).committed o size Done) (BreachFound breach.Size r.addr None)) (sym there) (inl (r.addr, ((refl, inl (omega (arith, committed_is, long))), λ y bad. omega (arith, bad.0)), refl))
+    last = subst (λ o. Finds (commit_size_check (comes_up w past func args result (bs ++ b ∷ rest)).changed
+        (comes_up w past func args result (bs ++ b ∷ rest)).committed o size Done) (BreachFound breach.Size r.addr None)) (sym there)
+        (inl (r.addr, ((refl, inl (omega (arith, committed_is, long))), λ y bad. omega (arith, bad.0)), refl))

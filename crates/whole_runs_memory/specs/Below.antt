@@ -1,5 +1,5 @@
 -- What code below the cut does to memory: each call that memory takes is a mark there.
-use Rattle.std.specs.Prelude.{◌≡◌, ◌⊎◌, ℕ, ◌+◌, ◌^◌, ◌<◌, ◌≤◌, true, List, [], ◌∷◌, ◌++◌, length, Option, Some, None, slice_index}
+use Rattle.std.specs.Prelude.{◌≡◌, ℕ, ◌^◌, ◌<◌, List, [], ◌∷◌, length, Option, Some}
 use Rattle.marks.specs.declared.side.Side.TheVariants.{System}
 use Rattle.marks.specs.Places.{thread_count}
 use Rattle.marks.specs.declared.range.Range.{Range}
@@ -9,16 +9,9 @@ use Rattle.marks.specs.Bytes.{granted}
 use Rattle.marks.specs.Wants.{Want}
 use Rattle.c_builtins.specs.declared.builtin.Builtin.TheVariants.{Malloc, Free}
 use Rattle.c_code.specs.Machine.{first}
-use Rattle.pool_list.specs.Blocks.{length_at, with_block, without_block}
-use Rattle.pool_list.specs.Places.{IsPlace, IsLeastPlace}
-use Rattle.space_memory_bytes.specs.Areas.{byte_at, extents}
-use Rattle.space_memory_bytes.specs.Numbers.{HasNumber, SameOutside, FillsWith}
-use Rattle.space_memory_access.specs.declared.refusal.Refusal.{Refusal}
-use Rattle.space_memory_access.specs.Accesses.{IsAllowed}
-use Rattle.space_memory.specs.StackFrames.{stack_of, end_of}
-use Rattle.space_memory.specs.Sides.{frames_of, with_thread, with_blocks}
-use Rattle.space_memory.specs.Spaces.{SpaceState, side_of, with_side}
-use Rattle.space_memory.specs.Frames.{IsEnterRefused, with_args}
+use Rattle.space_memory_bytes.specs.Areas.{extents}
+use Rattle.space_memory_bytes.specs.Numbers.{FillsWith}
+use Rattle.space_memory.specs.Spaces.{SpaceState}
 use Rattle.space_memory_laws.specs.FrameMarks.{bytes_with_args}
 use Rattle.whole_runs.specs.World.{World}
 use Rattle.whole_runs.specs.Sides.{place_on, HasRoomOn}
@@ -26,6 +19,7 @@ use Rattle.whole_runs.specs.Outcomes.{builtin_of}
 use Rattle.whole_runs.specs.Below.{block_at}
 use Rattle.whole_runs.specs.Steps.{zeros}
 use Rattle.whole_runs_memory.specs.Stands.{StandsForWhole, IsWholeMark}
+use Rattle.space_memory_laws.specs.Changes.{IsStored, HasFrame, SetsArguments, IsLeft, IsTaken, GivesNone, IsGivenBack}
 
 -- a store to system memory, or to a region that is handed down to be written, is a Store
 abbrev pub StoresBelowAreWhole : World → Type 0
@@ -35,16 +29,7 @@ StoresBelowAreWhole w =
     StandsForWhole w past old →
     m.side ≡ System →
     addr < 2 ^ 64 →
-    HasNumber new.bytes addr width value →
-    SameOutside (record { addr = addr; len = width }) old.bytes new.bytes →
-    new ≡ record old { bytes = new.bytes } →
-    IsAllowed old.bytes old.held.regions (record {
-      side = System;
-      thread = thread;
-      range =
-          record { addr = addr; len = width };
-      write = true;
-    }) →
+    IsStored System old new thread addr width value →
     m.act ≡ Store origin addr (bytes_of_number width value) →
     StandsForWhole w (m ∷ past) new
 
@@ -63,19 +48,11 @@ EntersBelowAreWhole w =
     StandsForWhole w past old →
     m.side ≡ System →
     m.thread < thread_count →
-    entered.sides ≡ with_side old.sides System (with_thread (side_of old.sides System) m.thread
-    (frames_of (side_of old.sides System) m.thread ++ record { addr = addr; len = size } ∷ [])) →
-    addr ≡ end_of (stack_of (side_of old.sides System).stacks m.thread).base
-    (frames_of (side_of old.sides System) m.thread) →
-    ((r : Refusal) → ¬ IsEnterRefused (stack_of (side_of old.sides System).stacks m.thread) size r) →
+    HasFrame System old entered m.thread addr size →
     FillsWith (record { addr = addr; len = size }) (Some 0) old.bytes entered.bytes →
-    entered.held ≡ old.held →
-    length widths ≡ length offsets →
     length values ≡ length offsets →
-    ((i : ℕ) → i < length offsets → slice_index offsets i + slice_index widths i ≤ size) →
     extents new.bytes ≡ extents entered.bytes →
-    ((x : ℕ) → byte_at new.bytes x ≡ with_args addr offsets widths values x (byte_at entered.bytes x)) →
-    new ≡ record entered { bytes = new.bytes } →
+    SetsArguments entered new addr size offsets widths values →
     m.act ≡ Enter func args addr (bytes_with_args size offsets widths values) →
     IsEnterBelow w past m addr size new
 
@@ -86,12 +63,7 @@ LeavesBelowAreWhole w =
     StandsForWhole w past old →
     m.side ≡ System →
     m.thread < thread_count →
-    frames_of (side_of old.sides System) m.thread ≡ frames_of (side_of new.sides System) m.thread ++
-    frame ∷ [] →
-    new.sides ≡ with_side old.sides System (with_thread (side_of old.sides System) m.thread
-    (frames_of (side_of new.sides System) m.thread)) →
-    FillsWith frame None old.bytes new.bytes →
-    new.held ≡ old.held →
+    IsLeft System old new m.thread frame →
     m.act ≡ Leave frame.addr frame.len →
     StandsForWhole w (m ∷ past) new
 
@@ -102,12 +74,7 @@ AllocsBelowAreWhole w =
     StandsForWhole w past old →
     m.side ≡ System →
     builtin_of func ≡ Some Malloc →
-    IsLeastPlace (side_of old.sides System).pool (first args) addr →
-    1 ≤ first args →
-    new.sides ≡ with_side old.sides System (with_blocks (side_of old.sides System)
-    (with_block (side_of old.sides System).pool.blocks (record { addr = addr; len = first args }))) →
-    FillsWith (record { addr = addr; len = first args }) (Some 0) old.bytes new.bytes →
-    new.held ≡ old.held →
+    IsTaken System old new (first args) addr →
     m.act ≡ Step func args addr [] (zeros addr (granted addr (first args))) [] →
     IsWholeMark w past want m new
 
@@ -118,7 +85,7 @@ RefusedAllocsBelowAreWhole w =
     StandsForWhole w past memory →
     m.side ≡ System →
     builtin_of func ≡ Some Malloc →
-    ((first args ≡ 0) ⊎ ((addr : ℕ) → ¬ IsPlace (side_of memory.sides System).pool (first args) addr)) →
+    GivesNone System memory (first args) →
     m.act ≡ Step func args 0 [] (zeros 0 (granted 0 (first args))) [] →
     IsWholeMark w past want m memory
 
@@ -129,11 +96,7 @@ FreesBelowAreWhole w =
     StandsForWhole w past old →
     m.side ≡ System →
     builtin_of func ≡ Some Free →
-    length_at (side_of old.sides System).pool.blocks (first args) ≡ Some size →
-    new.sides ≡ with_side old.sides System (with_blocks (side_of old.sides System)
-    (without_block (side_of old.sides System).pool.blocks (first args))) →
-    FillsWith (record { addr = first args; len = size }) None old.bytes new.bytes →
-    new.held ≡ old.held →
+    IsGivenBack System old new (first args) size →
     m.act ≡ Step func args 0 [] [] (block_at (first args) past) →
     IsWholeMark w past want m new
 

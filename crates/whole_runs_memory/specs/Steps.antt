@@ -1,17 +1,16 @@
 -- The pieces of one step: each is written on its own, and the mark comes after the last.
-use Rattle.std.specs.Prelude.{◌≡◌, ℕ, ◌^◌, ◌<◌, ◌≤◌, true, List, [], ◌∷◌, ◌++◌, length}
+use Rattle.std.specs.Prelude.{◌≡◌, ℕ, ◌^◌, ◌<◌, ◌≤◌, List, [], ◌∷◌, ◌++◌, length}
 use Rattle.marks.specs.declared.side.Side.TheVariants.{System}
 use Rattle.marks.specs.declared.range.Range.{Range}
 use Rattle.marks.specs.Ranges.{Piece}
 use Rattle.marks.specs.Marks.{Step, Mark}
-use Rattle.space_memory_bytes.specs.Numbers.{HasBytes, SameOutside}
-use Rattle.space_memory_access.specs.Accesses.{IsAllowed}
 use Rattle.space_memory.specs.Spaces.{SpaceState}
 use Rattle.whole_runs.specs.World.{World}
 use Rattle.whole_runs.specs.Outcomes.{builtin_of}
 use Rattle.whole_runs.specs.Below.{Target, piece_for, pieces_for}
 use Rattle.whole_runs_memory.specs.Stands.{StandsForWhole, InStep}
 use Rattle.whole_runs_memory.specs.Plain.{LeavesPool}
+use Rattle.space_memory_laws.specs.Changes.{IsWritten}
 
 -- a step begins with no piece
 abbrev pub StepsBeginWithNoPiece : World → Type 0
@@ -26,16 +25,7 @@ WritesArePieces w =
     InStep w past pieces old →
     r.addr < 2 ^ 64 →
     length bytes ≤ r.len →
-    HasBytes new.bytes r.addr bytes →
-    SameOutside (record { addr = r.addr; len = length bytes }) old.bytes new.bytes →
-    new ≡ record old { bytes = new.bytes } →
-    IsAllowed old.bytes old.held.regions (record {
-      side = System;
-      thread = thread;
-      range =
-          record { addr = r.addr; len = length bytes };
-      write = true;
-    }) →
+    IsWritten System old new thread r.addr bytes →
     InStep w past (pieces ++ record { range = r; bytes = bytes } ∷ []) new
 
 -- the pieces of a longer list of targets

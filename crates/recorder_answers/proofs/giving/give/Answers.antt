@@ -2,6 +2,7 @@ use Rattle.std.proofs.Common.{sym, ap, ◌∙◌, subst}
 use Rattle.std.proofs.lemmas.Option.{slice_get_within}
 use Rattle.marks.specs.declared.side.Side.TheVariants.{Replay}
 use Rattle.system_side.specs.declared.file.Scripted.{Scripted}
+use Rattle.system_side.specs.AnswerLists.{as_scripted}
 use Rattle.whole_runs.specs.Below.{Says}
 use Rattle.recorder_threads.specs.declared.wants.Want.TheVariants as told
 use Rattle.recorder_system.specs.declared.given.Given.TheVariants as shown
@@ -24,16 +25,16 @@ give_this-requires c = record {
   given_so = told_so (world_of c.args.inputs) c.args.state.now c.args.thread c.args.func c.requires c.args-2.result.now c.given.result (shown.Value c.in-Value.value) c.args-2.ensures c.given.ensures c.in-Value.is;
 }
 
-pub answer_at-said-requires : goal.answer_at-said-requires
-answer_at-said-requires c =
+pub get-said-requires : goal.get-said-requires
+get-said-requires c =
     let q = told_so (world_of c.args.inputs) c.args.state.now c.args.thread c.args.func c.requires c.args-2.result.now c.given.result (shown.Answer c.in-Answer.place) c.args-2.ensures c.given.ensures c.in-Answer.is in
     slice_get_within c.args.inputs.file.now.answers c.in-Answer.place q.0 q.1
 
 pub give_this-requires-in-Answer : goal.give_this-requires-in-Answer
 give_this-requires-in-Answer c =
     let q = told_so (world_of c.args.inputs) c.args.state.now c.args.thread c.args.func c.requires c.args-2.result.now c.given.result (shown.Answer c.in-Answer.place) c.args-2.ensures c.given.ensures c.in-Answer.is in
-    let same = same_answer q.0 c.answer_at-said.result.now (sym q.1 ∙ sym c.answer_at-said.ensures) in
-    let pieces = ap (λ (a : Scripted). a.pieces) same ∙ sym c.as_slice-pieces.ensures in
+    let same = same_answer q.0 (as_scripted c.get-said.result) (sym q.1 ∙ sym c.get-said.ensures) in
+    let pieces = ap (λ (a : Scripted). a.pieces) same in
     record { at = c.requires; given_so = q.2 ∙ (λ j. Says (same j).result (pieces j)) }
 
 pub unreachable-requires : goal.unreachable-requires

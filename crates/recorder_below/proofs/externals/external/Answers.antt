@@ -1,5 +1,6 @@
 use Rattle.std.proofs.Common.{sym, ◌∙◌, subst}
 use Rattle.marks.specs.declared.side.Side.TheVariants.{System}
+use Rattle.system_side.specs.AnswerLists.{as_scripted}
 use Rattle.whole_runs.specs.World.{may_run}
 use Rattle.recorder_system.specs.Calls.{TellsGiven}
 use Rattle.recorder_threads.specs.declared.wants.Want.TheVariants as told
@@ -7,7 +8,7 @@ use Rattle.recorder_threads.specs.Threads.{args_at}
 use Rattle.recorder_state.specs.Inputs.{world_of}
 use Rattle.recorder_plain.proofs.Breaches.{broken, kept}
 use Rattle.recorder_plain.proofs.Steps.{is_started}
-use Rattle.recorder_below.specs.Externals.{IsAtAnswer, IsAtExternal}
+use Rattle.recorder_below.specs.Externals.{IsAtExternal}
 use Rattle.recorder_below.proofs.Made.{EndsBy}
 use Rattle.recorder_below.proofs.Stepped.{step_breaks}
 use Rattle.recorder_below.proofs.Answered.{answer_is, no_more, not_by_pool, place_there, value_is}
@@ -34,17 +35,15 @@ here c = record {
 tells : (c : After-given) → TellsGiven c.args.thread c.args.func (args_at c.args.state.now.threads c.args.thread) c.args.state.now.system c.given.result
 tells c = subst (λ xs. TellsGiven c.args.thread c.args.func xs c.args.state.now.system c.given.result) c.args-2.ensures c.given.ensures
 
-pub answer_at-answer-requires : goal.answer_at-answer-requires
-answer_at-answer-requires c =
-    let d = (goal.at.answer_at-answer-requires c).After-given in
+pub get-answer-requires : goal.get-answer-requires
+get-answer-requires c =
+    let d = (goal.at.get-answer-requires c).After-given in
     place_there (world_of c.args.inputs) c.args.state.now c.args.thread c.args.func (here d) c.given.result (tells d) c.in-Answer.place c.in-Answer.is
 
 pub come_to-requires : goal.come_to-requires
 come_to-requires c =
     let d = (goal.at.come_to-requires c).After-given in
-    let a = c.answer_at-answer.result.now in
-    subst (IsAtAnswer (world_of c.args.inputs) c.args.state.now c.args.thread c.args.func a.result) (sym c.as_slice-pieces.ensures)
-    (answer_is (world_of c.args.inputs) c.args.state.now c.args.thread c.args.func (here d) c.given.result (tells d) c.in-Answer.place c.in-Answer.is a c.answer_at-answer.ensures)
+    answer_is (world_of c.args.inputs) c.args.state.now c.args.thread c.args.func (here d) c.given.result (tells d) c.in-Answer.place c.in-Answer.is (as_scripted c.get-answer.result) c.get-answer.ensures
 
 pub come_to-requires-in-Value : goal.come_to-requires-in-Value
 come_to-requires-in-Value c =

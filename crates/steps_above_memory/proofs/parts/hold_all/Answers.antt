@@ -29,6 +29,7 @@ pub loop-range-preserved : goal.loop-range-preserved
 loop-range-preserved c =
     let none : Range = record { addr = 0; len = 0 } in
     record {
-      adds = adds_next c.args.thread (held_part c.args.write) c.args.ranges.now c.loop-range.range-index none c.args.watch.now c.args.spaces.now c.loop-range.spaces c.hold.new.spaces c.loop-range-test.true c.loop-range.invariant.adds c.in_default.ensures.adds;
+      adds = adds_next c.args.thread
+          (held_part c.args.write) c.args.ranges.now c.loop-range.range-index none c.args.watch.now c.args.spaces.now c.loop-range.spaces c.hold.new.spaces c.loop-range-test.true c.loop-range.invariant.adds c.in_default.ensures.adds;
       depths = c.hold.ensures.depths ∙ c.loop-range.invariant.depths;
     }

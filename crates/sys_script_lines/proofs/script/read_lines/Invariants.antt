@@ -6,6 +6,7 @@ use Rattle.sys_script_lines.proofs.script.read_lines.Given as goal
 
 abbrev pub invariant-loop-line : goal.invariant-loop-line
 invariant-loop-line l = record {
+  found_in : l.finder.externals.now ≡ l.externals;
   few : l.number + length l.rest ≤ 1048577;
   same : script (named_in l.externals) l.number l.said (parts 10 l.rest) ≡ script_of (named_in l.externals) l.bytes;
 }

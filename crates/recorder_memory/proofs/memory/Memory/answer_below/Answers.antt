@@ -17,7 +17,9 @@ loop-i-preserved c = record {
 }
 
 pub returns-clause-answered : goal.returns-clause-answered
-returns-clause-answered c = answered c.args.self.now c.loop-i.self c.args.thread _ _ c.loop-i.invariant.watch (all_written c.args.self.now c.loop-i.self c.args.thread c.args.targets.now c.args.pieces.now c.loop-i.i (omega arith) (omega arith) c.loop-i.invariant.written)
+returns-clause-answered c = answered c.args.self.now c.loop-i.self c.args.thread _ _ c.loop-i.invariant.watch
+    (all_written c.args.self.now c.loop-i.self c.args.thread c.args.targets.now c.args.pieces.now c.loop-i.i (omega arith)
+    (omega arith) c.loop-i.invariant.written)
 
 pub returns-clause-seen : goal.returns-clause-seen
 returns-clause-seen c = broken_off c.args.self.now c.loop-i.self c.args.thread _ _ c.loop-i.invariant.written

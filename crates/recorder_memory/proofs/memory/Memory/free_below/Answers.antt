@@ -3,7 +3,8 @@ use Rattle.recorder_memory.proofs.Pool.{freed, free_refused}
 use Rattle.recorder_memory.proofs.memory.Memory.free_below.Goals as goal
 
 pub returns-in-Ok-clause-freed : goal.returns-in-Ok-clause-freed
-returns-in-Ok-clause-freed c = freed c.args.self.now c.free_in.new.self _ c.args.addr c.in-Ok.field-0 c.free_in.result c.in-Ok.is c.free_in.ensures.null c.in-Ok.ensures.length c.in-Ok.ensures.freed c.in-Ok.ensures.dead c.free_in.ensures.held c.free_in.ensures.refused
+returns-in-Ok-clause-freed c =
+    freed c.args.self.now c.free_in.new.self _ c.args.addr c.in-Ok.field-0 c.free_in.result c.in-Ok.is c.free_in.ensures.null c.in-Ok.ensures.length c.in-Ok.ensures.freed c.in-Ok.ensures.dead c.free_in.ensures.held c.free_in.ensures.refused
 
 pub returns-in-Err-clause-refused : goal.returns-in-Err-clause-refused
 returns-in-Err-clause-refused c =

@@ -24,7 +24,9 @@ returns-in-Err-hold_all-2-clause-unchanged c =
     let opened = open_parts c.args.self.now c.args.thread c.open.new.self c.requires.in_range c.in_default.ensures.opened c.open.ensures.rest in
     let read = read_parts c.args.self.now c.args.thread c.args.regions.now c.open.new.self c.hold_all.new.spaces opened c.in_default-hold_all.ensures.adds in
     let undo = c.undo-in-Err-hold_all-2 in
-    undone_call c.args.self.now c.args.thread (parts_of c.args.regions.now.ins.now [] []) c.args.self.now.watch c.hold_all.new.spaces c.hold_all-2.new.spaces undo.new.self refl read c.hold_all-2.ensures.stays undo.ensures.regions undo.ensures.depths undo.ensures.rest
+    undone_call c.args.self.now c.args.thread
+    (parts_of c.args.regions.now.ins.now []
+    []) c.args.self.now.watch c.hold_all.new.spaces c.hold_all-2.new.spaces undo.new.self refl read c.hold_all-2.ensures.stays undo.ensures.regions undo.ensures.depths undo.ensures.rest
 
 pub returns-clause-begun : goal.returns-clause-begun
 returns-clause-begun c =

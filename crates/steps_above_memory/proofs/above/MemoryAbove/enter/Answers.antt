@@ -26,7 +26,10 @@ returns-in-Err-access-clause-refused c =
 pub set_args-requires-clause-in_frame : goal.set_args-requires-clause-in_frame
 set_args-requires-clause-in_frame c =
     let frame : Range = record { addr = c.in-Ok-enter.field-0; len = c.args.size } in
-    let top : top_of c.enter.new.self.sides.replay c.args.thread ≡ Some frame = ap (λ (q : Sides). top_of q.replay c.args.thread) c.in-Ok-enter.ensures.entered ∙ top_with c.args.self.now.spaces.sides.replay c.args.thread (frames_of c.args.self.now.spaces.sides.replay c.args.thread) frame c.requires.stack in
+    let top : top_of c.enter.new.self.sides.replay c.args.thread ≡ Some frame = ap
+    (λ (q : Sides). top_of q.replay c.args.thread) c.in-Ok-enter.ensures.entered ∙
+    top_with c.args.self.now.spaces.sides.replay c.args.thread
+    (frames_of c.args.self.now.spaces.sides.replay c.args.thread) frame c.requires.stack in
     subst (λ o. IsSomeAnd o (λ (f : Range). (i : ℕ) → i < length c.args.offsets.now → slice_index c.args.offsets.now i + slice_index c.args.widths.now i ≤ f.len)) (sym top) c.requires.in_frame
 
 pub unreachable-requires : goal.unreachable-requires

@@ -14,4 +14,5 @@ returns-in-Ok c = subst (FindsRefusal c.args.self.now c.args.thread c.args.write
 
 pub returns-in-Err : goal.returns-in-Err
 returns-in-Err c = subst (FindsRefusal c.args.self.now c.args.thread c.args.write c.args.range c.args.refusal) (sym c.by.ensures)
-    (raced c.args.self.now c.args.thread c.args.write c.args.range (omega arith) c.args.refusal c.in-Err.error c.in_default.not-OtherSpace (subst (AnswersBy c.args.self.now.watch c.args.thread c.args.range c.args.write) c.in-Err.is c.test.ensures))
+    (raced c.args.self.now c.args.thread c.args.write c.args.range (omega arith) c.args.refusal c.in-Err.error c.in_default.not-OtherSpace
+    (subst (AnswersBy c.args.self.now.watch c.args.thread c.args.range c.args.write) c.in-Err.is c.test.ensures))

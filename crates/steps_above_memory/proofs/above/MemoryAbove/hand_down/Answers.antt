@@ -17,11 +17,15 @@ returns-in-Refused-clause-refused c = unprepared_range c.args.self.now c.args.th
 
 pub returns-in-Refused-clause-unchanged : goal.returns-in-Refused-clause-unchanged
 returns-in-Refused-clause-unchanged c =
-    undone_call c.args.self.now c.args.thread (parts_of c.args.regions.now.ins.now c.args.regions.now.outs.now []) c.begin.new.self.watch c.begin.new.self.spaces c.prepare_all.new.spaces c.undo.new.self c.begin.ensures.watch c.in_default.ensures.begun c.prepare_all.ensures.stays c.undo.ensures.regions c.undo.ensures.depths c.undo.ensures.rest
+    undone_call c.args.self.now c.args.thread
+    (parts_of c.args.regions.now.ins.now c.args.regions.now.outs.now
+    []) c.begin.new.self.watch c.begin.new.self.spaces c.prepare_all.new.spaces c.undo.new.self c.begin.ensures.watch c.in_default.ensures.begun c.prepare_all.ensures.stays c.undo.ensures.regions c.undo.ensures.depths c.undo.ensures.rest
 
 pub returns-in-Ok-clause-refused : goal.returns-in-Ok-clause-refused
 returns-in-Ok-clause-refused c =
-    let leaves = undone_call c.args.self.now c.args.thread (parts_of c.args.regions.now.ins.now c.args.regions.now.outs.now []) c.begin.new.self.watch c.begin.new.self.spaces c.prepare_all.new.spaces c.undo.new.self c.begin.ensures.watch c.in_default.ensures.begun c.prepare_all.ensures.stays c.undo.ensures.regions c.undo.ensures.depths c.undo.ensures.rest in
+    let leaves = undone_call c.args.self.now c.args.thread
+    (parts_of c.args.regions.now.ins.now c.args.regions.now.outs.now
+    []) c.begin.new.self.watch c.begin.new.self.spaces c.prepare_all.new.spaces c.undo.new.self c.begin.ensures.watch c.in_default.ensures.begun c.prepare_all.ensures.stays c.undo.ensures.regions c.undo.ensures.depths c.undo.ensures.rest in
     subst (RefusesCall c.args.self.now c.args.thread c.args.regions.now) (sym c.of.ensures)
     (key_in_use c.args.self.now c.args.thread c.args.regions.now _ leaves c.begin.new.self.spaces c.in-KeyInUse.addr c.requires.regions c.in_default.ensures.begun
     (subst (λ w. RefusesToPrepare c.args.thread (prepares c.args.regions.now) w c.begin.new.self.spaces (unprepared.KeyInUse c.in-KeyInUse.addr)) c.begin.ensures.watch
@@ -30,15 +34,21 @@ returns-in-Ok-clause-refused c =
 
 pub returns-in-Ok-clause-unchanged : goal.returns-in-Ok-clause-unchanged
 returns-in-Ok-clause-unchanged c =
-    let leaves = undone_call c.args.self.now c.args.thread (parts_of c.args.regions.now.ins.now c.args.regions.now.outs.now []) c.begin.new.self.watch c.begin.new.self.spaces c.prepare_all.new.spaces c.undo.new.self c.begin.ensures.watch c.in_default.ensures.begun c.prepare_all.ensures.stays c.undo.ensures.regions c.undo.ensures.depths c.undo.ensures.rest in
+    let leaves = undone_call c.args.self.now c.args.thread
+    (parts_of c.args.regions.now.ins.now c.args.regions.now.outs.now
+    []) c.begin.new.self.watch c.begin.new.self.spaces c.prepare_all.new.spaces c.undo.new.self c.begin.ensures.watch c.in_default.ensures.begun c.prepare_all.ensures.stays c.undo.ensures.regions c.undo.ensures.depths c.undo.ensures.rest in
     leaves_on c.args.self.now c.args.thread c.args.regions.now _ leaves c.test_ranges.new.self c.test_ranges.ensures.unchanged
 
 pub returns-in-Err-test_ranges-clause-refused : goal.returns-in-Err-test_ranges-clause-refused
 returns-in-Err-test_ranges-clause-refused c =
-    let leaves = undone_call c.args.self.now c.args.thread (parts_of c.args.regions.now.ins.now c.args.regions.now.outs.now []) c.begin.new.self.watch c.begin.new.self.spaces c.prepare_all.new.spaces c.undo.new.self c.begin.ensures.watch c.in_default.ensures.begun c.prepare_all.ensures.stays c.undo.ensures.regions c.undo.ensures.depths c.undo.ensures.rest in
+    let leaves = undone_call c.args.self.now c.args.thread
+    (parts_of c.args.regions.now.ins.now c.args.regions.now.outs.now
+    []) c.begin.new.self.watch c.begin.new.self.spaces c.prepare_all.new.spaces c.undo.new.self c.begin.ensures.watch c.in_default.ensures.begun c.prepare_all.ensures.stays c.undo.ensures.regions c.undo.ensures.depths c.undo.ensures.rest in
     refused_still c.args.self.now c.args.thread c.args.regions.now _ leaves c.in-Err-test_ranges.refusal c.in-Err-test_ranges.ensures.refused
 
 pub returns-in-Err-test_ranges-clause-unchanged : goal.returns-in-Err-test_ranges-clause-unchanged
 returns-in-Err-test_ranges-clause-unchanged c =
-    let leaves = undone_call c.args.self.now c.args.thread (parts_of c.args.regions.now.ins.now c.args.regions.now.outs.now []) c.begin.new.self.watch c.begin.new.self.spaces c.prepare_all.new.spaces c.undo.new.self c.begin.ensures.watch c.in_default.ensures.begun c.prepare_all.ensures.stays c.undo.ensures.regions c.undo.ensures.depths c.undo.ensures.rest in
+    let leaves = undone_call c.args.self.now c.args.thread
+    (parts_of c.args.regions.now.ins.now c.args.regions.now.outs.now
+    []) c.begin.new.self.watch c.begin.new.self.spaces c.prepare_all.new.spaces c.undo.new.self c.begin.ensures.watch c.in_default.ensures.begun c.prepare_all.ensures.stays c.undo.ensures.regions c.undo.ensures.depths c.undo.ensures.rest in
     leaves_on c.args.self.now c.args.thread c.args.regions.now _ leaves c.test_ranges.new.self c.test_ranges.ensures.unchanged

@@ -20,4 +20,6 @@ returns-clause-refused c = IfErr-weaker c.hold_all-tested.result _ (RefusesCall 
 
 pub returns-clause-unchanged : goal.returns-clause-unchanged
 returns-clause-unchanged c =
-    undone_call c.args.self.now c.args.thread (parts_of c.args.regions.now.ins.now c.args.regions.now.outs.now []) c.begin.new.self.watch c.begin.new.self.spaces c.hold_all-tested.new.spaces c.undo.new.self c.begin.ensures.watch c.in_default.ensures.begun c.hold_all-tested.ensures.stays c.undo.ensures.regions c.undo.ensures.depths c.undo.ensures.rest
+    undone_call c.args.self.now c.args.thread
+    (parts_of c.args.regions.now.ins.now c.args.regions.now.outs.now
+    []) c.begin.new.self.watch c.begin.new.self.spaces c.hold_all-tested.new.spaces c.undo.new.self c.begin.ensures.watch c.in_default.ensures.begun c.hold_all-tested.ensures.stays c.undo.ensures.regions c.undo.ensures.depths c.undo.ensures.rest
