@@ -1,15 +1,19 @@
 //! The state before a run.
 
-ghost use Rattle.std.specs.Prelude.{◌≡◌, ◌≤◌, IfOk, length, ltb};
+ghost use Rattle.std.specs.Prelude.{◌≡◌, ◌≤◌, [], IfOk, length, ltb};
 ghost use Rattle.marks.specs.Wants.{same_numbers};
 ghost use Rattle.c_code.specs.Machine.{func_of};
 ghost use Rattle.whole_runs.specs.World.{is_main as is_main_named, main_of as main_at};
 ghost use Rattle.whole_runs.specs.Fits.{IsFit};
 ghost use Rattle.recorder_state.specs.Inputs.{world_of};
+ghost use Rattle.recorder_memory.specs.Stands.{StandsForRun};
+ghost use Rattle.recorder_threads.specs.Threads.{AreThreadsOf};
+ghost use Rattle.recorder_system.specs.Stands.{IsSystemOf};
 ghost use Rattle.recorder_state.specs.Stands.{IsReached};
 ghost use Rattle.recorder_state.specs.Inputs.{is_main_in};
 
 use crate::inputs::Inputs;
+use crate::prepared::PreparedBelow;
 use crate::state::RunState;
 use c_code::FuncInfo;
 use c_code_fused::FusedCode;
@@ -35,21 +39,39 @@ impl RunState {
         let threads = Threads::new(alloc, inputs.code, main_of(inputs.code))?;
         let system = RunSystem::new(alloc, inputs.file)?;
         let memory = Memory::new(alloc, inputs.placed)?;
-        let stamps = Stamps::new(alloc)?;
-        let interface = InterfaceState::new(alloc, u32::from(FIRST_SOURCE) + sources(inputs.code))?;
-        let book = Book::new(alloc, inputs.file.chunk)?;
-        Ok(RunState {
-            threads,
-            system,
-            memory,
-            stamps,
-            interface,
-            book,
-            output: Vec::new(alloc),
-            system_output: Vec::new(alloc),
-            steps: 0,
-        })
+        with(alloc, inputs, threads, system, memory)
     }
+}
+
+// The state with these threads, this system and this memory, before the first mark of the run.
+fn with(
+    alloc: Global,
+    inputs: Inputs<'_>,
+    threads: Threads,
+    system: RunSystem,
+    memory: Memory,
+) -> Result<RunState, AllocError>
+    requires fit { IsFit (world_of inputs) }
+    requires threads { AreThreadsOf (world_of inputs) [] threads }
+    requires system { IsSystemOf (world_of inputs) [] system }
+    requires memory { StandsForRun (world_of inputs) [] memory }
+    ensures { IfOk result (IsReached (world_of inputs.entry)) }
+{
+    let stamps = Stamps::new(alloc)?;
+    let interface = InterfaceState::new(alloc, u32::from(FIRST_SOURCE) + sources(inputs.code))?;
+    let book = Book::new(alloc, inputs.file.chunk)?;
+    Ok(RunState {
+        threads,
+        system,
+        memory,
+        prepared: PreparedBelow::new(alloc),
+        stamps,
+        interface,
+        book,
+        output: Vec::new(alloc),
+        system_output: Vec::new(alloc),
+        steps: 0,
+    })
 }
 
 /// The number of `main`; of the first function of the source, where there is none.

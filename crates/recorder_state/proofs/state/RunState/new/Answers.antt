@@ -1,4 +1,4 @@
-use Rattle.std.proofs.Common.{get_or, [], refl, ◌∙◌, arith}
+use Rattle.std.proofs.Common.{get_or, refl, arith}
 use Rattle.recorder_state.specs.Inputs.{world_of}
 use Rattle.recorder_state.proofs.Begun.{in_areas, same_get}
 use Rattle.recorder_state.proofs.state.RunState.new.Goals as goal
@@ -12,25 +12,11 @@ new-requires-3-clause-globals c = in_areas c.args.inputs.placed.now.globals c.re
 pub new-requires-3-clause-strings : goal.new-requires-3-clause-strings
 new-requires-3-clause-strings c = in_areas c.args.inputs.placed.now.strings c.requires.placed.objects.string_areas
 
-pub returns : goal.returns
-returns c =
-    let w = world_of c.args.inputs in
-    record {
-      fit = c.requires;
-      past = [];
-      follows = tt;
-      steps = refl;
-      memory = c.in_ok-memory.ensures w c.requires refl;
-      around = record {
-        shown = record {
-          threads = c.in_ok-threads.ensures w refl;
-          stamps = c.in_ok-stamps.ensures _;
-          book = c.in_ok-book.ensures w refl;
-          output = c.new-7.ensures.items;
-          system_output = c.new-8.ensures.items;
-        };
-        system = c.in_ok-system.ensures w refl;
-        interface = c.in_ok-interface.ensures.begins _ _;
-        functions = c.in_ok-interface.ensures.functions ∙ (let f = c.from.ensures in let n = c.sources.ensures.count in omega (arith, f, n));
-      };
-    }
+pub with-requires-clause-threads : goal.with-requires-clause-threads
+with-requires-clause-threads c = c.in_ok-threads.ensures (world_of c.args.inputs) refl
+
+pub with-requires-clause-system : goal.with-requires-clause-system
+with-requires-clause-system c = c.in_ok-system.ensures (world_of c.args.inputs) refl
+
+pub with-requires-clause-memory : goal.with-requires-clause-memory
+with-requires-clause-memory c = c.in_ok-memory.ensures (world_of c.args.inputs) c.requires refl
