@@ -118,6 +118,32 @@ def held_mutexes_and_calls(size):
     return held_by_callers(range((size - 4 * calls) // 15), "f();" * calls)
 
 
+def held_mutexes_given_back_and_calls(size):
+    """The same calls, where a mutex is given back and taken again before each."""
+    calls = min(BRANCHES, size // 70)
+    return held_by_callers(range((size - 32 * calls) // 15), "r2_unlock(0);r2_lock(0);f();" * calls)
+
+
+def mutexes_taken_in_descending_order(size):
+    """Mutexes that a function's callers hold, and others below them that it takes, the greatest first."""
+    taken = min(3 * BRANCHES, size // 40)
+    body = "".join(f"r2_lock({mutex});" for mutex in reversed(range(taken)))
+    return held_by_callers(range(taken, taken + (size - 17 * taken) // 15), body)
+
+
+def functions_that_need_all(size):
+    """Functions, each of which needs the same mutexes and calls all others."""
+    count = min(160, size // 3_000)
+    lists = ",".join(f"holds({mutex})" for mutex in range((size - 50 * count - 7 * count * count) // 15))
+    declared = ",".join(f"x{number}(void)" for number in range(count))
+    calls = "".join(f"x{number}();" for number in range(count))
+    bodies = "\n".join(f"int x{number}(void) {{ {calls} return n; }}" for number in range(count))
+    return (
+        f"[guarded_by(0)] int n;\n[{lists}] int {declared};\n{bodies}\n[cut(top)] int outside(void);\n"
+        "int main(void) { sizeof(x0()); return 0; }\n"
+    )
+
+
 def mutexes_and_branches(size):
     """Mutexes that are held together, and as many branches, each of which gives one back on one way and takes it again."""
     mutexes = range(min(BRANCHES, size // 72))
@@ -211,6 +237,9 @@ KINDS = [
     held_mutexes_given_back,
     held_mutexes_and_ways_out,
     held_mutexes_and_calls,
+    held_mutexes_given_back_and_calls,
+    mutexes_taken_in_descending_order,
+    functions_that_need_all,
     mutexes_and_branches,
     cuts_before_functions,
     functions_that_name_each_other,

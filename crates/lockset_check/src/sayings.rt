@@ -8,8 +8,9 @@ ghost use Rattle.lockset_check.specs.Answers.{sayings_of};
 
 use annot_reader::Iface;
 use c_builtins::FIRST_SOURCE_FUNCTION;
+use c_syntax::SharedSeq;
 use c_types_program::TypedProgram;
-use lockset_check_values::{Guards, Holds};
+use lockset_check_values::Guards;
 use std::alloc::{AllocError, Global};
 
 // The mutexes that guard the first globals.
@@ -25,27 +26,15 @@ fn guards_of(alloc: Global, iface: &Iface, count: usize) -> Result<Vec<Option<i6
     Ok(guards)
 }
 
-// What the callers of a function hold, in the list of the interface, after those of functions before it.
-fn held(alloc: Global, iface: &Iface, place: usize, before: &[Holds]) -> Result<Holds, AllocError>
-    requires { first_source_function + place < 2 ^ 16 }
-    ensures { IfOk result (λ h. h ≡ holds_at iface.now (first_source_function + place)) }
-{
-    let listed = iface.share_holds(FIRST_SOURCE_FUNCTION + place as u16)?;
-    match before {
-        [.., last] => last.next(alloc, listed),
-        [] => Holds::new(alloc, listed),
-    }
-}
-
-// Those of the first functions.
-fn holds_of(alloc: Global, iface: &Iface, count: usize) -> Result<Vec<Holds>, AllocError>
+// What the callers of the first functions hold.
+fn holds_of(alloc: Global, iface: &Iface, count: usize) -> Result<Vec<SharedSeq<i64>>, AllocError>
     requires { first_source_function + count ≤ 2 ^ 16 }
     ensures { IfOk result (λ v. v.items ≡
         map (λ place. holds_at iface.now (first_source_function + place)) (range_with_len 0 count)) }
 {
     let mut holds = Vec::with_capacity(alloc, count)?;
     for place in 0..count {
-        let one = held(alloc, iface, place, holds.as_slice())?;
+        let one = iface.share_holds(FIRST_SOURCE_FUNCTION + place as u16)?;
         holds.push(one)?;
     }
     Ok(holds)

@@ -9,17 +9,25 @@ use Rattle.c_types_rules.specs.TypedTree.{MaybeValue, Statement}
 use Rattle.lockset_check_rules.specs.Guards.{Guarded}
 use Rattle.lockset_check_rules.specs.Statements.{Within, inside, loop_differs_at, loop_differs_in, return_differs, return_differs_at, statement_found}
 use Rattle.lockset_check_held.specs.HeldSets.{HeldSets, entering, forgetting, going_back, is_as_at_loop, joining, keeping, leaving, restarting, turning}
-use Rattle.lockset_check_values.specs.Walks.{Walked, finding, maybe_walked, onward, with_sets}
+use Rattle.lockset_check_values.specs.Sayings.{Sayings}
+use Rattle.lockset_check_values.specs.Walks.{IsWalkOf, Walked, finding, maybe_walked, onward, with_sets}
 use Rattle.lockset_check_bodies.specs.Places.{PartWalked, Passed, ended, in_part, in_round, loop_checked, start_checked, way_ended, within}
 
 -- ---- one step
 
 -- at the end of a part of a loop
-pub loop_differs_here : (from : ℕ) (held start : Locks) (loops kept : List Locks) →
-    (let h : HeldSets = record { held = held; start = start; loops = loops; kept = kept } in
+pub loop_differs_here : (from : ℕ) (held start : Locks) (loops kept needs : List Locks) →
+    (let h : HeldSets = record { held = held; start = start; loops = loops; kept = kept; needs = needs } in
     loop_differs_in (within h (Some from)) held ≡ (if is_as_at_loop h then [] else LoopLocks from ∷ []))
-loop_differs_here from held start [] kept = refl
-loop_differs_here from held start (s ∷ ss) kept = refl
+loop_differs_here from held start [] kept needs = refl
+loop_differs_here from held start (s ∷ ss) kept needs = refl
+
+-- a walk is over the same source
+pub still : (s : Sayings) (o : Option Locks) (fs : List LockFinding) (goes : Bool) (w v : Walked) → Passed o fs goes w v → IsWalkOf s w → IsWalkOf s v
+still s o fs goes w v p h = ap (λ (x : HeldSets). x.needs) p.sets ∙ h
+
+pub still_in_part : (s : Sayings) (from : ℕ) (more : Within → Locks → List LockFinding) (w v : Walked) → PartWalked from more w v → IsWalkOf s w → IsWalkOf s v
+still_in_part s from more w v p h = ap (λ (x : HeldSets). x.needs) p.sets ∙ h
 
 -- on to where these are held
 pub went : (s : Locks) (fs : List LockFinding) (w v : Walked) → v ≡ onward s fs w → Passed (Some s) fs true w v

@@ -45,7 +45,7 @@ fn walk_source(
     if !is_any_guarded(walker) {
         return Ok(Vec::new(alloc));
     }
-    let mut walk = Walk::new(alloc)?;
+    let mut walk = Walk::new(alloc, walker.guards())?;
     walk_functions(walker, &mut walk, may_run)?;
     walk_globals(walker, &mut walk)?;
     Ok(walk.into_found())

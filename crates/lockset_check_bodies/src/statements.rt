@@ -6,6 +6,7 @@ ghost use Rattle.c_types_program.specs.Statements.{AllStatements, IsMaybeAt, IsS
 ghost use Rattle.c_types_rules.specs.TypedTree as tree;
 ghost use Rattle.lockset_check_rules.specs.Statements.{loop_differs_in};
 ghost use Rattle.lockset_check_values.specs.Setting.{guarded};
+ghost use Rattle.lockset_check_values.specs.Walks.{IsWalkOf};
 ghost use Rattle.lockset_check_bodies.specs.Places.{PartWalked, Passed, StatementWalked, StatementsWalked, in_part, in_round, within as standing};
 
 use crate::ways::{check_loop, check_start, end_way, end_ways};
@@ -23,7 +24,8 @@ pub(crate) fn walk_statement(
     statement: &Statement,
     within: Option<u32>,
 ) -> Result<bool, AllocError>
-    requires { IsStatement walker.now.program.table statement.now }
+    requires statement { IsStatement walker.now.program.table statement.now }
+    requires walk { IsWalkOf walker.now.sayings walk.old }
     ensures { IfOk result (λ goes. StatementWalked (guarded walker.now) within
         (statement_in walker.now.program.table statement.now) goes walk.old walk.new) }
 {
@@ -60,7 +62,8 @@ pub(crate) fn walk_statement(
 
 // A value that isn't used.
 fn evaluate(walker: &Walker<'_, '_>, walk: &mut Walk, value: NodeId) -> Result<bool, AllocError>
-    requires { IsValueAt walker.now.program.table value }
+    requires value { IsValueAt walker.now.program.table value }
+    requires walk { IsWalkOf walker.now.sayings walk.old }
     ensures { IfOk result (λ goes. StatementWalked (guarded walker.now) None
         (tree.Evaluate (value_at walker.now.program.table value)) goes walk.old walk.new) }
 {
@@ -84,7 +87,8 @@ fn give(
     from: u32,
     value: Option<NodeId>,
 ) -> Result<bool, AllocError>
-    requires { IsMaybeAt walker.now.program.table value }
+    requires value { IsMaybeAt walker.now.program.table value }
+    requires walk { IsWalkOf walker.now.sayings walk.old }
     ensures { IfOk result (λ goes. StatementWalked (guarded walker.now) None
         (tree.Return from (maybe_at walker.now.program.table value)) goes walk.old walk.new) }
 {
@@ -101,7 +105,8 @@ fn walk_statements(
     statements: &[Statement],
     within: Option<u32>,
 ) -> Result<bool, AllocError>
-    requires { AllStatements walker.now.program.table statements.now }
+    requires statements { AllStatements walker.now.program.table statements.now }
+    requires walk { IsWalkOf walker.now.sayings walk.old }
     ensures { IfOk result (λ goes. StatementsWalked (guarded walker.now) within
         (statements_in walker.now.program.table statements.now) goes walk.old walk.new) }
 {
@@ -125,6 +130,7 @@ fn one_way(
 ) -> Result<bool, AllocError>
     requires condition { IsValueAt walker.now.program.table condition }
     requires then { IsStatement walker.now.program.table then.now }
+    requires walk { IsWalkOf walker.now.sayings walk.old }
     ensures { IfOk result (λ goes. StatementWalked (guarded walker.now) within
         (tree.If (value_at walker.now.program.table condition)
         (statement_in walker.now.program.table then.now)) goes walk.old walk.new) }
@@ -149,6 +155,7 @@ fn two_ways(
     requires condition { IsValueAt walker.now.program.table condition }
     requires then { IsStatement walker.now.program.table then.now }
     requires other { IsStatement walker.now.program.table other.now }
+    requires walk { IsWalkOf walker.now.sayings walk.old }
     ensures { IfOk result (λ goes. StatementWalked (guarded walker.now) within
         (tree.IfElse (value_at walker.now.program.table condition)
         (statement_in walker.now.program.table then.now)
@@ -169,7 +176,8 @@ fn part(
     from: u32,
     value: Option<NodeId>,
 ) -> Result<(), AllocError>
-    requires { IsMaybeAt walker.now.program.table value }
+    requires value { IsMaybeAt walker.now.program.table value }
+    requires walk { IsWalkOf walker.now.sayings walk.old }
     ensures { OnOk result (PartWalked from (in_part (guarded walker.now)
         (maybe_at walker.now.program.table value)) walk.old walk.new) }
 {
@@ -186,7 +194,8 @@ fn round(
     from: u32,
     body: &Statement,
 ) -> Result<(), AllocError>
-    requires { IsStatement walker.now.program.table body.now }
+    requires body { IsStatement walker.now.program.table body.now }
+    requires walk { IsWalkOf walker.now.sayings walk.old }
     ensures { OnOk result (PartWalked from (in_round (guarded walker.now)
         (statement_in walker.now.program.table body.now)) walk.old walk.new) }
 {
@@ -208,6 +217,7 @@ fn while_loop(
 ) -> Result<bool, AllocError>
     requires condition { IsValueAt walker.now.program.table condition }
     requires body { IsStatement walker.now.program.table body.now }
+    requires walk { IsWalkOf walker.now.sayings walk.old }
     ensures { IfOk result (λ goes. StatementWalked (guarded walker.now) None
         (tree.While from (value_at walker.now.program.table condition)
         (statement_in walker.now.program.table body.now)) goes walk.old walk.new) }
@@ -229,6 +239,7 @@ fn do_loop(
 ) -> Result<bool, AllocError>
     requires body { IsStatement walker.now.program.table body.now }
     requires condition { IsValueAt walker.now.program.table condition }
+    requires walk { IsWalkOf walker.now.sayings walk.old }
     ensures { IfOk result (λ goes. StatementWalked (guarded walker.now) None
         (tree.Do from (statement_in walker.now.program.table body.now)
         (value_at walker.now.program.table condition)) goes walk.old walk.new) }
@@ -256,6 +267,7 @@ fn for_statement(
     requires condition { IsMaybeAt walker.now.program.table condition }
     requires last { IsMaybeAt walker.now.program.table last }
     requires body { IsStatement walker.now.program.table body.now }
+    requires walk { IsWalkOf walker.now.sayings walk.old }
     ensures { IfOk result (λ goes. StatementWalked (guarded walker.now) within
         (tree.For from (statements_in walker.now.program.table first.now)
         (maybe_at walker.now.program.table condition) (maybe_at walker.now.program.table last)
@@ -281,6 +293,7 @@ fn for_loop(
     requires condition { IsMaybeAt walker.now.program.table condition }
     requires last { IsMaybeAt walker.now.program.table last }
     requires body { IsStatement walker.now.program.table body.now }
+    requires walk { IsWalkOf walker.now.sayings walk.old }
     ensures { IfOk result (λ goes. StatementWalked (guarded walker.now) None
         (tree.For from tree.NoStatements (maybe_at walker.now.program.table condition)
         (maybe_at walker.now.program.table last) (statement_in walker.now.program.table body.now))

@@ -1,5 +1,5 @@
 -- Bits of the words of a row.
-use Rattle.std.proofs.Common.{◌≡◌, ℕ, zero, suc, ◌+◌, ◌*◌, ◌/◌, ◌%◌, ◌^◌, ◌<◌, ◌≤◌, true, false, ◌&&◌, List, [], ◌∷◌, ◌++◌, length, set, min, bit_and, bit_or, refl, sym, ap, ◌∙◌, arith, rules}
+use Rattle.std.proofs.Common.{◌≡◌, ℕ, zero, suc, ◌+◌, ◌*◌, ◌/◌, ◌%◌, ◌^◌, ◌<◌, ◌≤◌, Bool, true, false, ◌&&◌, List, [], ◌∷◌, ◌++◌, length, set, min, bit_and, bit_or, refl, sym, ap, ◌∙◌, arith, rules}
 use Rattle.std.specs.Prelude.{get_or, nat_eq}
 use Rattle.std.specs.Int.{bit_at, bit_not, w64}
 use Rattle.std.proofs.lemmas.Bool.{cases_eq}
@@ -8,7 +8,7 @@ use Rattle.std.proofs.lemmas.Nat.{and_le_l}
 use Rattle.std.proofs.lemmas.Nat.Bits.{bit_at-lt, bit_at-zero, bit_at_and, bit_at_clear_other, bit_at_clear_same, bit_at_set_other, bit_at_set_same, same_from_bits_below, shr_and_one}
 use mathlib.Core.Logic.{⊎_elim, ◌≢◌}
 use Rattle.lockset_check_held.proofs.Places.{which}
-use Rattle.lockset_check_held.specs.Rows.{is_on, AreAlike, IsShared, TurnsOff, TurnsOn}
+use Rattle.lockset_check_held.specs.Rows.{is_on, AreAlike, Includes, IsShared, TurnsOff, TurnsOn}
 
 -- the same word, the same places
 same_word : (row other : List ℕ) (p : ℕ) → get_or row (p / 64) 0 ≡ get_or other (p / 64) 0 → is_on row p ≡ is_on other p
@@ -168,3 +168,64 @@ past_off row place le = (ap (λ (w : ℕ). nat_eq (bit_at w (place % 64)) 1) (ge
 -- over words that stand for the same places
 pub turned_on_over : (old row new : List ℕ) (place : ℕ) → ((i : ℕ) → get_or row i 0 ≡ get_or old i 0) → TurnsOn place row new → TurnsOn place old new
 turned_on_over old row new place same h = (h.0, λ p apart. h.1 p apart ∙ alike row old same p)
+
+-- ---- whether a row has all places of another
+
+on_bit : (row : List ℕ) (i b : ℕ) → b < 64 → is_on row (i * 64 + b) ≡ nat_eq (bit_at (get_or row i 0) b) 1
+unfolding is_on
+on_bit row i b lt =
+    let p : ℕ = i * 64 + b in
+    let word : p / 64 ≡ i = omega arith in
+    let bit : p % 64 ≡ b = omega arith in
+    λ t. nat_eq (bit_at (get_or row (word t) 0) (bit t)) 1
+
+implied : (a b : Bool) → (b ≡ true → a ≡ true) → (a && b) ≡ b
+implied true b h = refl
+implied false true h = absurd (let e : false ≡ true = h refl in cc)
+implied false false h = refl
+
+left_of : (a b : Bool) → (a && b) ≡ b → b ≡ true → a ≡ true
+left_of true b h e = refl
+left_of false b h e = h ∙ e
+
+bits_of_both : (x y k : ℕ) → nat_eq (bit_at (bit_and x y) k) 1 ≡ (nat_eq (bit_at x k) 1 && nat_eq (bit_at y k) 1)
+bits_of_both x y k = ap (λ (z : ℕ). nat_eq z 1) (bit_at_and x y k) ∙ both (bit_at x k) (bit_at y k) (bit_at-lt x k) (bit_at-lt y k)
+
+-- a word of a row has all bits of a row that it includes
+pub left_out : (row other : List ℕ) (i x y : ℕ) → Includes row other → x ≡ get_or row i 0 → y ≡ get_or other i 0 → x < 2 ^ 64 → y < 2 ^ 64 → bit_and x y ≡ y
+left_out row other i x y h e f a b =
+    let le = and_le_l x y in
+    same_from_bits_below 64 (bit_and x y) y (omega arith) b (λ k lt.
+    one_bit (bit_at (bit_and x y) k) (bit_at y k) (bit_at-lt (bit_and x y) k) (bit_at-lt y k)
+    (bits_of_both x y k
+    ∙ implied (nat_eq (bit_at x k) 1) (nat_eq (bit_at y k) 1)
+    (λ on.
+    ap (λ (z : ℕ). nat_eq (bit_at z k) 1) e
+    ∙ (sym (on_bit row i k lt) ∙ h (i * 64 + k) (on_bit other i k lt ∙ (ap (λ (z : ℕ). nat_eq (bit_at z k) 1) (sym f) ∙ on))))))
+
+pub AreIn : (row other : List ℕ) (i : ℕ) → Type 0
+AreIn row other i = (j : ℕ) → j < i → bit_and (get_or row j 0) (get_or other j 0) ≡ get_or other j 0
+
+pub none_left_out : (row other : List ℕ) → AreIn row other 0
+unfolding AreIn
+none_left_out row other j lt = absurd (omega arith)
+
+pub one_included : (row other : List ℕ) (i x y : ℕ) → AreIn row other i → x ≡ get_or row i 0 → y ≡ get_or other i 0 → bit_and x y ≡ y → AreIn row other (i + 1)
+unfolding AreIn
+one_included row other i x y h e f same j lt = ⊎_elim
+    (λ (here : j ≡ i). (λ t. bit_and (get_or row (here t) 0) (get_or other (here t) 0)) ∙ ((λ t. bit_and (sym e t) (sym f t)) ∙ (same ∙ (f ∙ ap (λ (k : ℕ). get_or other k 0) (sym here)))))
+    (λ apart. h j (omega (arith, apart)))
+    (cases_eq j i)
+
+pub all_included : (row other : List ℕ) (i : ℕ) → AreIn row other i → length other ≤ i → Includes row other
+unfolding AreIn is_on
+all_included row other i h le p on = ⊎_elim
+    (λ (lt : p / 64 < i).
+    left_of (nat_eq (bit_at (get_or row (p / 64) 0) (p % 64)) 1) (nat_eq (bit_at (get_or other (p / 64) 0) (p % 64)) 1)
+    (sym (bits_of_both (get_or row (p / 64) 0) (get_or other (p / 64) 0) (p % 64)) ∙ ap (λ (z : ℕ). nat_eq (bit_at z (p % 64)) 1) (h (p / 64) lt))
+    on)
+    (λ from. absurd (let no : false ≡ true = sym (past_off other p (omega arith)).0 ∙ on in cc))
+    (which (p / 64) i)
+
+pub nothing_included : (row : List ℕ) → Includes row []
+nothing_included row p on = absurd (let no : false ≡ true = sym (past_off [] p (omega arith)).0 ∙ on in cc)

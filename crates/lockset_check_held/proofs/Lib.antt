@@ -1,9 +1,8 @@
 pub mod Bits
 pub mod Members
+pub mod Needs
 pub mod Places
-pub mod Ranks
 pub mod Sets
-pub mod Sharing
 pub mod Stacks
 pub mod Starts
 pub mod Tables

@@ -15,9 +15,6 @@ use Rattle.lockset_check_held.proofs.Members.{held_with, same_members}
 use Rattle.lockset_check_held.proofs.Places.{nothing_ascends, with_ascends}
 use Rattle.lockset_check_rules.specs.Mutexes.{Locks, are_held, is_held, locks_of, with_lock, with_locks}
 
-pub same_start : (start : Locks) (listed mutexes : List ℤ) → start ≡ locks_of listed → mutexes ≡ listed → start ≡ locks_of mutexes
-same_start start listed mutexes e same = e ∙ ap locks_of (sym same)
-
 -- ---- one mutex of a list after another
 
 pub put_next : (ks : List ℤ) (i : ℕ) (d : ℤ) (s t u : Locks) → i < length ks → with_locks (drop i ks) s ≡ u → t ≡ with_lock (get_or ks i d) s → with_locks (drop (i + 1) ks) t ≡ u
@@ -100,9 +97,9 @@ all_put_in p (k ∷ ks) t =
 pub all_held : (ks : List ℤ) (s : Locks) → are_held (locks_of ks) s ≡ are_held ks s
 all_held ks s = all_put_in (λ k. is_held k s) ks [] ∙ always (are_held ks s)
 
--- ---- the order of a list is nothing to its set
+-- ---- what is held after some are put in
 
-with_locks_ascends : (ks : List ℤ) (s : Locks) → Ascends s → Ascends (with_locks ks s)
+pub with_locks_ascends : (ks : List ℤ) (s : Locks) → Ascends s → Ascends (with_locks ks s)
 with_locks_ascends [] s up = up
 with_locks_ascends (k ∷ ks) s up = with_locks_ascends ks (with_lock k s) (with_ascends k s up)
 
@@ -112,25 +109,8 @@ either true false c = refl
 either false true c = refl
 either false false c = refl
 
-held_with_locks : (m : ℤ) (ks : List ℤ) (s : Locks) → is_held m (with_locks ks s) ≡ (is_held m ks || is_held m s)
+pub held_with_locks : (m : ℤ) (ks : List ℤ) (s : Locks) → is_held m (with_locks ks s) ≡ (is_held m ks || is_held m s)
 held_with_locks m [] s = refl
 held_with_locks m (k ∷ ks) s =
     held_with_locks m ks (with_lock k s)
     ∙ (ap (λ (b : Bool). is_held m ks || b) (held_with k m s) ∙ either (is_held m ks) (int_eq k m) (is_held m s))
-
-moved : (m : ℤ) (ks js : List ℤ) → IsPermutation ks js → is_held m ks ≡ true → is_held m js ≡ true
-moved m ks js p h =
-    let a = Any-from_list_any (λ n. int_eq n m) ks h in
-    let c = Contains-permutation ks js a.1 p (a.0, a.2, a.3) in
-    list_any-from_Any (λ n. int_eq n m) js (c.0, a.1, c.1, c.2, a.4)
-
-both_ways : (a b : Bool) → (a ≡ true → b ≡ true) → (b ≡ true → a ≡ true) → a ≡ b
-both_ways true b f g = sym (f refl)
-both_ways false true f g = g refl
-both_ways false false f g = refl
-
-pub same_set : (ks js : List ℤ) → IsPermutation ks js → locks_of js ≡ locks_of ks
-same_set ks js p = same_members (locks_of js) (locks_of ks) (with_locks_ascends js [] nothing_ascends) (with_locks_ascends ks [] nothing_ascends)
-    (λ m. held_with_locks m js []
-    ∙ (ap (λ (b : Bool). b || false) (both_ways (is_held m js) (is_held m ks) (moved m js ks (IsPermutation-sym ks js p)) (moved m ks js p))
-    ∙ sym (held_with_locks m ks [])))

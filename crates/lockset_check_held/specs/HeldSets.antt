@@ -1,5 +1,5 @@
 -- What a walk keeps in mind of mutexes on its way.
-use Rattle.std.specs.Prelude.{Bool, true, List, [], ◌∷◌, drop, Option, Some, None}
+use Rattle.std.specs.Prelude.{ℕ, Bool, true, List, [], ◌∷◌, ◌++◌, drop, Option, Some, None, slice_get}
 use Rattle.lockset_check_rules.specs.Mutexes.{Locks, same, shared}
 
 -- the first set, if there is one
@@ -23,16 +23,35 @@ is_same_as (Some k) s = same s k
 is_same_as None s = true
 
 -- what is held, at the place that a walk has come to, at the start of the function, at the starts of the loops that
--- the walk is in, the innermost first, and where ways began that go on elsewhere, the innermost first
+-- the walk is in, the innermost first, and where ways began that go on elsewhere, the innermost first; and the sets
+-- that functions may need, each by its place
 pub record HeldSets : Type 0 where
   pub held : Locks
   pub start : Locks
   pub loops : List Locks
   pub kept : List Locks
+  pub needs : List Locks
 
--- at the start of a function
-abbrev pub at_start : Locks → HeldSets
-at_start s = record { held = s; start = s; loops = []; kept = [] }
+-- before the first function
+abbrev pub at_first : HeldSets
+at_first = record { held = []; start = []; loops = []; kept = []; needs = [] }
+
+-- a set that was looked for; without one, no mutexes
+abbrev pub set_or_none : Option Locks → Locks
+set_or_none (Some s) = s
+set_or_none None = []
+
+-- the set of a place; past the last one, no mutexes
+abbrev pub need_at : List Locks → (place : ℕ) → Locks
+need_at needs place = set_or_none (slice_get needs place)
+
+-- at the start of a function whose callers hold these
+abbrev pub starting : Locks → HeldSets → HeldSets
+starting s h = record h { held = s; start = s; loops = []; kept = [] }
+
+-- one set more that functions may need, at the next place
+abbrev pub needing : Locks → HeldSets → HeldSets
+needing s h = record h { needs = h.needs ++ s ∷ [] }
 
 -- a way begins: what is held is kept
 abbrev pub keeping : HeldSets → HeldSets

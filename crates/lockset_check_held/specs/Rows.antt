@@ -1,11 +1,11 @@
--- Sets of mutexes as rows of bits: each mutex that is known has a place, which is the same in each row.
-use Rattle.std.specs.Prelude.{◌≡◌, ℕ, ◌/◌, ◌%◌, ◌<◌, ◌≤◌, ℤ, Bool, true, false, ◌&&◌, cond, List, [], ◌∷◌, length, map, get_or, nat_eq, Option, Some, None}
+-- Sets of mutexes as rows of bits: each mutex that is known has a place, which is the same in each row. Those that are
+-- known are a list, in the order of their places.
+use mathlib.Core.Logic.{◌≢◌}
+use Rattle.std.specs.Prelude.{◌≡◌, ℕ, suc, ◌/◌, ◌%◌, ◌≤◌, ℤ, Bool, true, false, ◌&&◌, if◌then◌else◌, List, [], ◌∷◌, length, get_or, nat_eq, Option, Some, None, position, slice_get}
 use Rattle.std.specs.Int.{bit_at}
 use Rattle.std.specs.Ordering.{int_eq}
 use mathlib.Core.Logic.{◌≢◌}
-use Rattle.lockset_check_rules.specs.Mutexes.{Locks}
-use Rattle.lockset_check_held.specs.Ascending.{Ascends}
-use Rattle.lockset_check_held.specs.declared.known.Known.{Known}
+use Rattle.lockset_check_rules.specs.Mutexes.{Locks, is_held, locks_of}
 
 -- whether a row has the mutex of a place
 unfoldable pub is_on : List ℕ → (place : ℕ) → Bool
@@ -23,6 +23,10 @@ TurnsOff place old new = (is_on new place ≡ false) × ((p : ℕ) → p ≢ pla
 abbrev pub IsShared : (row other new : List ℕ) → Type 0
 IsShared row other new = (p : ℕ) → is_on new p ≡ (is_on row p && is_on other p)
 
+-- a row has all places of another
+abbrev pub Includes : (row other : List ℕ) → Type 0
+Includes row other = (p : ℕ) → is_on other p ≡ true → is_on row p ≡ true
+
 -- two rows have the same places
 abbrev pub AreAlike : (row other : List ℕ) → Type 0
 AreAlike row other = (p : ℕ) → is_on row p ≡ is_on other p
@@ -35,44 +39,42 @@ abbrev pub AreWithin : (count : ℕ) → List (List ℕ) → Type 0
 AreWithin count [] = Unit {0}
 AreWithin count (row ∷ rows) = IsWithin count row × AreWithin count rows
 
--- the mutexes whose places pass a test
-abbrev pub picked : List Known → (ℕ → Bool) → Locks
+-- the mutexes whose places pass a test, in the order of their places
+abbrev pub picked : List ℤ → (ℕ → Bool) → List ℤ
 picked [] test = []
-picked (k ∷ ks) test = cond (test k.place) (k.mutex ∷ picked ks test) (picked ks test)
+picked (k ∷ ks) test = if test 0 then k ∷ picked ks (λ p. test (suc p)) else picked ks (λ p. test (suc p))
 
 -- the set that a row stands for
-abbrev pub set_of : List Known → List ℕ → Locks
-set_of known row = picked known (λ p. is_on row p)
+abbrev pub set_of : List ℤ → List ℕ → Locks
+set_of known row = locks_of (picked known (λ p. is_on row p))
 
-abbrev pub sets_of : List Known → List (List ℕ) → List Locks
+abbrev pub sets_of : List ℤ → List (List ℕ) → List Locks
 sets_of known [] = []
 sets_of known (row ∷ rows) = set_of known row ∷ sets_of known rows
 
-abbrev pub mutexes : List Known → Locks
-mutexes known = map (λ k. k.mutex) known
-
--- the place of a mutex, if it is what is known at a rank
-abbrev pub found : ℤ → Option Known → Option ℕ
-found m (Some k) = cond (int_eq k.mutex m) (Some k.place) None
-found m None = None
-
 -- the place of a mutex, if it is known
-abbrev pub place_in : ℤ → List Known → Option ℕ
-place_in m [] = None
-place_in m (k ∷ ks) = cond (int_eq k.mutex m) (Some k.place) (place_in m ks)
+unfoldable pub place_in : ℤ → List ℤ → Option ℕ
+place_in m known = position (int_eq m) known
 
--- mutexes in ascending order have places of their own, and as many places are used as mutexes are known
-unfoldable pub IsTable : List Known → Type 0
-IsTable known =
-    Ascends (mutexes known)
-    × ((m n : ℤ) (p : ℕ) → place_in m known ≡ Some p → place_in n known ≡ Some p → m ≡ n)
-    × ((m : ℤ) (p : ℕ) → place_in m known ≡ Some p → p < length known)
-    × ((p : ℕ) → p < length known → (m : ℤ) × (place_in m known ≡ Some p))
+-- no mutex has two places
+abbrev pub IsTable : List ℤ → Type 0
+IsTable [] = Unit {0}
+IsTable (k ∷ ks) = (is_held k ks ≡ false) × IsTable ks
 
--- the rows of a walk, those of its loops and those that are kept
-abbrev pub AreRows : List Known → (held start : List ℕ) → (loops kept : List (List ℕ)) → Type 0
-AreRows known held start loops kept =
-    IsTable known × IsWithin (length known) held × IsWithin (length known) start × AreWithin (length known) loops × AreWithin (length known) kept
+-- the rows of a walk, those of its loops, those that are kept and those that functions may need
+abbrev pub AreRows : List ℤ → (held start : List ℕ) → (loops kept needs : List (List ℕ)) → Type 0
+AreRows known held start loops kept needs =
+    IsTable known × IsWithin (length known) held × IsWithin (length known) start
+    × AreWithin (length known) loops × AreWithin (length known) kept × AreWithin (length known) needs
+
+-- a row that was looked for; without one, no places
+abbrev pub row_or_none : Option (List ℕ) → List ℕ
+row_or_none (Some row) = row
+row_or_none None = []
+
+-- the row of a place; past the last one, no places
+abbrev pub row_at : List (List ℕ) → (place : ℕ) → List ℕ
+row_at rows place = row_or_none (slice_get rows place)
 
 -- the first row, if there is one
 abbrev pub first_row : List (List ℕ) → Option (List ℕ)
@@ -80,5 +82,5 @@ first_row [] = None
 first_row (row ∷ rows) = Some row
 
 -- more is known, and each row stands for the set that it stood for
-abbrev pub Learns : (old new : List Known) → Type 0
+abbrev pub Learns : (old new : List ℤ) → Type 0
 Learns old new = (length old ≤ length new) × ((row : List ℕ) → IsWithin (length old) row → set_of new row ≡ set_of old row)

@@ -1,105 +1,93 @@
 //! What a walk keeps in mind of mutexes.
 
-ghost use Rattle.std.specs.Prelude.{◌≡◌, true, IfOk, OnOk};
+ghost use Rattle.std.specs.Prelude.{◌≡◌, OnOk};
 ghost use Rattle.lockset_check_rules.specs.Mutexes.{are_held, is_held, locks_of, same, with_lock, without_lock};
-ghost use Rattle.lockset_check_held.specs.HeldSets.{at_start, entering, forgetting, going_back, is_as_at_loop, joining, keeping, leaving, restarting, turning};
+ghost use Rattle.lockset_check_held.specs.HeldSets.{at_first, entering, forgetting, going_back, is_as_at_loop, joining, keeping, leaving, need_at, needing, restarting, starting, turning};
 
-use crate::known::{self, Known};
-use crate::locks::{Locks, sorted};
-use crate::row::Row;
+use crate::known;
+use crate::row::{Row, copy_at, has_all_at};
 use crate::stack::Stack;
+use indexmap::IndexSet;
 use std::alloc::{AllocError, Global};
 use std::marker::Model;
 
-// Whether two lists have the same mutexes, in the same order.
-fn are_same(mutexes: &[i64], others: &[i64]) -> bool
-    ensures { result ≡ true → mutexes.now ≡ others.now }
-{
-    mutexes == others
-}
-
 /// What is held at the place that a walk has come to, at the starts of the function and of the loops that it is in, and where ways
-/// began that go on elsewhere.
+/// began that go on elsewhere; and the sets that functions may need.
 #[derive(Drop)]
 pub struct Held {
     alloc: Global,
-    // Those that callers hold, as they are listed.
-    listed: Vec<i64>,
-    known: Vec<Known>,
+    known: IndexSet<i128>,
     held: Row,
     start: Row,
     loops: Stack,
     kept: Stack,
+    needs: Vec<Row>,
 }
 
 impl Model for Held {
-    ghost use Rattle.std.specs.Prelude.{◌≡◌};
-    ghost use Rattle.lockset_check_rules.specs.Mutexes.{locks_of};
     ghost use Rattle.lockset_check_held.specs.HeldSets.{HeldSets};
     ghost use Rattle.lockset_check_held.specs.Rows.{AreRows, set_of, sets_of};
 
     ghost Value = { HeldSets };
 
     ghost view = { λ h. record {
-      held = set_of h.known.items h.held;
-      start = set_of h.known.items h.start;
-      loops = sets_of h.known.items h.loops;
-      kept = sets_of h.known.items h.kept;
+      held = set_of h.known.keys h.held;
+      start = set_of h.known.keys h.start;
+      loops = sets_of h.known.keys h.loops;
+      kept = sets_of h.known.keys h.kept;
+      needs = sets_of h.known.keys h.needs.items;
     } };
 
-    ghost invariant = { λ h.
-        AreRows h.known.items h.held h.start h.loops h.kept × (set_of h.known.items h.start ≡ locks_of h.listed.items) };
+    ghost invariant = { λ h. AreRows h.known.keys h.held h.start h.loops h.kept h.needs.items };
 }
 
 impl Held {
-    /// At the start of a function whose callers hold these.
+    /// Before the first function.
     #[tactic(auto, using(crate::proofs::Tables::no_table, crate::proofs::Tables::nothing_within))]
-    pub fn new(alloc: Global, mutexes: &[i64]) -> Result<Held, AllocError>
-        ensures { IfOk result (λ h. h ≡ at_start (locks_of mutexes.now)) }
+    pub fn new(alloc: Global) -> Held
+        ensures { result ≡ at_first }
     {
-        let listed = Vec::from_slice(alloc, mutexes)?;
-        let mut known = Vec::new(alloc);
-        let mut held = Row::new(alloc);
-        let sorted = sorted(alloc, mutexes)?;
-        known::add_all(&mut known, &mut held, sorted.as_slice())?;
-        let start = held.copy()?;
-        Ok(Held {
+        Held {
             alloc,
-            listed,
-            known,
-            held,
-            start,
+            known: IndexSet::new(alloc),
+            held: Row::new(alloc),
+            start: Row::new(alloc),
             loops: Stack::new(alloc),
             kept: Stack::new(alloc),
-        })
+            needs: Vec::new(alloc),
+        }
     }
 
-    // Whether these are the mutexes that callers hold, in the order that they are listed in.
-    #[tactic(auto, using(crate::proofs::Starts::same_start))]
-    fn is_listed(&self, mutexes: &[i64]) -> bool
-        ensures { result ≡ true → self.now.start ≡ locks_of mutexes.now }
+    /// One set more that functions may need, at the next place: these mutexes.
+    #[tactic(auto, using(crate::proofs::Needs::known_rows, crate::proofs::Needs::needed_rows, crate::proofs::Needs::needed_sets))]
+    pub fn need(&mut self, mutexes: &[i64]) -> Result<(), AllocError>
+        ensures { OnOk result (self.new ≡ needing (locks_of mutexes.now) self.old) }
     {
-        are_same(mutexes, self.listed.as_slice())
-    }
-
-    // At the start of the same function again.
-    fn rewind(&mut self) -> Result<(), AllocError>
-        ensures { OnOk result (self.new ≡ at_start self.old.start) }
-    {
-        self.held = self.start.copy()?;
-        self.loops = Stack::new(self.alloc);
-        self.kept = Stack::new(self.alloc);
+        let row = known::row_of(self.alloc, &mut self.known, mutexes)?;
+        self.needs.push(row)?;
         Ok(())
     }
 
-    /// At the start of a function whose callers hold these. The set of them is made only where they are others than at the last start.
-    pub fn start(&mut self, mutexes: &[i64]) -> Result<(), AllocError>
-        ensures { OnOk result (self.new ≡ at_start (locks_of mutexes.now)) }
+    /// One set more that functions may need, at the next place: that of a place.
+    #[tactic(auto, using(crate::proofs::Needs::again_rows, crate::proofs::Needs::again_sets))]
+    pub fn need_again(&mut self, place: usize) -> Result<(), AllocError>
+        ensures { OnOk result (self.new ≡ needing (need_at self.old.needs place) self.old) }
     {
-        if self.is_listed(mutexes) {
-            return self.rewind();
-        }
-        *self = Held::new(self.alloc, mutexes)?;
+        let row = copy_at(self.alloc, self.needs.as_slice(), place)?;
+        self.needs.push(row)?;
+        Ok(())
+    }
+
+    /// At the start of a function whose callers hold the set of a place.
+    #[tactic(auto, using(crate::proofs::Needs::started_rows, crate::proofs::Needs::started_sets))]
+    pub fn start(&mut self, place: usize) -> Result<(), AllocError>
+        ensures { OnOk result (self.new ≡ starting (need_at self.old.needs place) self.old) }
+    {
+        let held = copy_at(self.alloc, self.needs.as_slice(), place)?;
+        self.start = held.copy()?;
+        self.held = held;
+        self.loops = Stack::new(self.alloc);
+        self.kept = Stack::new(self.alloc);
         Ok(())
     }
 
@@ -107,18 +95,18 @@ impl Held {
     pub fn has(&self, mutex: i128) -> bool
         ensures { result ≡ is_held mutex self.now.held }
     {
-        known::has(self.known.as_slice(), mutex, &self.held)
+        known::has(&self.known, mutex, &self.held)
     }
 
-    /// Whether all mutexes of a set are held.
-    pub fn has_all(&self, set: &Locks) -> bool
-        ensures { result ≡ are_held set.now self.now.held }
+    /// Whether all mutexes of the set of a place are held.
+    pub fn has_all(&self, place: usize) -> bool
+        ensures { result ≡ are_held (need_at self.now.needs place) self.now.held }
     {
-        known::has_all(self.known.as_slice(), set.members(), &self.held)
+        has_all_at(&self.held, self.needs.as_slice(), place)
     }
 
     /// The mutex is taken.
-    #[tactic(auto, using(crate::proofs::Sets::taken_rows, crate::proofs::Sets::taken_start, crate::proofs::Sets::taken_sets))]
+    #[tactic(auto, using(crate::proofs::Sets::taken_sets))]
     pub fn add(&mut self, mutex: i128) -> Result<(), AllocError>
         ensures { OnOk result (self.new ≡ record self.old { held = with_lock mutex self.old.held }) }
     {
@@ -130,7 +118,7 @@ impl Held {
     pub fn remove(&mut self, mutex: i128)
         ensures { self.new ≡ record self.old { held = without_lock mutex self.old.held } }
     {
-        if let Some(place) = known::place_of(self.known.as_slice(), mutex) {
+        if let Some(place) = known::place_of(&self.known, mutex) {
             self.held.remove(place);
         }
     }

@@ -3,9 +3,7 @@
 
 mod held;
 mod known;
-mod locks;
 mod row;
 mod stack;
 
 pub use held::Held;
-pub use locks::Locks;

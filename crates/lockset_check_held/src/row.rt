@@ -1,7 +1,7 @@
 //! Rows of bits.
 
 ghost use Rattle.std.specs.Prelude.{◌≡◌, ℕ, ◌≤◌, false, true, get_or, length, IfOk, OnOk, [], bit_and};
-ghost use Rattle.lockset_check_held.specs.Rows.{is_on, TurnsOff, TurnsOn, IsShared, AreAlike};
+ghost use Rattle.lockset_check_held.specs.Rows.{is_on, row_at, TurnsOff, TurnsOn, Includes, IsShared, AreAlike};
 ghost use mathlib.Core.Logic.{◌≢◌};
 
 use std::alloc::{AllocError, Global};
@@ -37,6 +37,21 @@ fn share_words(words: &mut Vec<u64>, others: &[u64])
     for i in 0..words.len() {
         words[i] &= word_at(others, i);
     }
+}
+
+// Whether all bits of others are among these.
+#[tactic(auto, using(crate::proofs::Bits::none_left_out, crate::proofs::Bits::one_included, crate::proofs::Bits::all_included, crate::proofs::Bits::left_out))]
+fn are_all(words: &[u64], others: &[u64]) -> bool
+    ensures all { result ≡ true → Includes words.now others.now }
+    ensures others { result ≡ false → ¬ (Includes words.now others.now) }
+{
+    for i in 0..others.len() {
+        let other = word_at(others, i);
+        if word_at(words, i) & other != other {
+            return false;
+        }
+    }
+    true
 }
 
 // Whether both have the same bits.
@@ -116,6 +131,14 @@ impl Row {
         share_words(&mut self.words, other.words.as_slice());
     }
 
+    /// Whether all places of another row are among them.
+    pub(crate) fn has_all(&self, other: &Row) -> bool
+        ensures all { result ≡ true → Includes self.now other.now }
+        ensures others { result ≡ false → ¬ (Includes self.now other.now) }
+    {
+        are_all(self.words.as_slice(), other.words.as_slice())
+    }
+
     /// Whether both rows have the same places.
     pub(crate) fn is_same(&self, other: &Row) -> bool
         ensures same { result ≡ true → AreAlike self.now other.now }
@@ -133,5 +156,27 @@ impl Row {
             alloc: self.alloc,
             words,
         })
+    }
+}
+
+/// Whether a row has all places of the row of a place among some; past the last one, there are none.
+#[tactic(auto, using(crate::proofs::Bits::nothing_included))]
+pub(crate) fn has_all_at(row: &Row, rows: &[Row], place: usize) -> bool
+    ensures all { result ≡ true → Includes row.now (row_at rows.now place) }
+    ensures others { result ≡ false → ¬ (Includes row.now (row_at rows.now place)) }
+{
+    match rows.get(place) {
+        Some(other) => row.has_all(other),
+        None => true,
+    }
+}
+
+/// The row of a place among some once more; past the last one, no places.
+pub(crate) fn copy_at(alloc: Global, rows: &[Row], place: usize) -> Result<Row, AllocError>
+    ensures { IfOk result (λ row. row ≡ row_at rows.now place) }
+{
+    match rows.get(place) {
+        Some(row) => row.copy(),
+        None => Ok(Row::new(alloc)),
     }
 }

@@ -1,3 +1,3 @@
 pub mod ByNumber
-pub mod Held
+pub mod Lists
 pub mod Weights

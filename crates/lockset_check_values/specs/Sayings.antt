@@ -1,6 +1,7 @@
 -- What a source says of mutexes, as plain data.
-use Rattle.std.specs.Prelude.{ℕ, ℤ, ◌-◌, nat_lt, if◌then◌else◌, List, [], Option, Some, None, slice_get}
+use Rattle.std.specs.Prelude.{ℕ, ℤ, ◌-◌, nat_lt, if◌then◌else◌, List, [], map, Option, Some, None, slice_get}
 use Rattle.c_builtins.specs.Table.{first_source_function}
+use Rattle.lockset_check_rules.specs.Mutexes.{Locks, locks_of}
 
 -- by place the mutex that guards a global, if one does, and the mutexes that the callers of a function hold, by its
 -- number less that of the first
@@ -19,12 +20,11 @@ held None = []
 abbrev pub guard_in : Sayings → (place : ℕ) → Option ℤ
 guard_in s place = guarding (slice_get s.guards place)
 
--- what the callers of a function of the source hold
-abbrev pub callers_in : Sayings → (number : ℕ) → Option (List ℤ)
-callers_in s number =
-    if nat_lt number first_source_function then None else slice_get s.holds (number - first_source_function)
-
 -- builtins hold nothing
 abbrev pub holds_in : Sayings → (number : ℕ) → List ℤ
 holds_in s number =
     if nat_lt number first_source_function then [] else held (slice_get s.holds (number - first_source_function))
+
+-- the sets that functions need, in their order
+abbrev pub needs_of : Sayings → List Locks
+needs_of s = map locks_of s.holds

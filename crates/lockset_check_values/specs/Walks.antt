@@ -1,5 +1,5 @@
 -- A walk over the values of a function: what is held where it has come to, and what was found.
-use Rattle.std.specs.Prelude.{ℕ, Bool, List, ◌++◌}
+use Rattle.std.specs.Prelude.{◌≡◌, ℕ, Bool, List, [], ◌++◌}
 use Rattle.c_builtins.specs.declared.builtin.Builtin.{Builtin}
 use Rattle.c_types_rules.specs.TypedTree.{Callee, MaybeValue, Object, Typed, Value, Values, AnObject, AFunction, AValue}
 use Rattle.lockset_check_rules.specs.declared.finding.LockFinding.{LockFinding}
@@ -7,11 +7,20 @@ use Rattle.lockset_check_rules.specs.Mutexes.{Locks}
 use Rattle.lockset_check_rules.specs.Guards.{Guarded}
 use Rattle.lockset_check_rules.specs.After.{builtin_after, call_after, callee_after, maybe_after, object_after, value_after, values_after}
 use Rattle.lockset_check_rules.specs.Values.{builtin_found, call_found, callee_found, maybe_found, object_found, value_found, values_found}
-use Rattle.lockset_check_held.specs.HeldSets.{HeldSets}
+use Rattle.lockset_check_held.specs.HeldSets.{HeldSets, at_first}
+use Rattle.lockset_check_values.specs.Sayings.{Sayings, needs_of}
 
 pub record Walked : Type 0 where
   pub sets : HeldSets
   pub found : List LockFinding
+
+-- a walk over a source, whose functions may need the sets that their callers hold
+abbrev pub IsWalkOf : Sayings → Walked → Type 0
+IsWalkOf s w = w.sets.needs ≡ needs_of s
+
+-- the start of such a walk
+abbrev pub walk_of : Sayings → Walked
+walk_of s = record { sets = record at_first { needs = needs_of s }; found = [] }
 
 -- the same findings, with other sets
 abbrev pub with_sets : HeldSets → Walked → Walked

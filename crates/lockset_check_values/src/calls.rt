@@ -9,7 +9,7 @@ ghost use Rattle.c_types_nodes.specs.Parts.{values};
 ghost use Rattle.c_types_nodes.specs.Tables.{IsFunctionAt, IsValueAt, callee_at, typed_of};
 ghost use Rattle.lockset_check_rules.specs.After.{mutex_of};
 ghost use Rattle.lockset_check_values.specs.Setting.{guarded};
-ghost use Rattle.lockset_check_values.specs.Walks.{builtin_walked, call_walked, value_walked};
+ghost use Rattle.lockset_check_values.specs.Walks.{IsWalkOf, builtin_walked, call_walked, value_walked};
 
 use crate::walk::Walk;
 use crate::walker::Walker;
@@ -29,6 +29,7 @@ impl Walker<'_, '_> {
     ) -> Result<(), AllocError>
         requires callee { IsFunctionAt self.now.program.table callee }
         requires arguments { All (IsValueAt self.now.program.table) arguments.now }
+        requires walk { IsWalkOf self.now.sayings walk.old }
         ensures { OnOk result (walk.new ≡ value_walked (guarded self.now) false
             (tree.CallOf (callee_at self.now.program.table callee)
             (values (typed_of self.now.program.table) arguments.now) Void) walk.old) }
@@ -47,6 +48,7 @@ impl Walker<'_, '_> {
     ) -> Result<(), AllocError>
         requires callee { IsFunctionAt self.now.program.table callee }
         requires arguments { All (IsValueAt self.now.program.table) arguments.now }
+        requires walk { IsWalkOf self.now.sayings walk.old }
         ensures { OnOk result (walk.new ≡ call_walked (guarded self.now)
             (callee_at self.now.program.table callee)
             (values (typed_of self.now.program.table) arguments.now) walk.old) }

@@ -2,15 +2,15 @@
 
 ghost use Rattle.std.specs.Prelude.{◌≡◌};
 
-use crate::holds::Holds;
 use c_builtins::FIRST_SOURCE_FUNCTION;
+use c_syntax::SharedSeq;
 use std::marker::Model;
 
 /// By place the mutex that guards a global, and by number those that the callers of a function hold.
 #[derive(Drop)]
 pub struct Guards {
     guards: Vec<Option<i64>>,
-    holds: Vec<Holds>,
+    holds: Vec<SharedSeq<i64>>,
 }
 
 impl Model for Guards {
@@ -22,11 +22,10 @@ impl Model for Guards {
 }
 
 impl Guards {
-    ghost use Rattle.lockset_check_values.specs.Sayings.{callers_in, guard_in, holds_in};
-    ghost use Rattle.std.specs.Option.{option_copied};
+    ghost use Rattle.lockset_check_values.specs.Sayings.{guard_in, holds_in};
 
     /// Those of globals by place, and those of the functions of a source in their order.
-    pub fn new(guards: Vec<Option<i64>>, holds: Vec<Holds>) -> Guards
+    pub fn new(guards: Vec<Option<i64>>, holds: Vec<SharedSeq<i64>>) -> Guards
         ensures { result ≡ record { guards = guards.items; holds = holds.items } }
     {
         Guards { guards, holds }
@@ -42,24 +41,23 @@ impl Guards {
         }
     }
 
-    /// What the callers of the function of this number hold; `None` where the source has no function of the number.
-    pub(crate) fn callers(&self, number: usize) -> Option<&Holds>
-        ensures { option_copied result ≡ callers_in self.now number }
+    /// What the callers of functions hold, in the order of the source.
+    pub(crate) fn listed(&self) -> &[SharedSeq<i64>]
+        ensures { result.now ≡ self.now.holds }
     {
-        let first = usize::from(FIRST_SOURCE_FUNCTION);
-        if number < first {
-            return None;
-        }
-        self.holds.get(number - first)
+        self.holds.as_slice()
     }
 
     /// The mutexes that the callers of the function of this number hold.
-    #[tactic(auto, using(crate::proofs::ByNumber::held_by_callers))]
     pub fn holds(&self, number: usize) -> &[i64]
         ensures { result.now ≡ holds_in self.now number }
     {
-        match self.callers(number) {
-            Some(mutexes) => mutexes.listed(),
+        let first = usize::from(FIRST_SOURCE_FUNCTION);
+        if number < first {
+            return &[];
+        }
+        match self.holds.get(number - first) {
+            Some(mutexes) => mutexes.as_slice(),
             None => &[],
         }
     }

@@ -3,9 +3,9 @@
 
 mod calls;
 mod guards;
-mod holds;
 mod logic;
 mod names;
+mod needs;
 mod pairs;
 mod roots;
 mod updates;
@@ -14,6 +14,5 @@ mod walk;
 mod walker;
 
 pub use guards::Guards;
-pub use holds::Holds;
 pub use walk::Walk;
 pub use walker::Walker;

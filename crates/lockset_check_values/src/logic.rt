@@ -4,7 +4,7 @@ ghost use Rattle.std.specs.Prelude.{◌≡◌, false, OnOk};
 ghost use Rattle.c_types_nodes.specs.Tables.{IsValueAt, value_at};
 ghost use Rattle.c_types_rules.specs.TypedTree as tree;
 ghost use Rattle.lockset_check_values.specs.Setting.{guarded};
-ghost use Rattle.lockset_check_values.specs.Walks.{value_walked};
+ghost use Rattle.lockset_check_values.specs.Walks.{IsWalkOf, value_walked};
 
 use crate::walk::Walk;
 use crate::walker::Walker;
@@ -22,6 +22,7 @@ impl Walker<'_, '_> {
     ) -> Result<(), AllocError>
         requires first { IsValueAt self.now.program.table first }
         requires second { IsValueAt self.now.program.table second }
+        requires walk { IsWalkOf self.now.sayings walk.old }
         ensures { OnOk result (walk.new ≡ value_walked (guarded self.now) false
             (tree.Both (value_at self.now.program.table first)
             (value_at self.now.program.table second)) walk.old) }
@@ -45,6 +46,7 @@ impl Walker<'_, '_> {
         requires condition { IsValueAt self.now.program.table condition }
         requires then { IsValueAt self.now.program.table then }
         requires other { IsValueAt self.now.program.table other }
+        requires walk { IsWalkOf self.now.sayings walk.old }
         ensures { OnOk result (walk.new ≡ value_walked (guarded self.now) false
             (tree.Choice (value_at self.now.program.table condition)
             (value_at self.now.program.table then)

@@ -6,7 +6,7 @@ ghost use Rattle.lockset_check_rules.specs.Mutexes.{are_held};
 ghost use Rattle.lockset_check_rules.specs.Values.{touched};
 ghost use Rattle.c_types_nodes.specs.Tables.{IsObjectAt, object_at};
 ghost use Rattle.lockset_check_values.specs.Setting.{guarded};
-ghost use Rattle.lockset_check_values.specs.Walks.{finding};
+ghost use Rattle.lockset_check_values.specs.Walks.{IsWalkOf, finding};
 
 use crate::walk::Walk;
 use crate::walker::Walker;
@@ -128,14 +128,18 @@ impl Walker<'_, '_> {
     }
 
     // Whether all mutexes are held that the callers of a function hold.
-    #[tactic(auto, using(crate::proofs::ByNumber::held_by_callers))]
-    fn are_held(&self, walk: &Walk, number: u32) -> bool
-        ensures { result ≡ are_held ((guarded self.now).holds number) walk.now.sets.held }
+    #[tactic(auto, using(crate::proofs::ByNumber::none_needed, crate::proofs::ByNumber::needed))]
+    fn are_held(&self, walk: &mut Walk, number: u32) -> bool
+        requires { IsWalkOf self.now.sayings walk.old }
+        ensures held { result ≡ are_held ((guarded self.now).holds number) walk.old.sets.held }
+        ensures same { walk.new ≡ walk.old }
     {
-        match self.guards().callers(number as usize) {
-            Some(mutexes) => walk.has_all(mutexes),
-            None => true,
+        let first = usize::from(FIRST_SOURCE_FUNCTION);
+        let number = number as usize;
+        if number < first {
+            return true;
         }
+        walk.has_all(number - first)
     }
 
     /// A function is called by its name.
@@ -145,6 +149,7 @@ impl Walker<'_, '_> {
         from: u32,
         number: u32,
     ) -> Result<(), AllocError>
+        requires walk { IsWalkOf self.now.sayings walk.old }
         ensures { OnOk result (walk.new ≡ finding (called_unheld (guarded self.now) from number
             walk.old.sets.held) walk.old) }
     {

@@ -6,7 +6,7 @@ ghost use Rattle.c_types_nodes.specs.Parts.{sum_in};
 ghost use Rattle.c_types_nodes.specs.Tables.{IsValueAt, value_at};
 ghost use Rattle.c_types_rules.specs.TypedTree as tree;
 ghost use Rattle.lockset_check_values.specs.Setting.{guarded};
-ghost use Rattle.lockset_check_values.specs.Walks.{object_walked, value_walked};
+ghost use Rattle.lockset_check_values.specs.Walks.{IsWalkOf, object_walked, value_walked};
 
 use crate::walk::Walk;
 use crate::walker::Walker;
@@ -24,6 +24,7 @@ impl Walker<'_, '_> {
     ) -> Result<(), AllocError>
         requires left { IsValueAt self.now.program.table left }
         requires right { IsValueAt self.now.program.table right }
+        requires walk { IsWalkOf self.now.sayings walk.old }
         ensures { OnOk result (walk.new ≡ value_walked (guarded self.now) false
             (tree.Sequence (value_at self.now.program.table left)
             (value_at self.now.program.table right)) walk.old) }
@@ -43,6 +44,7 @@ impl Walker<'_, '_> {
     ) -> Result<(), AllocError>
         requires pointer { IsValueAt self.now.program.table pointer }
         requires index { IsValueAt self.now.program.table index }
+        requires walk { IsWalkOf self.now.sayings walk.old }
         ensures { OnOk result (walk.new ≡ value_walked (guarded self.now) false
             (tree.PointerSum (sum_in sum) (value_at self.now.program.table pointer)
             (value_at self.now.program.table index) 0) walk.old) }
@@ -64,6 +66,7 @@ impl Walker<'_, '_> {
     ) -> Result<(), AllocError>
         requires pointer { IsValueAt self.now.program.table pointer }
         requires index { IsValueAt self.now.program.table index }
+        requires walk { IsWalkOf self.now.sayings walk.old }
         ensures { OnOk result (walk.new ≡ object_walked (guarded self.now)
             (tree.Element (sum_in sum) (value_at self.now.program.table pointer)
             (value_at self.now.program.table index) Void) walk.old) }

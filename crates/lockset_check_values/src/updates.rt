@@ -7,7 +7,7 @@ ghost use Rattle.c_types_table.specs.Tables.{type_at};
 ghost use Rattle.c_types_nodes.specs.Tables.{IsObjectAt, IsValueAt, object_at, value_at};
 ghost use Rattle.c_types_rules.specs.TypedTree as tree;
 ghost use Rattle.lockset_check_values.specs.Setting.{guarded};
-ghost use Rattle.lockset_check_values.specs.Walks.{value_walked};
+ghost use Rattle.lockset_check_values.specs.Walks.{IsWalkOf, value_walked};
 
 use crate::walk::Walk;
 use crate::walker::Walker;
@@ -19,7 +19,8 @@ impl Walker<'_, '_> {
     // What an object holds is loaded, if it is scalar.
     #[cycle(values)]
     pub(crate) fn read(&self, walk: &mut Walk, object: NodeId) -> Result<(), AllocError>
-        requires { IsObjectAt self.now.program.table object }
+        requires object { IsObjectAt self.now.program.table object }
+        requires walk { IsWalkOf self.now.sayings walk.old }
         ensures { OnOk result (walk.new ≡ value_walked (guarded self.now) false
             (tree.ReadOf (object_at self.now.program.table object)) walk.old) }
     {
@@ -41,6 +42,7 @@ impl Walker<'_, '_> {
     ) -> Result<(), AllocError>
         requires object { IsObjectAt self.now.program.table object }
         requires ty { ty.0 < length self.now.program.table.types }
+        requires walk { IsWalkOf self.now.sayings walk.old }
         ensures { OnOk result (walk.new ≡ value_walked (guarded self.now) subscripted
             (tree.AddressOf (object_at self.now.program.table object)
             (type_at self.now.program.table.types ty)) walk.old) }
@@ -59,6 +61,7 @@ impl Walker<'_, '_> {
     ) -> Result<(), AllocError>
         requires object { IsObjectAt self.now.program.table object }
         requires value { IsValueAt self.now.program.table value }
+        requires walk { IsWalkOf self.now.sayings walk.old }
         ensures { OnOk result (walk.new ≡ value_walked (guarded self.now) false
             (tree.Assigned (object_at self.now.program.table object)
             (value_at self.now.program.table value)) walk.old) }
@@ -78,6 +81,7 @@ impl Walker<'_, '_> {
     ) -> Result<(), AllocError>
         requires object { IsObjectAt self.now.program.table object }
         requires value { IsValueAt self.now.program.table value }
+        requires walk { IsWalkOf self.now.sayings walk.old }
         ensures { OnOk result (walk.new ≡ value_walked (guarded self.now) false
             (tree.Changed (object_at self.now.program.table object) Add I32
             (value_at self.now.program.table value)) walk.old) }
@@ -91,7 +95,8 @@ impl Walker<'_, '_> {
     // One more or one less (C11 6.5.2.4, 6.5.3.1).
     #[cycle(values)]
     pub(crate) fn stepped(&self, walk: &mut Walk, object: NodeId) -> Result<(), AllocError>
-        requires { IsObjectAt self.now.program.table object }
+        requires object { IsObjectAt self.now.program.table object }
+        requires walk { IsWalkOf self.now.sayings walk.old }
         ensures { OnOk result (walk.new ≡ value_walked (guarded self.now) false
             (tree.Stepped (object_at self.now.program.table object) tree.Up tree.New 0) walk.old) }
     {

@@ -6,7 +6,7 @@ ghost use Rattle.c_types_nodes.specs.Parts.{values};
 ghost use Rattle.c_types_nodes.specs.Tables.{IsNode, IsObjectAt, IsValueAt, node_at, object_at, typed_of, value_at};
 ghost use Rattle.lockset_check_values.specs.Setting.{guarded};
 ghost use Rattle.c_types_program.specs.Statements.{IsMaybeAt, maybe_at};
-ghost use Rattle.lockset_check_values.specs.Walks.{maybe_walked, object_walked, typed_walked, value_walked, values_walked};
+ghost use Rattle.lockset_check_values.specs.Walks.{IsWalkOf, maybe_walked, object_walked, typed_walked, value_walked, values_walked};
 
 use crate::walk::Walk;
 use crate::walker::Walker;
@@ -23,7 +23,8 @@ impl Walker<'_, '_> {
         id: NodeId,
         subscripted: bool,
     ) -> Result<(), AllocError>
-        requires { IsNode self.now.program.table id }
+        requires node { IsNode self.now.program.table id }
+        requires walk { IsWalkOf self.now.sayings walk.old }
         ensures { OnOk result (walk.new ≡ typed_walked (guarded self.now) subscripted
             (node_at self.now.program.table id) walk.old) }
     {
@@ -91,7 +92,8 @@ impl Walker<'_, '_> {
     /// Over a value that isn't subscripted.
     #[cycle(values)]
     pub fn value(&self, walk: &mut Walk, id: NodeId) -> Result<(), AllocError>
-        requires { IsValueAt self.now.program.table id }
+        requires value { IsValueAt self.now.program.table id }
+        requires walk { IsWalkOf self.now.sayings walk.old }
         ensures { OnOk result (walk.new ≡ value_walked (guarded self.now) false
             (value_at self.now.program.table id) walk.old) }
     {
@@ -100,7 +102,8 @@ impl Walker<'_, '_> {
 
     /// Over a value, if there is one.
     pub fn maybe(&self, walk: &mut Walk, value: Option<NodeId>) -> Result<(), AllocError>
-        requires { IsMaybeAt self.now.program.table value }
+        requires value { IsMaybeAt self.now.program.table value }
+        requires walk { IsWalkOf self.now.sayings walk.old }
         ensures { OnOk result (walk.new ≡ maybe_walked (guarded self.now)
             (maybe_at self.now.program.table value) walk.old) }
     {
@@ -113,7 +116,8 @@ impl Walker<'_, '_> {
     /// Over an object.
     #[cycle(values)]
     pub(crate) fn object(&self, walk: &mut Walk, id: NodeId) -> Result<(), AllocError>
-        requires { IsObjectAt self.now.program.table id }
+        requires object { IsObjectAt self.now.program.table id }
+        requires walk { IsWalkOf self.now.sayings walk.old }
         ensures { OnOk result (walk.new ≡ object_walked (guarded self.now)
             (object_at self.now.program.table id) walk.old) }
     {
@@ -123,7 +127,8 @@ impl Walker<'_, '_> {
     /// Over values, from left to right.
     #[cycle(values)]
     pub(crate) fn values(&self, walk: &mut Walk, ids: &[NodeId]) -> Result<(), AllocError>
-        requires { All (IsValueAt self.now.program.table) ids.now }
+        requires values { All (IsValueAt self.now.program.table) ids.now }
+        requires walk { IsWalkOf self.now.sayings walk.old }
         ensures { OnOk result (walk.new ≡ values_walked (guarded self.now)
             (values (typed_of self.now.program.table) ids.now) walk.old) }
     {

@@ -1,11 +1,12 @@
 //! A walk over a source.
 
-ghost use Rattle.std.specs.Prelude.{◌≡◌, OnOk, IfOk, [], ◌∷◌};
-ghost use Rattle.lockset_check_rules.specs.Mutexes.{are_held, is_held, locks_of, same, with_lock, without_lock};
-ghost use Rattle.lockset_check_held.specs.HeldSets.{at_start, entering, forgetting, going_back, is_as_at_loop, joining, keeping, leaving, restarting, turning};
-ghost use Rattle.lockset_check_values.specs.Walks.{finding, with_sets};
+ghost use Rattle.std.specs.Prelude.{◌≡◌, OnOk, IfOk, [], ◌∷◌, true};
+ghost use Rattle.lockset_check_rules.specs.Mutexes.{are_held, is_held, same, with_lock, without_lock};
+ghost use Rattle.lockset_check_held.specs.HeldSets.{entering, forgetting, going_back, is_as_at_loop, joining, keeping, leaving, need_at, restarting, starting, turning};
+ghost use Rattle.lockset_check_values.specs.Walks.{finding, walk_of, with_sets};
 
-use crate::holds::Holds;
+use crate::guards::Guards;
+use crate::needs::sets_for;
 use lockset_check_held::Held;
 use lockset_check_rules::LockFinding;
 use std::alloc::{AllocError, Global};
@@ -16,33 +17,44 @@ use std::marker::Model;
 pub struct Walk {
     sets: Held,
     found: Vec<LockFinding>,
+    // The place of a function all of whose mutexes were held since what is held changed last.
+    sure: Option<usize>,
 }
 
 impl Model for Walk {
+    ghost use Rattle.std.specs.Prelude.{◌≡◌, true};
+    ghost use Rattle.std.specs.Option.{IfSome};
+    ghost use Rattle.lockset_check_rules.specs.Mutexes.{are_held};
+    ghost use Rattle.lockset_check_held.specs.HeldSets.{need_at};
     ghost use Rattle.lockset_check_values.specs.Walks.{Walked};
 
     ghost Value = { Walked };
 
     ghost view = { λ w. record { sets = w.sets; found = w.found.items } };
+
+    ghost invariant = { λ w. IfSome w.sure (λ place. are_held (need_at w.sets.needs place) w.sets.held ≡ true) };
 }
 
 impl Walk {
-    /// A walk that has found nothing yet.
-    pub fn new(alloc: Global) -> Result<Walk, AllocError>
-        ensures { IfOk result (λ w. w ≡ record { sets = at_start []; found = [] }) }
+    /// A walk over a source that says this of mutexes, which has found nothing yet.
+    pub fn new(alloc: Global, guards: &Guards) -> Result<Walk, AllocError>
+        ensures { IfOk result (λ w. w ≡ walk_of guards.now) }
     {
-        let sets = Held::new(alloc, &[])?;
+        let sets = sets_for(alloc, guards.listed())?;
         Ok(Walk {
             sets,
             found: Vec::new(alloc),
+            sure: None,
         })
     }
 
-    /// Goes to the start of a function whose callers hold these.
-    pub fn start(&mut self, mutexes: &[i64]) -> Result<(), AllocError>
-        ensures { OnOk result (self.new ≡ with_sets (at_start (locks_of mutexes.now)) self.old) }
+    /// Goes to the start of the function of this place.
+    pub fn start(&mut self, place: usize) -> Result<(), AllocError>
+        ensures { OnOk result (self.new ≡ with_sets
+            (starting (need_at self.old.sets.needs place) self.old.sets) self.old) }
     {
-        self.sets.start(mutexes)
+        self.sure = None;
+        self.sets.start(place)
     }
 
     /// One finding more.
@@ -67,12 +79,30 @@ impl Walk {
         self.sets.has(mutex)
     }
 
-    /// Whether all of these mutexes are held.
-    #[tactic(auto, using(crate::proofs::Held::held_by_set))]
-    pub fn has_all(&self, mutexes: &Holds) -> bool
-        ensures { result ≡ are_held mutexes.now self.now.sets.held }
+    // Whether all mutexes are known to be held that the function of this place needs.
+    fn is_sure(&self, place: usize) -> bool
+        ensures { result ≡ true → are_held (need_at self.now.sets.needs place) self.now.sets.held ≡ true }
     {
-        self.sets.has_all(mutexes.set())
+        match self.sure {
+            Some(sure) => sure == place,
+            None => false,
+        }
+    }
+
+    /// Whether all mutexes are held that the function of this place needs. Where what is held stays the same, they are not looked at
+    /// again for the same function.
+    pub fn has_all(&mut self, place: usize) -> bool
+        ensures held { result ≡ are_held (need_at self.old.sets.needs place) self.old.sets.held }
+        ensures same { self.new ≡ self.old }
+    {
+        if self.is_sure(place) {
+            return true;
+        }
+        let all = self.sets.has_all(place);
+        if all {
+            self.sure = Some(place);
+        }
+        all
     }
 
     /// The mutex is taken.
@@ -80,6 +110,7 @@ impl Walk {
         ensures { OnOk result (self.new ≡ with_sets
             (record self.old.sets { held = with_lock mutex self.old.sets.held }) self.old) }
     {
+        self.sure = None;
         self.sets.add(mutex)
     }
 
@@ -88,6 +119,7 @@ impl Walk {
         ensures { self.new ≡ with_sets
             (record self.old.sets { held = without_lock mutex self.old.sets.held }) self.old }
     {
+        self.sure = None;
         self.sets.remove(mutex);
     }
 
@@ -95,6 +127,7 @@ impl Walk {
     pub fn keep(&mut self) -> Result<(), AllocError>
         ensures { OnOk result (self.new ≡ with_sets (keeping self.old.sets) self.old) }
     {
+        self.sure = None;
         self.sets.keep()
     }
 
@@ -102,6 +135,7 @@ impl Walk {
     pub fn turn(&mut self) -> Result<(), AllocError>
         ensures { OnOk result (self.new ≡ with_sets (turning self.old.sets) self.old) }
     {
+        self.sure = None;
         self.sets.turn()
     }
 
@@ -109,6 +143,7 @@ impl Walk {
     pub fn join(&mut self)
         ensures { self.new ≡ with_sets (joining self.old.sets) self.old }
     {
+        self.sure = None;
         self.sets.join();
     }
 
@@ -116,6 +151,7 @@ impl Walk {
     pub fn go_back(&mut self)
         ensures { self.new ≡ with_sets (going_back self.old.sets) self.old }
     {
+        self.sure = None;
         self.sets.go_back();
     }
 
@@ -123,6 +159,7 @@ impl Walk {
     pub fn forget(&mut self)
         ensures { self.new ≡ with_sets (forgetting self.old.sets) self.old }
     {
+        self.sure = None;
         self.sets.forget();
     }
 
@@ -130,6 +167,7 @@ impl Walk {
     pub fn enter(&mut self) -> Result<(), AllocError>
         ensures { OnOk result (self.new ≡ with_sets (entering self.old.sets) self.old) }
     {
+        self.sure = None;
         self.sets.enter()
     }
 
@@ -137,6 +175,7 @@ impl Walk {
     pub fn restart(&mut self) -> Result<(), AllocError>
         ensures { OnOk result (self.new ≡ with_sets (restarting self.old.sets) self.old) }
     {
+        self.sure = None;
         self.sets.restart()
     }
 
@@ -144,6 +183,7 @@ impl Walk {
     pub fn leave(&mut self)
         ensures { self.new ≡ with_sets (leaving self.old.sets) self.old }
     {
+        self.sure = None;
         self.sets.leave();
     }
 

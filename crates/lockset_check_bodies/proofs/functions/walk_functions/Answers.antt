@@ -32,10 +32,12 @@ loop-i-preserved c =
     let is : f ≡ get_or p.functions i f = c.index-functions-i.is ∙ ap (λ (xs : List Function). get_or xs i f) same in
     let more : drop i p.functions ≡ f ∷ drop (i + 1) p.functions = one_more p.functions i f lt is in
     let rest = map (function_in p.table) (drop (i + 1) p.functions) in
-    let next : first_source_function + (i + 1) ≡ suc (first_source_function + i) = omega arith in
-    ap (λ (n : ℕ). c.walk_function.new.walk.found ++ functions_found r runs n rest) next
-    ∙ (c.in_ok-walk_function.ensures rest
-    ∙ (ap (λ (xs : List Function). c.loop-i.walk.found ++ functions_found r runs (first_source_function + i) (map (function_in p.table) xs)) (sym more) ∙ c.loop-i.invariant))
+    let next : first_source_function + (i + 1) ≡ suc (first_source_function + i) = omega arith in (
+      c.in_ok-walk_function.ensures.walk,
+      ap (λ (n : ℕ). c.walk_function.new.walk.found ++ functions_found r runs n rest) next
+          ∙ (c.in_ok-walk_function.ensures.found rest
+          ∙ (ap (λ (xs : List Function). c.loop-i.walk.found ++ functions_found r runs (first_source_function + i) (map (function_in p.table) xs)) (sym more) ∙ c.loop-i.invariant.1)),
+    )
 
 pub returns : goal.returns
 returns c =
@@ -47,4 +49,4 @@ returns c =
     let past : length c.functions-functions.result.now < i + 1 = omega arith in
     let over : length p.functions < i + 1 = subst (λ (xs : List Function). length xs < i + 1) same past in
     at_end (λ (xs : List Function). functions_found r runs (first_source_function + i) (map (function_in p.table) xs)) refl p.functions i c.loop-i.walk.found
-    (c.args.walk.now.found ++ functions_found r runs first_source_function r.functions) over c.loop-i.invariant
+    (c.args.walk.now.found ++ functions_found r runs first_source_function r.functions) over c.loop-i.invariant.1

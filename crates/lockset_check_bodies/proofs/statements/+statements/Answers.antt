@@ -16,7 +16,7 @@ use Rattle.lockset_check_values.specs.Setting.{guarded}
 use Rattle.lockset_check_values.specs.Walks.{Walked, with_sets}
 use Rattle.lockset_check_bodies.specs.Places.{Passed, StatementWalked, StatementsWalked, in_part, in_round, within}
 use Rattle.lockset_check_bodies.proofs.Lists.{one_lighter, one_more, statement_among}
-use Rattle.lockset_check_bodies.proofs.Passing.{ended_part, first_part, first_stopped, first_went, kept_at, looped, next_part, nothing_passed, one_joined, round_ended, round_stopped, stops_there, then_passed, there, turned, turned_at, two_joined}
+use Rattle.lockset_check_bodies.proofs.Passing.{ended_part, first_part, first_stopped, first_went, kept_at, looped, next_part, nothing_passed, one_joined, round_ended, round_stopped, still, still_in_part, stops_there, then_passed, there, turned, turned_at, two_joined}
 use Rattle.lockset_check_bodies.proofs.Weights.{statement_weight, statements_weight}
 use Rattle.lockset_check_bodies.proofs.statements.+statements.Goals as goal
 
@@ -101,7 +101,7 @@ two_ways-returns t c =
 pub walk_statement-walk_statements-requires : goal.walk_statement-walk_statements-requires
 walk_statement-walk_statements-requires t c =
     let table = c.args.walker.now.program.table in
-    let inside : AllStatements table c.in-Block.statements.items = block_inside table c.in-Block.statements (subst (λ (s : Statement). IsStatement table s) c.in-Block.is c.requires) in
+    let inside : AllStatements table c.in-Block.statements.items = block_inside table c.in-Block.statements (subst (λ (s : Statement). IsStatement table s) c.in-Block.is c.requires.statement) in
     let all : AllStatements table c.deref.result.now = subst (λ (ss : List Statement). AllStatements table ss) (sym c.deref.ensures.value) inside in
     let means : tree.Block (statements_in table c.deref.result.now) ≡ statement_in table c.args.statement.now =
     ap (λ (ss : List Statement). tree.Block (statements_in table ss)) c.deref.ensures.value ∙ (sym (block_means table c.in-Block.statements) ∙ ap (statement_in table) (sym c.in-Block.is)) in
@@ -123,7 +123,7 @@ walk_statement-for_statement-requires t c =
     let first = statements_in table c.deref-in-For.result.now in
     let body = statement_in table c.deref-in-For-2.result.now in
     let inside : AllStatements table c.in-For.first.items =
-    first_inside table c.in-For.from c.in-For.first c.in-For.condition c.in-For.last c.in-For.body (subst (λ (s : Statement). IsStatement table s) c.in-For.is c.requires) in
+    first_inside table c.in-For.from c.in-For.first c.in-For.condition c.in-For.last c.in-For.body (subst (λ (s : Statement). IsStatement table s) c.in-For.is c.requires.statement) in
     let all : AllStatements table c.deref-in-For.result.now = subst (λ (ss : List Statement). AllStatements table ss) (sym c.deref-in-For.ensures.value) inside in
     let means : tree.For c.in-For.from first condition last body ≡ statement_in table c.args.statement.now =
     ap (λ (ss : List Statement). tree.For c.in-For.from (statements_in table ss) condition last body) c.deref-in-For.ensures.value
@@ -148,7 +148,7 @@ walk_statement-returns-in-For t c =
 pub walk_statements-walk_statement-requires : goal.walk_statements-walk_statement-requires
 walk_statements-walk_statement-requires t c =
     let table = c.args.walker.now.program.table in
-    let inside : IsStatement table c.index-statements-i.result = statement_among table c.args.statements.now c.loop-i.i c.index-statements-i.result c.requires (omega arith) c.index-statements-i.is in
+    let inside : IsStatement table c.index-statements-i.result = statement_among table c.args.statements.now c.loop-i.i c.index-statements-i.result c.requires.statements (omega arith) c.index-statements-i.is in
     let smaller : statement_weight (statement_in table c.index-statements-i.result) < statements_weight (statements_in table c.args.statements.now) =
     one_lighter table c.args.statements.now c.loop-i.i c.index-statements-i.result (omega arith) c.index-statements-i.is in
     search rules
@@ -164,10 +164,12 @@ walk_statements-loop-i-preserved t c =
     let more : drop c.loop-i.i ss ≡ s ∷ drop (c.loop-i.i + 1) ss = one_more ss c.loop-i.i s (omega arith) c.index-statements-i.is in
     let rest = statements_in table (drop (c.loop-i.i + 1) ss) in
     let on : c.in_ok-goes.goes ≡ true = c.if-not-goes.false in
-    let p : StatementWalked r c.args.within (statement_in table s) true w v = subst (λ (b : Bool). StatementWalked r c.args.within (statement_in table s) b w v) on c.in_ok-goes.ensures in
-    λ goes u h. c.loop-i.invariant goes u
-    (subst (λ (xs : List Statement). StatementsWalked r c.args.within (statements_in table xs) goes w u) (sym more)
-    (then_passed (statements_after rest) (λ x l. statements_found r x rest l) c.args.within (statement_after (statement_in table s) w.sets.held) (statement_found r (within w.sets c.args.within) (statement_in table s) w.sets.held) goes w v u p h))
+    let p : StatementWalked r c.args.within (statement_in table s) true w v = subst (λ (b : Bool). StatementWalked r c.args.within (statement_in table s) b w v) on c.in_ok-goes.ensures in (
+      still c.args.walker.now.sayings (statement_after (statement_in table s) w.sets.held) (statement_found r (within w.sets c.args.within) (statement_in table s) w.sets.held) true w v p c.loop-i.invariant.0,
+      λ goes u h. c.loop-i.invariant.1 goes u
+          (subst (λ (xs : List Statement). StatementsWalked r c.args.within (statements_in table xs) goes w u) (sym more)
+          (then_passed (statements_after rest) (λ x l. statements_found r x rest l) c.args.within (statement_after (statement_in table s) w.sets.held) (statement_found r (within w.sets c.args.within) (statement_in table s) w.sets.held) goes w v u p h)),
+    )
 
 pub walk_statements-returns : goal.walk_statements-returns
 walk_statements-returns t c =
@@ -176,7 +178,7 @@ walk_statements-returns t c =
     let ss = c.args.statements.now in
     let w = c.loop-i.walk in
     let all : drop c.loop-i.i ss ≡ [] = drop_all c.loop-i.i ss (omega arith) in
-    c.loop-i.invariant true w (subst (λ (xs : List Statement). StatementsWalked r c.args.within (statements_in table xs) true w w) (sym all) (nothing_passed w))
+    c.loop-i.invariant.1 true w (subst (λ (xs : List Statement). StatementsWalked r c.args.within (statements_in table xs) true w w) (sym all) (nothing_passed w))
 
 pub walk_statements-returns-then-not-goes : goal.walk_statements-returns-then-not-goes
 walk_statements-returns-then-not-goes t c =
@@ -190,7 +192,7 @@ walk_statements-returns-then-not-goes t c =
     let rest = statements_in table (drop (c.loop-i.i + 1) ss) in
     let off : c.in_ok-goes.goes ≡ false = c.if-not-goes.true in
     let p : StatementWalked r c.args.within (statement_in table s) false w v = subst (λ (b : Bool). StatementWalked r c.args.within (statement_in table s) b w v) off c.in_ok-goes.ensures in
-    c.loop-i.invariant false v
+    c.loop-i.invariant.1 false v
     (subst (λ (xs : List Statement). StatementsWalked r c.args.within (statements_in table xs) false w v) (sym more)
     (stops_there (statements_after rest) (λ x l. statements_found r x rest l) c.args.within (statement_after (statement_in table s) w.sets.held) (statement_found r (within w.sets c.args.within) (statement_in table s) w.sets.held) w v p))
 

@@ -1,7 +1,7 @@
 use Rattle.std.proofs.Common.{◌+◌, Bool, drop}
 use Rattle.c_types_program.specs.Statements.{statement_in, statements_in}
 use Rattle.lockset_check_values.specs.Setting.{guarded}
-use Rattle.lockset_check_values.specs.Walks.{Walked}
+use Rattle.lockset_check_values.specs.Walks.{IsWalkOf, Walked}
 use Rattle.lockset_check_bodies.specs.Places.{StatementsWalked}
 use Rattle.lockset_check_bodies.proofs.Weights.{statement_weight, statements_weight}
 use Rattle.lockset_check_bodies.proofs.statements.+statements.Given as goal
@@ -9,9 +9,10 @@ use Rattle.lockset_check_bodies.proofs.statements.+statements.Given as goal
 -- a walk over what is left makes one over the whole
 abbrev pub invariant-walk_statements-loop-i : goal.invariant-walk_statements-loop-i
 invariant-walk_statements-loop-i l =
-    (goes : Bool) (v : Walked) →
+    IsWalkOf l.walker.sayings l.walk ×
+    ((goes : Bool) (v : Walked) →
     StatementsWalked (guarded l.walker) l.within (statements_in l.walker.program.table (drop l.i l.statements)) goes l.walk v →
-    StatementsWalked (guarded l.walker) l.within (statements_in l.walker.program.table l.statements) goes l.fn.walk v
+    StatementsWalked (guarded l.walker) l.within (statements_in l.walker.program.table l.statements) goes l.fn.walk v)
 
 abbrev pub decreases-walk_statement : goal.decreases-walk_statement
 decreases-walk_statement l = statement_weight (statement_in l.walker.now.program.table l.statement.now)

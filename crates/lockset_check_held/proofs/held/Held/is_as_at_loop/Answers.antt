@@ -7,8 +7,8 @@ use Rattle.lockset_check_held.proofs.held.Held.is_as_at_loop.Goals as goal
 pub returns-in-Some : goal.returns-in-Some
 returns-in-Some c =
     let h = c.self.inside in
-    let w = c.self.invariant.0 in
-    let known = h.known.items in
+    let w = c.self.invariant in
+    let known = h.known.keys in
     let start = c.in-Some.start.now in
     let first : Some start ≡ first_row h.loops = search rules in
     compared known h.held start c.is_same.result w.0 w.1 (first_within _ h.loops start first w.3) c.is_same.ensures.same c.is_same.ensures.others
