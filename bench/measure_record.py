@@ -28,6 +28,36 @@ EMPTY = """[cut(top)] int x(void);
 int main(void) { return 0; }
 """
 
+# Runs at the limits of a recording, with the status that each ends with: a million events; records of 48 MiB, of returns that are
+# written once but counted in full; a report of 1 MiB of live memory; the steps of the greatest budget.
+LARGE = [
+    (
+        "events",
+        "[cut(top)] void low(void);\nvoid low(void) { }\nint main(void) { while (1) low(); return 0; }\n",
+        "budget 100000000\n",
+        7,
+    ),
+    (
+        "full",
+        "[cut(top), cache] int get([out, bsize(n)] char *p, int n);\nchar b[1000000];\n"
+        "int main(void) { while (1) get(b, 1000000); return 0; }\n",
+        "answer get 0 -\n" * 60,
+        7,
+    ),
+    (
+        "live",
+        "[cut(top)] int x(void);\nchar b[1048560];\nint main(void) { b[7] = 1; return 0; }\n",
+        "",
+        0,
+    ),
+    (
+        "budget",
+        "[cut(top)] int x(void);\nint main(void) { while (1) ; return 0; }\n",
+        "budget 100000000\n",
+        7,
+    ),
+]
+
 
 def plain(source):
     """The source without its annotations."""
@@ -96,6 +126,24 @@ def measure(program, name, source, system, scratch):
     )
 
 
+def measure_large(program, name, source, system, wanted, scratch):
+    """One line for a run at a limit, without a native program beside it."""
+    paths = [os.path.join(scratch, end) for end in ("a.c", "a.sys", "a.log", "a.rep")]
+    for path, text in zip(paths, (source, system)):
+        with open(path, "w") as file:
+            file.write(text)
+    words = [program, "record", paths[0], "top", *paths[1:]]
+    seconds, status, memory = timed(words, os.path.join(scratch, "printed"))
+    if status != wanted:
+        sys.exit(f"{name}: record ended with {status}")
+    sizes = sum(os.path.getsize(path) for path in paths[2:])
+    print(
+        f"{name:8} {seconds:6.3f} s  memory {memory / 2**20:6.1f} MiB"
+        f"  {sizes / 2**20:6.1f} MiB of log and report",
+        flush=True,
+    )
+
+
 def main():
     program, scratch = sys.argv[1:]
     measure(program, "empty", EMPTY, "", scratch)
@@ -106,6 +154,8 @@ def main():
     subprocess.run([program, "gen", "5000", *paths], check=True)
     with open(paths[0]) as source, open(paths[1]) as system:
         measure(program, "threads", source.read(), system.read(), scratch)
+    for name, source, system, status in LARGE:
+        measure_large(program, name, source, system, status, scratch)
 
 
 main()
