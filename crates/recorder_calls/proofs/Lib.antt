@@ -5,3 +5,9 @@ pub mod Registered
 pub mod Called
 pub mod Undone
 pub mod Ends
+mod Bounded
+mod Handed
+mod SaidKeys
+mod FewKeys
+mod Next
+mod CallModes
