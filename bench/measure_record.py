@@ -1,0 +1,161 @@
+#!/usr/bin/env python3
+"""Runs `PROGRAM record` on a loop of arithmetic and accesses, one of calls across the cut, one of blocks, and four threads that sum
+under a mutex (`gen`), and the same built by `gcc -O0`, natively and under Helgrind. Prints marks and events a second, the time over
+those of the others, each the best of a few runs, and the peak memory without the sizes of log and report. What a program
+takes to start is part of each; the first line says how much that is."""
+import os
+import re
+import subprocess
+import sys
+
+from timing import timed
+
+RUNS = 3
+HERE = os.path.dirname(os.path.abspath(__file__))
+
+# What a program declares of r2's builtins.
+PROTOTYPES = """void *r2_malloc(unsigned long n);
+void r2_free(void *p);
+int r2_spawn(int (*f)(void *), void *arg);
+int r2_join(int t);
+int r2_lock(int m);
+int r2_unlock(int m);
+void r2_print(char *p, unsigned long n);
+"""
+
+# What each of the three takes to start and to end.
+EMPTY = """[cut(top)] int x(void);
+int main(void) { return 0; }
+"""
+
+# Runs at the limits of a recording, with the status that each ends with: a million events; records of 48 MiB, of returns that are
+# written once but counted in full; a report of 1 MiB of live memory; the steps of the greatest budget.
+LARGE = [
+    (
+        "events",
+        "[cut(top)] void low(void);\nvoid low(void) { }\nint main(void) { while (1) low(); return 0; }\n",
+        "budget 100000000\n",
+        7,
+    ),
+    (
+        "full",
+        "[cut(top), cache] int get([out, bsize(n)] char *p, int n);\nchar b[1000000];\n"
+        "int main(void) { while (1) get(b, 1000000); return 0; }\n",
+        "answer get 0 -\n" * 60,
+        7,
+    ),
+    (
+        "live",
+        "[cut(top)] int x(void);\nchar b[1048560];\nint main(void) { b[7] = 1; return 0; }\n",
+        "",
+        0,
+    ),
+    (
+        "budget",
+        "[cut(top)] int x(void);\nint main(void) { while (1) ; return 0; }\n",
+        "budget 100000000\n",
+        7,
+    ),
+]
+
+
+def plain(source):
+    """The source without its annotations."""
+    return PROTOTYPES + re.sub(r"(?m)^(\[[a-z_]+\(\w+\)\] )+", "", source)
+
+
+def best(words, printed):
+    """The shortest of a few runs: its time, and the greatest peak of memory."""
+    seconds, memory = float("inf"), 0
+    for _ in range(RUNS):
+        took, status, peak = timed(words, printed)
+        seconds, memory = min(seconds, took), max(memory, peak)
+    return seconds, status, memory
+
+
+def said(report):
+    """What the report says of steps above the cut, events, and the result of `main`."""
+    steps = events = 0
+    result = None
+    with open(report) as lines:
+        for line in lines:
+            if line == "memory\n":
+                break
+            words = line.split()
+            if words[0] == "thread":
+                continue
+            events += 1
+            steps += int(words[2])
+            if words[3:5] == ["upret", "main"]:
+                result = int(words[6])
+    return steps + events, events, result
+
+
+def measure(program, name, source, system, scratch):
+    """One line for a program and its system file."""
+    paths = [os.path.join(scratch, end) for end in ("a.c", "a.sys", "a.log", "a.rep")]
+    for path, text in zip(paths, (source, system)):
+        with open(path, "w") as file:
+            file.write(text)
+    printed = os.path.join(scratch, "printed")
+    words = [program, "record", paths[0], "top", *paths[1:]]
+    seconds, status, memory = best(words, printed)
+    if status != 0:
+        sys.exit(f"{name}: record ended with {status}")
+    marks, events, result = said(paths[3])
+    sizes = sum(os.path.getsize(path) for path in paths[2:])
+
+    bare = os.path.join(scratch, "plain.c")
+    with open(bare, "w") as file:
+        file.write(plain(source))
+    native = os.path.join(scratch, "native")
+    subprocess.run(
+        ["gcc", "-O0", "-g", "-w", "-pthread", "-o", native, bare, os.path.join(HERE, "native.c")], check=True
+    )
+    native_seconds, native_status, _ = best([native], printed)
+    if native_status != result:
+        sys.exit(f"{name}: main gives {result}, natively {native_status}")
+    races = ["valgrind", "--tool=helgrind", "-q", native]
+    helgrind_seconds, _, _ = best(races, printed)
+    print(
+        f"{name:8} {seconds:6.3f} s  {marks / seconds / 1e6:6.2f} M marks/s  {events / seconds / 1e6:5.2f} M events/s"
+        f"  native {native_seconds:6.3f} s, ratio {seconds / native_seconds:6.1f}"
+        f"  helgrind {helgrind_seconds:6.3f} s, ratio {seconds / helgrind_seconds:5.2f}"
+        f"  memory {(memory - sizes) / 2**20:6.1f} MiB beside {sizes / 2**20:5.1f} MiB of log and report",
+        flush=True,
+    )
+
+
+def measure_large(program, name, source, system, wanted, scratch):
+    """One line for a run at a limit, without a native program beside it."""
+    paths = [os.path.join(scratch, end) for end in ("a.c", "a.sys", "a.log", "a.rep")]
+    for path, text in zip(paths, (source, system)):
+        with open(path, "w") as file:
+            file.write(text)
+    words = [program, "record", paths[0], "top", *paths[1:]]
+    seconds, status, memory = timed(words, os.path.join(scratch, "printed"))
+    if status != wanted:
+        sys.exit(f"{name}: record ended with {status}")
+    sizes = sum(os.path.getsize(path) for path in paths[2:])
+    print(
+        f"{name:8} {seconds:6.3f} s  memory {memory / 2**20:6.1f} MiB"
+        f"  {sizes / 2**20:6.1f} MiB of log and report",
+        flush=True,
+    )
+
+
+def main():
+    program, scratch = sys.argv[1:]
+    measure(program, "empty", EMPTY, "", scratch)
+    for name in ("memory", "calls", "blocks"):
+        with open(os.path.join(HERE, f"record_{name}.c")) as file:
+            measure(program, name, file.read(), "budget 100000000\n", scratch)
+    paths = [os.path.join(scratch, end) for end in ("gen.c", "gen.sys")]
+    subprocess.run([program, "gen", "5000", *paths], check=True)
+    with open(paths[0]) as source, open(paths[1]) as system:
+        measure(program, "threads", source.read(), system.read(), scratch)
+    for name, source, system, status in LARGE:
+        measure_large(program, name, source, system, status, scratch)
+
+
+main()
