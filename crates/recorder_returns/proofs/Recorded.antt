@@ -1,5 +1,5 @@
 -- A Ret whose bytes are copied, and which is recorded.
-use Rattle.std.proofs.Common.{◌≡◌, ℕ, suc, ◌+◌, ◌^◌, ◌<◌, ◌≤◌, Bool, true, false, cond, ◌&&◌, List, [], ◌∷◌, ◌++◌, length, sym, ap, ◌∙◌, subst, arith}
+use Rattle.std.proofs.Common.{◌≡◌, ℕ, suc, ◌+◌, ◌^◌, ◌<◌, ◌≤◌, Bool, true, false, cond, ◌&&◌, List, [], ◌∷◌, ◌++◌, length, refl, sym, ap, ◌∙◌, subst, arith}
 use Rattle.std.proofs.lemmas.List.{length-map, length-reverse}
 use Rattle.std.specs.Prelude.{reverse, slice_index}
 use Rattle.std.specs.List.{AllByRecursion}
@@ -19,7 +19,16 @@ use Rattle.space_memory_laws.specs.Returns.{ShowUsed}
 use Rattle.whole_runs.specs.World.{World, begin, interface}
 use Rattle.whole_runs.specs.Sides.{events_by}
 use Rattle.whole_runs.specs.Records.{full_record}
+use Rattle.replay_runs.specs.Checks.{FaultFound, BreachFound}
+use Rattle.replay_runs.proofs.Checked.{not_both}
+use Rattle.stub_meaning.specs.Meaning.{first_of}
+use Rattle.steps_above_memory.specs.declared.refusal.StepRefusal.{StepRefusal}
+use Rattle.steps_above_memory.specs.declared.refusal.StepRefusal.TheVariants.{Fault, Breach, Memory}
+use Rattle.steps_above_memory.specs.Refusals.{IsFound}
+use Rattle.whole_runs.specs.Tests.{ret_checks}
+use Rattle.whole_runs_memory.specs.Rets.{IsEnding}
 use Rattle.recorder_memory.specs.Laws.{HoldsCall}
+use Rattle.recorder_memory.specs.Returns.{RefusesReturn}
 use Rattle.recorder_events.specs.Making.{own_above}
 use Rattle.recorder_threads.specs.Threads.{args_at}
 use Rattle.recorder_state.specs.declared.state.RunState.{RunState}
@@ -79,6 +88,21 @@ module _ (w : World) (s : RunState) (t f v : ℕ) (x : Answer) (r : IsReturning 
 
   pub used_sizes : (used : List ℕ) → used ≡ said.done.used → length used ≡ length (outs_of (innermost s.memory.above.spaces.held t) s.memory.above.spaces.held.regions)
   used_sizes used is = ap length (is ∙ h.used) ∙ (sizes_count ((interface w).outs f args) ((interface w).used f args v) ((interface w).used f args v) r.ending.sizes ∙ (ap length (sym held_so.regions) ∙ length-map (outs_of (innermost s.memory.above.spaces.held t) s.memory.above.spaces.held.regions) (λ (g : Region). g.range)))
+
+  -- what refuses it is want of memory, since its tests have passed
+  pub lack : (used : List ℕ) → used ≡ said.done.used → (refusal : StepRefusal) → RefusesReturn s.memory t used (committing_of (first_of said.done.commits)) refusal → refusal ≡ Memory
+  lack used is refusal refuses =
+      let u : used ≡ (interface w).used f args v = is ∙ h.used in
+      let found : IsFound (ret_checks w r.past f args v r.answer) refusal =
+      subst (λ us. RefusesReturn s.memory t us (committing_of ((interface w).commits f args v)) refusal) u
+      (subst (λ o. RefusesReturn s.memory t used (committing_of o) refusal) h.commit refuses) w r.past f args v r.answer r.answered
+      (subst (λ k. IsEnding w r.past k f args v ((interface w).used f args v) (committing_of ((interface w).commits f args v))) r.thread r.ending) in
+      by refusal found
+    where
+      by : (q : StepRefusal) → IsFound (ret_checks w r.past f args v r.answer) q → q ≡ Memory
+      by (Fault kind) found = absurd (not_both (ret_checks w r.past f args v r.answer) (FaultFound kind) found r.passes)
+      by (Breach kind addr other) found = absurd (not_both (ret_checks w r.past f args v r.answer) (BreachFound kind addr other) found r.passes)
+      by Memory found = refl
 
   pub keys_few : length said.keys.items ≤ 16
   keys_few = subst (λ ks. length ks ≤ 16) (h.keys r.step.thread r.past false [] NoRegion) r.of_interface.keys

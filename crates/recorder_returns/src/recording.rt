@@ -3,6 +3,7 @@
 ghost use Rattle.std.specs.Prelude.{◌≡◌, ◌<◌, ℕ, length, IfErr, None, OnOk};
 ghost use Rattle.marks.specs.Places.{thread_count};
 ghost use Rattle.marks.specs.Wants.{Answer};
+ghost use Rattle.steps_above_memory.specs.declared.refusal.StepRefusal.TheVariants.{Memory};
 ghost use Rattle.recorder_threads.specs.Threads.{args_at};
 ghost use Rattle.recorder_state.specs.Inputs.{world_of};
 ghost use Rattle.recorder_state.specs.Ends.{IsStopped};
@@ -21,6 +22,7 @@ use recorder_state::{Inputs, RunState, Stop};
 use run_events::{Event, Pieces};
 use std::alloc::{AllocError, Global};
 use steps_above_interface::InterfaceState;
+use steps_above_memory::StepRefusal;
 
 /// Records the Ret of the thread's call of the function, which comes to this value: the tests of the Ret passed, and memory has the
 /// pieces of its answer. Threads and the system aren't told of it.
@@ -106,12 +108,11 @@ fn put(
 {
     let keys = returning.keys.as_slice();
     let used = returning.done.used();
-    // Its tests passed.
-    if let Err(_) = state
+    if let Err(refusal) = state
         .memory
         .return_above(thread, used, returning.commit(), ranges, keys)
     {
-        return Err(AllocError);
+        return Err(lack_of_memory(refusal));
     }
     let index = next_index(&state.book, thread);
     if let Err(_) = make_event(state, inputs, alloc, thread, keys, event) {
@@ -120,6 +121,16 @@ fn put(
     let cached = returning.done.is_cached();
     note(&mut state.interface, cached, thread, func, index);
     Ok(())
+}
+
+// Why memory doesn't take a step whose tests passed.
+fn lack_of_memory(refusal: StepRefusal) -> AllocError
+    requires { refusal ≡ Memory }
+{
+    match refusal {
+        StepRefusal::Memory => AllocError,
+        StepRefusal::Fault(_) | StepRefusal::Breach { .. } => unreachable!("its tests passed"),
+    }
 }
 
 // The index of the thread's next event.
