@@ -1,6 +1,7 @@
 //! The step that comes next, by what the code of its thread wants.
 
 ghost use Rattle.std.specs.Prelude.{◌≡◌, ◌+◌, IfErr, OnOk};
+ghost use Rattle.marks.specs.declared.side.Side.TheVariants.{System};
 ghost use Rattle.whole_runs.specs.World.{main_of};
 ghost use Rattle.recorder_threads.specs.declared.wants.Want.TheVariants as wants;
 ghost use Rattle.recorder_state.specs.Inputs.{world_of};
@@ -78,9 +79,7 @@ pub fn step(
         Want::UpReturn { result } => recorder_events::up_return(
             state, inputs, alloc, thread, result,
         ),
-        Want::CallBack { func, size } => missing::call_back(
-            state, inputs, alloc, main, thread, func, size,
-        ),
+        Want::CallBack { func, size } => call_back(state, inputs, alloc, main, thread, func, size),
         Want::Step { indirect, func } => plain_call(
             state,
             alloc,
@@ -180,6 +179,28 @@ fn leave(state: &mut RunState, inputs: Inputs<'_>, thread: u8, side: Side) -> Re
             Ok(())
         }
     }
+}
+
+// A function that code below the cut calls through a pointer: an Up where it may be called back, else its frame.
+fn call_back(
+    state: &mut RunState,
+    inputs: Inputs<'_>,
+    alloc: Global,
+    main: u16,
+    thread: u8,
+    func: u16,
+    size: u64,
+) -> Result<(), Stop>
+    requires at { IsAtStep (world_of inputs) state.old thread System (wants.CallBack func size) }
+    requires main { main ≡ main_of inputs.code.now }
+    ensures made { OnOk result (IsReached (world_of inputs.entry) state.new) }
+    ensures steps { OnOk result (state.new.steps ≡ state.old.steps + 1) }
+    ensures stopped { IfErr result (IsStopped (world_of inputs.entry) state.new) }
+{
+    if missing::is_called_back(&state.interface, main, func) {
+        return missing::up(state, inputs, alloc, thread, func);
+    }
+    recorder_below::call_back(state, inputs, thread, func, size)
 }
 
 // A builtin or external whose call is no event.
