@@ -1,5 +1,5 @@
 -- Functions that are known by number.
-use Rattle.std.proofs.Common.{◌≡◌, ℕ, ◌+◌, ◌-◌, ◌<◌, Bool, true, false, cond, ltb, List, length, Option, Some, None, refl, arith}
+use Rattle.std.proofs.Common.{◌≡◌, ℕ, zero, suc, ◌+◌, ◌-◌, ◌<◌, Bool, true, false, cond, ltb, length, Option, Some, None, refl, arith}
 use Rattle.std.specs.Prelude.{slice_get}
 use Rattle.std.proofs.lemmas.Bool.{ltb-true}
 use Rattle.std.proofs.lemmas.Option.{slice_get_within}
@@ -21,6 +21,17 @@ numbered Join = refl
 numbered Lock = refl
 numbered Unlock = refl
 numbered Print = refl
+
+-- what no builtin has as its number is none
+pub unnumbered : (f : ℕ) → ((b : Builtin) → number_of b ≡ f → ⊥) → builtin_of f ≡ None
+unnumbered zero h = absurd (h Malloc refl)
+unnumbered (suc zero) h = absurd (h Free refl)
+unnumbered (suc (suc zero)) h = absurd (h Spawn refl)
+unnumbered (suc (suc (suc zero))) h = absurd (h Join refl)
+unnumbered (suc (suc (suc (suc zero)))) h = absurd (h Lock refl)
+unnumbered (suc (suc (suc (suc (suc zero))))) h = absurd (h Unlock refl)
+unnumbered (suc (suc (suc (suc (suc (suc zero)))))) h = absurd (h Print refl)
+unnumbered (suc (suc (suc (suc (suc (suc (suc f))))))) h = refl
 
 -- a function with a body is a builtin or one of the source
 pub known : (code : Flat) (f : ℕ) → has_entry (entry_of (func_of code f)) ≡ true → f < builtin_count + length code.sources

@@ -1,4 +1,4 @@
-use Rattle.std.proofs.Common.{◌<◌, refl, sym, ◌∙◌, arith}
+use Rattle.std.proofs.Common.{sym, ◌∙◌, arith}
 use Rattle.recorder_state.specs.Inputs.{world_of}
 use Rattle.recorder.proofs.Known.{known}
 use Rattle.recorder.proofs.steps.call_back.Goals as goal

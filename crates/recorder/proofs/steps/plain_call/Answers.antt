@@ -1,9 +1,9 @@
-use Rattle.std.proofs.Common.{◌≡◌, Some, sym, ap, ◌∙◌, subst}
+use Rattle.std.proofs.Common.{◌≡◌, Some, None, sym, ◌∙◌, subst}
 use Rattle.whole_runs.specs.Outcomes.{builtin_of}
 use Rattle.recorder_threads.specs.declared.wants.Want.TheVariants as wants
 use Rattle.recorder_state.specs.Inputs.{world_of}
 use Rattle.recorder_state.specs.Turns.{IsAtStep}
-use Rattle.recorder.proofs.Known.{numbered}
+use Rattle.recorder.proofs.Known.{numbered, unnumbered}
 use Rattle.recorder.proofs.steps.plain_call.Goals as goal
 
 pub returns-in-Replay-clause-stopped : goal.returns-in-Replay-clause-stopped
@@ -14,3 +14,6 @@ returns-in-Replay-clause-stopped c =
 
 pub builtin-requires-clause-builtin : goal.builtin-requires-clause-builtin
 builtin-requires-clause-builtin c = subst (λ f. builtin_of f ≡ Some c.in-Some.builtin) ((c.of_number.ensures c.in-Some.builtin).0 c.in-Some.is) (numbered c.in-Some.builtin)
+
+pub external-requires-clause-none : goal.external-requires-clause-none
+external-requires-clause-none c = unnumbered c.args.func (λ b same. absurd (let no : None ≡ Some b = sym c.in-None.is ∙ (c.of_number.ensures b).1 same in cc))
