@@ -1,5 +1,5 @@
 -- A Call that memory made is one that can be.
-use Rattle.std.proofs.Common.{◌≡◌, ⊎_elim, inl, inr, ℕ, ◌+◌, ◌<◌, ◌≤◌, Bool, true, false, cond, ◌||◌, ◌&&◌, eqb, List, [], ◌∷◌, ◌++◌, length, map, Option, Some, None, refl, sym, ap, ◌∙◌, subst, arith, eqb-true, eq-eqb, All}
+use Rattle.std.proofs.Common.{◌≡◌, ⊎_elim, ℕ, Bool, true, false, cond, ◌||◌, eqb, List, [], ◌∷◌, ◌++◌, length, map, Some, None, refl, sym, ap, ◌∙◌, subst, eqb-true, eq-eqb, All}
 use Rattle.std.specs.Prelude.{is_some}
 use Rattle.std.proofs.lemmas.Bool.{and_from, or_cases, true≢false}
 use Rattle.std.proofs.lemmas.List.{append-nil, length-map}
@@ -10,7 +10,7 @@ use Rattle.run_events.specs.declared.key.Key.{Key}
 use Rattle.run_events.specs.declared.key.KeyMark.{KeyMark}
 use Rattle.marks.specs.declared.side.Side.TheVariants.{Replay}
 use Rattle.marks.specs.Ranges.{Piece, Prepared, piece_ranges}
-use Rattle.marks.specs.Marks.{EventKind, Call, Event, Made, Mark}
+use Rattle.marks.specs.Marks.{EventKind, Call, Made, Mark}
 use Rattle.marks.specs.Wants.{Calls, Answer, Go, answer_if, answer_to, event_answer, same_numbers}
 use Rattle.logical_clock.specs.Events.{is_among}
 use Rattle.replay_runs.specs.Runs.{Start, OfKey, has as has_link, is_listed, new_events, same_key}
@@ -39,14 +39,13 @@ use Rattle.whole_runs.specs.Log.{replay_output}
 use Rattle.whole_runs.specs.Tests.{tests}
 use Rattle.whole_runs.specs.Steps.{Picked}
 use Rattle.recorder_memory.specs.declared.memory.Memory.{Memory}
-use Rattle.recorder_memory.specs.Stands.{StandsForRun, placed}
-use Rattle.recorder_memory.specs.Calls.{MakesCall}
+use Rattle.recorder_memory.specs.Stands.{placed}
 use Rattle.recorder_memory.proofs.Calling.{call_made}
 use Rattle.steps_above_memory.proofs.Accesses.{same_numbers_self}
 use Rattle.recorder_threads.specs.Threads.{args_at}
 use Rattle.recorder_state.specs.declared.state.RunState.{RunState}
 use Rattle.recorder_state.specs.Ends.{IsEnded}
-use Rattle.recorder_events.specs.Room.{HasSizeOf, IsRoomOrEnd}
+use Rattle.recorder_events.specs.Room.{IsRoomOrEnd}
 use Rattle.recorder_events.specs.Making.{CanBe, IsComing, IsEventStep, IsRecorded, event_mark}
 use Rattle.recorder_events.proofs.Ending.{IsSized, ends_full}
 use Rattle.recorder_events.proofs.Sized.{event_sized}

@@ -1,5 +1,5 @@
 -- How a run ends at a Call that isn't made.
-use Rattle.std.proofs.Common.{◌≡◌, ℕ, List, Some, refl, sym, ap, ◌∙◌, subst}
+use Rattle.std.proofs.Common.{◌≡◌, ℕ, List, sym, subst}
 use Rattle.run_events.specs.declared.event.Event.{Event as Logged}
 use Rattle.run_events.specs.declared.key.Key.{Key}
 use Rattle.marks.specs.declared.side.Side.TheVariants.{Replay}
@@ -7,15 +7,12 @@ use Rattle.marks.specs.Wants.{Calls}
 use Rattle.race_watch.specs.Stands.{Stands}
 use Rattle.race_watch_laws.specs.Told.{told}
 use Rattle.space_memory_laws.specs.StandsFor.{StandsFor}
-use Rattle.steps_above_memory.specs.declared.above.MemoryAbove.{MemoryAbove}
 use Rattle.steps_above_memory.specs.declared.parts.CallRegions.{CallRegions}
 use Rattle.steps_above_memory.specs.declared.refusal.StepRefusal.{StepRefusal}
-use Rattle.steps_above_memory.specs.Above.{StandsForAbove}
 use Rattle.steps_above_memory.specs.Calls.{RefusesCall}
 use Rattle.whole_runs.specs.declared.ending.Ending.{Ending}
 use Rattle.whole_runs.specs.World.{World, begin, program_of}
 use Rattle.whole_runs.specs.Sides.{seen}
-use Rattle.whole_runs.specs.Ends.{IsLast}
 use Rattle.recorder_memory.specs.declared.memory.Memory.{Memory}
 use Rattle.recorder_memory.specs.Stands.{placed}
 use Rattle.recorder_threads.specs.declared.wants.Want.TheVariants as wants

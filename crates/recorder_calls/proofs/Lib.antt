@@ -5,3 +5,10 @@ pub mod Registered
 pub mod Called
 pub mod Undone
 pub mod Ends
+mod Bounded
+mod Handed
+mod SaidKeys
+mod FewKeys
+mod Words
+mod Next
+mod CallModes

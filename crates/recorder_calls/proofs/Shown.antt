@@ -1,15 +1,15 @@
 -- Pieces that have what memory has in their ranges.
-use Rattle.std.proofs.Common.{◌≡◌, false, ℕ, zero, suc, ◌+◌, ◌<◌, List, [], ◌∷◌, ◌++◌, length, Option, Some, None, refl, sym, ap, ◌∙◌, subst, arith, All}
-use Rattle.std.specs.Prelude.{unwrap_or, slice_index}
+use Rattle.std.proofs.Common.{◌≡◌, false, ℕ, zero, suc, ◌+◌, ◌<◌, List, [], ◌∷◌, ◌++◌, length, Option, Some, None, refl, sym, ap, ◌∙◌, arith, All}
+use Rattle.std.specs.Prelude.{unwrap_or}
 use Rattle.std.proofs.lemmas.List.Elements.{All-nil, All-cons}
 use Rattle.marks.specs.declared.range.Range.{Range}
-use Rattle.marks.specs.Ranges.{Piece, covers, piece_ranges}
+use Rattle.marks.specs.Ranges.{Piece, piece_ranges}
 use Rattle.replay_runs.specs.Records.{pieces_in_a_row}
 use Rattle.replay_runs.specs.Rules.{AreWhole}
 use Rattle.space_memory_bytes.specs.Areas.{AreaState, IsDead, byte_at}
 use Rattle.space_memory_bytes.specs.Numbers.{HasBytes}
 use Rattle.space_memory.specs.Spaces.{SpaceState}
-use Rattle.space_memory_laws.specs.Calls.{IsFree, IsShown, held_part}
+use Rattle.space_memory_laws.specs.Calls.{IsShown}
 use Rattle.space_memory_laws.proofs.Cells.{covered}
 use Rattle.space_memory_laws.proofs.Passing.{AllFree}
 use Rattle.recorder_calls.specs.Reading.{read_in, shown_from, shown_in}

@@ -1,5 +1,5 @@
 -- A Call that is tested and undone.
-use Rattle.std.proofs.Common.{◌≡◌, ℕ, ◌+◌, ◌-◌, ◌≤◌, List, length, ap, ◌∙◌, arith, get_or-set_same}
+use Rattle.std.proofs.Common.{◌≡◌, ℕ, ◌+◌, ◌-◌, ◌≤◌, List, ap, ◌∙◌, arith, get_or-set_same}
 use Rattle.std.specs.Prelude.{slice_index, slice_set}
 use Rattle.space_memory_access.specs.Held.{innermost, without_call}
 use Rattle.space_memory.specs.Spaces.{SpaceState}

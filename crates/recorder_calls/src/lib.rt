@@ -9,5 +9,5 @@ mod printing;
 mod testing;
 
 pub use calling::Calling;
-pub use calls::call_said;
+pub use calls::{call, call_said};
 pub use modes::first_forbidden;

@@ -14,3 +14,7 @@ pub mod UpReturns
 pub mod Quiet
 pub mod Frees
 pub mod FreeTests
+pub mod CallKeys
+pub mod Registered
+pub mod Arguments
+pub mod Ups

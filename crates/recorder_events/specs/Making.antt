@@ -3,7 +3,7 @@ use Rattle.std.specs.Prelude.{◌≡◌, ℕ, true, List, ◌∷◌, map, Some, 
 use Rattle.run_events.specs.declared.event.Event.{Event as Recorded}
 use Rattle.run_events.specs.declared.key.Key.{Key}
 use Rattle.run_events.specs.declared.key.KeyMark.{KeyMark}
-use Rattle.marks.specs.declared.side.Side.TheVariants.{Replay}
+use Rattle.marks.specs.declared.side.Side.TheVariants.{Replay, System}
 use Rattle.marks.specs.Marks.{EventKind, Call, Ret, Up, UpRet, Alloc, Free, Stop, Mark}
 use Rattle.marks.specs.Bytes.{EventAsks}
 use Rattle.marks.specs.Wants.{Want, Answer, event_answer}
@@ -19,17 +19,19 @@ use Rattle.steps_above_stamps.specs.declared.stamps.EventStamp.{EventStamp}
 use Rattle.whole_runs.specs.World.{World, begin, interface}
 use Rattle.whole_runs.specs.Sides.{seen, events_by}
 use Rattle.whole_runs.specs.Outcomes.{act_outcome}
-use Rattle.whole_runs.specs.Tests.{tests}
+use Rattle.whole_runs.specs.Tests.{is_back, tests}
 use Rattle.whole_runs.specs.Steps.{Picked, EventAgrees, IsMade}
 use Rattle.whole_runs.specs.Records.{full_event}
 use Rattle.whole_runs.specs.Ends.{Follows}
 use Rattle.whole_runs.specs.Fits.{IsFit}
 use Rattle.recorder_memory.specs.Stands.{placed}
+use Rattle.recorder_threads.specs.declared.wants.Want.TheVariants as told
 use Rattle.recorder_threads.specs.Threads.{AreThreadsOf}
 use Rattle.recorder_system.specs.Stands.{IsSystemOf}
 use Rattle.recorder_book.specs.Book.{IsBookOf}
 use Rattle.recorder_state.specs.declared.state.RunState.{RunState}
 use Rattle.recorder_state.specs.Stands.{IsAroundAfter, IsReached}
+use Rattle.recorder_state.specs.Turns.{IsAtStep}
 use Rattle.recorder_state.specs.Plain.{IsMarkedStep}
 
 -- a thread's own marks above the cut
@@ -118,3 +120,10 @@ pub record IsCallBackNext (w : World) (s : RunState) (t : ℕ) (keys : List Key)
   pub event_is : full_event kind ≡ event
   pub answer : Answer
   pub answers : event_answer step.want kind ≡ Some answer
+
+-- a run comes to a step in which code below the cut calls this function through its address, and it is `main`
+-- or one that a Call registered
+pub record IsAtUp (w : World) (s : RunState) (t func : ℕ) : Type 0 where
+  pub size : ℕ
+  pub at : IsAtStep w s t System (told.CallBack func size)
+  pub back : is_back w at.reached.past func ≡ true

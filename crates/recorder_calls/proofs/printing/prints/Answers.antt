@@ -1,4 +1,4 @@
-use Rattle.std.proofs.Common.{length, drop, sym, ap, ◌∙◌}
+use Rattle.std.proofs.Common.{sym, ap, ◌∙◌}
 use Rattle.std.proofs.lemmas.List.{drop_all}
 use Rattle.run_events.specs.declared.key.Class.TheVariants.{Out}
 use Rattle.logical_clock.specs.Events.{is_among}

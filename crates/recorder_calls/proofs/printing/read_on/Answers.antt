@@ -1,5 +1,5 @@
-use Rattle.std.proofs.Common.{◌≡◌, ◌++◌, ◌<◌, ◌^◌, Err, refl, sym, ap, ◌∙◌, rules}
-use Rattle.recorder_calls.specs.Reading.{shown_from, shown_in}
+use Rattle.std.proofs.Common.{◌++◌, ◌<◌, ◌^◌, Err, ap, ◌∙◌, rules}
+use Rattle.recorder_calls.specs.Reading.{shown_from}
 use Rattle.recorder_calls.proofs.Shown.{read_is}
 use Rattle.recorder_calls.proofs.Read.{unread}
 use Rattle.recorder_calls.proofs.printing.read_on.Goals as goal

@@ -2,7 +2,7 @@ use Rattle.marks.specs.declared.side.Side.TheVariants.{Replay}
 use Rattle.recorder_threads.specs.declared.wants.Want.TheVariants as wants
 use Rattle.recorder_plain.proofs.Steps.{few}
 use Rattle.recorder_events.proofs.Steps.{watch_few}
-use Rattle.recorder_calls.proofs.Called.{ends, stands}
+use Rattle.recorder_calls.proofs.Called.{ends}
 use Rattle.recorder_calls.proofs.Ends.{call_refused, ended_with}
 use Rattle.recorder_calls.proofs.testing.stop_full.Goals as goal
 
