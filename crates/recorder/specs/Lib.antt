@@ -1,2 +1,1 @@
 pub mod Recordings
-pub mod Missing

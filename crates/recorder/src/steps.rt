@@ -50,7 +50,7 @@ pub fn step(
         Want::Leave => leave(state, inputs, thread, side),
         Want::Alloc { size } => recorder_events::alloc(state, inputs, alloc, thread, size),
         Want::Free { addr } => recorder_events::free(state, inputs, alloc, thread, addr),
-        Want::Call { indirect, func } => missing::call(
+        Want::Call { indirect, func } => recorder_calls::call(
             state,
             alloc,
             inputs,
@@ -197,8 +197,8 @@ fn call_back(
     ensures steps { OnOk result (state.new.steps ≡ state.old.steps + 1) }
     ensures stopped { IfErr result (IsStopped (world_of inputs.entry) state.new) }
 {
-    if missing::is_called_back(&state.interface, main, func) {
-        return missing::up(state, inputs, alloc, thread, func);
+    if recorder_events::is_called_back(&state.interface, main, func) {
+        return recorder_events::up(state, inputs, alloc, thread, func);
     }
     recorder_below::call_back(state, inputs, thread, func, size)
 }
