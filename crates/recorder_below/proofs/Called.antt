@@ -1,11 +1,10 @@
 -- A step of a builtin or external that memory made: the rest of the state is told of its result.
-use Rattle.std.proofs.Common.{◌≡◌, ℕ, Bool, true, false, cond, eqb, List, [], ◌∷◌, ◌++◌, Some, None, refl, sym, ap, ◌∙◌, subst}
-use Rattle.marks.specs.declared.side.Side.{Side}
+use Rattle.std.proofs.Common.{◌≡◌, ℕ, Bool, true, false, cond, eqb, List, [], ◌∷◌, ◌++◌, refl, sym, ap, ◌∙◌, subst}
 use Rattle.marks.specs.declared.side.Side.TheVariants.{System}
 use Rattle.marks.specs.declared.range.Range.{Range}
 use Rattle.marks.specs.Ranges.{Piece}
 use Rattle.marks.specs.Marks.{Act, Mark, Step}
-use Rattle.marks.specs.Wants.{Steps, Value, answer_to}
+use Rattle.marks.specs.Wants.{Value, answer_to}
 use Rattle.c_builtins.specs.declared.builtin.Builtin.TheVariants.{Print}
 use Rattle.c_builtins.specs.Table.{number_of}
 use Rattle.replay_runs.specs.Records.{pieces_in_a_row}
@@ -20,6 +19,8 @@ use Rattle.recorder_memory.specs.Steps.{IsMarked, next_mark}
 use Rattle.recorder_threads.specs.declared.wants.Want.TheVariants as told
 use Rattle.recorder_threads.specs.Threads.{args_at}
 use Rattle.recorder_state.specs.declared.state.RunState.{RunState}
+use Rattle.recorder_state.specs.declared.prepared.PreparedBelow.{PreparedBelow}
+use Rattle.recorder_state.specs.Prepared.{ArePreparedBelow}
 use Rattle.recorder_state.specs.Stands.{IsAroundAfter}
 use Rattle.recorder_state.specs.Turns.{IsAtStep}
 use Rattle.recorder_state.specs.Plain.{IsResultStep}
@@ -50,12 +51,12 @@ module _ (w : World) (s : RunState) (t : ℕ) (i : Bool) (f : ℕ) (at : IsAtSte
     abbrev pub act : Act
     act = Step f args v ins pieces freed
 
-    abbrev m : Mark
+    abbrev pub m : Mark
     m = next_mark w at.reached.past at.step.thread at.step.side act
 
-    -- of the state it changes memory, and what was printed below the cut
-    pub gives : (s' : RunState) → s' ≡ record s { memory = new; system_output = s'.system_output } → s'.system_output.items ≡ s.system_output.items ++ printed_below f ins → IsMarked w at.reached.past at.step act new → IsResultStep w s' t f v (Value v)
-    gives s' is printed marked = subst (λ z. IsResultStep w z t f v (Value v)) (sym is) (record {
+    -- of the state it changes memory, and what was prepared and printed below the cut
+    pub gives : (regions : PreparedBelow) (s' : RunState) → s' ≡ record s { memory = new; prepared = regions; system_output = s'.system_output } → ArePreparedBelow w (m ∷ at.reached.past) regions → s'.system_output.items ≡ s.system_output.items ++ printed_below f ins → IsMarked w at.reached.past at.step act new → IsResultStep w s' t f v (Value v)
+    gives regions s' is kept printed marked = subst (λ z. IsResultStep w z t f v (Value v)) (sym is) (record {
       marked = record {
         fit = at.reached.fit;
         past = at.reached.past;
@@ -74,6 +75,7 @@ module _ (w : World) (s : RunState) (t : ℕ) (i : Bool) (f : ℕ) (at : IsAtSte
           system_output = printed ∙ ap (λ xs. xs ++ printed_below f ins) around.shown.system_output;
           interface = along (λ ms. functions.IsStateOf (interface w) (placed w) ms s.interface) around.interface;
           functions = around.functions;
+          prepared = kept;
         };
       };
       threads = around.shown.threads;

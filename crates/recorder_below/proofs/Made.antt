@@ -1,9 +1,8 @@
 -- What memory made of steps below the cut, and what it refused.
-use Rattle.std.proofs.Common.{◌≡◌, ℕ, ◌^◌, ◌<◌, ◌≤◌, Bool, true, false, List, length, Option, Some, None, refl, sym, ap, ◌∙◌, subst, arith}
-use Rattle.marks.specs.declared.side.Side.{Side}
+use Rattle.std.proofs.Common.{◌≡◌, ℕ, ◌^◌, ◌<◌, Bool, true, false, List, length, Option, Some, None, refl, sym, ap, ◌∙◌, subst}
 use Rattle.marks.specs.declared.side.Side.TheVariants.{System}
 use Rattle.marks.specs.declared.breach.BreachKind.TheVariants.{Mode}
-use Rattle.marks.specs.Places.{function_address, thread_count}
+use Rattle.marks.specs.Places.{function_address}
 use Rattle.marks.specs.declared.range.Range.{Range}
 use Rattle.marks.specs.Ranges.{bytes_of_number, range}
 use Rattle.marks.specs.Marks.{Turn, Load, Store, Enter, Leave}
@@ -16,8 +15,6 @@ use Rattle.space_memory.specs.Spaces.{side_of}
 use Rattle.space_memory_laws.specs.FrameMarks.{bytes_with_args}
 use Rattle.steps_above_memory.specs.declared.refusal.StepRefusal.{StepRefusal}
 use Rattle.steps_above_memory.specs.declared.refusal.StepRefusal.TheVariants as refusal
-use Rattle.steps_above_memory.specs.Steps.{HasCause}
-use Rattle.steps_above_memory.specs.Refusals.{IsFound}
 use Rattle.whole_runs.specs.World.{World, interface, may_run}
 use Rattle.whole_runs.specs.Tests.{back_checks, full_check, is_back, tests}
 use Rattle.recorder_memory.specs.declared.memory.Memory.{Memory}
@@ -37,7 +34,7 @@ use Rattle.recorder_plain.proofs.Frames.{IsFilled}
 use Rattle.recorder_below.specs.Frames.{IsEntering, is_named, told_of}
 use Rattle.recorder_plain.proofs.Breaches.{indirect_found, mode_found}
 use Rattle.recorder_plain.proofs.Replies.{frame_gives, leave_gives, load_gives, store_gives, turn_gives}
-use Rattle.recorder_plain.proofs.Steps.{before, carries, comes, few, goes_on, stops_before}
+use Rattle.recorder_plain.proofs.Steps.{carries, comes, goes_on, stops_before}
 
 -- a refusal ends a run so
 abbrev pub EndsBy : (t : ℕ) → StepRefusal → Stop → Type 0

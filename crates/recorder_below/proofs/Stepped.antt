@@ -1,34 +1,32 @@
 -- Steps of builtins.
-use Rattle.std.proofs.Common.{◌≡◌, ℕ, ◌≤◌, Bool, true, false, cond, eqb, eq-eqb, List, [], ◌++◌, length, Option, Some, None, refl, sym, ap, ◌∙◌, subst, arith}
+use Rattle.std.proofs.Common.{◌≡◌, ℕ, ◌≤◌, Bool, true, false, cond, eq-eqb, List, [], ◌∷◌, ◌++◌, length, Some, None, refl, sym, ap, ◌∙◌, subst, arith}
+use Rattle.std.specs.Option.{option_or}
 use Rattle.marks.specs.declared.side.Side.TheVariants.{System}
 use Rattle.marks.specs.declared.breach.BreachKind.TheVariants.{Mode}
-use Rattle.marks.specs.Places.{function_address, thread_count}
+use Rattle.marks.specs.Places.{function_address}
 use Rattle.marks.specs.declared.range.Range.{Range}
 use Rattle.marks.specs.Ranges.{Piece}
 use Rattle.marks.specs.Bytes.{granted}
-use Rattle.marks.specs.Marks.{Mark, Step}
+use Rattle.marks.specs.Marks.{Mark}
 use Rattle.marks.specs.Wants.{Steps, Value}
 use Rattle.c_builtins.specs.declared.builtin.Builtin.{Builtin}
 use Rattle.c_builtins.specs.declared.builtin.Builtin.TheVariants as builtins
 use Rattle.c_builtins.specs.Table.{number_of}
 use Rattle.c_code.specs.Machine.{first}
 use Rattle.c_code.specs.Typed.{AreArguments, CarriesValues}
-use Rattle.replay_runs.specs.Checks.{Finds}
 use Rattle.replay_runs.specs.Records.{pieces_in_a_row}
 use Rattle.steps_above_memory.specs.declared.refusal.StepRefusal.{StepRefusal}
 use Rattle.steps_above_memory.specs.declared.refusal.StepRefusal.TheVariants as refusal
 use Rattle.whole_runs.specs.World.{World, interface, interface_on, may_run}
 use Rattle.whole_runs.specs.Log.{printed_below}
-use Rattle.whole_runs.specs.Outcomes.{builtin_of, started}
-use Rattle.whole_runs.specs.Below.{Says, block_at, given}
+use Rattle.whole_runs.specs.Outcomes.{builtin_of}
+use Rattle.whole_runs.specs.Below.{block_at, given, last_under, prepared_below}
 use Rattle.whole_runs.specs.Tests.{step_checks}
 use Rattle.whole_runs.specs.Steps.{zeros}
 use Rattle.whole_runs_seen.proofs.Threads.{threads_known}
 use Rattle.recorder_memory.specs.declared.memory.Memory.{Memory}
 use Rattle.recorder_memory.specs.Below.{ComesToBuiltin, FreesBlock, GivesBlock, IsForThreads, Prints, RefusesFree, RefusesPrint}
 use Rattle.recorder_memory.proofs.Quiet.{steps_of_threads}
-use Rattle.system_side.specs.System.{SystemState}
-use Rattle.recorder_system.specs.declared.given.Given.{Given}
 use Rattle.recorder_system.specs.declared.given.Given.TheVariants as shown
 use Rattle.recorder_system.specs.Calls.{IsGiven}
 use Rattle.recorder_system.specs.Shown.{given_in}
@@ -42,11 +40,13 @@ use Rattle.recorder_state.specs.declared.stop.Stop.{Stop}
 use Rattle.recorder_state.specs.Turns.{IsAtStep}
 use Rattle.recorder_state.specs.Ends.{IsStopped}
 use Rattle.recorder_state.specs.Plain.{IsResultStep}
+use Rattle.recorder_state.specs.Prepared.{ArePreparedBelow}
 use Rattle.recorder_plain.proofs.Breaches.{indirect_found}
 use Rattle.recorder_plain.proofs.Steps.{carries, comes, stops_before}
 use Rattle.recorder_below.specs.Builtins.{IsAtBuiltin}
-use Rattle.recorder_below.proofs.Called.{gives, prints_nothing}
+use Rattle.recorder_below.proofs.Called.{gives, m, prints_nothing}
 use Rattle.recorder_below.proofs.Made.{EndsBy}
+use Rattle.recorder_below.proofs.Prepares.{prepares_nothing}
 
 -- one that a pointer names may not run there
 pub step_breaks : (w : World) (s : RunState) (t : ℕ) (i : Bool) (f : ℕ) → IsAtStep w s t System (told.Step i f) → (end : Stop) → EndsBy t (refusal.Breach Mode (function_address f) None) end → i ≡ true → may_run w.laid.placed System f ≡ false → IsStopped w s end
@@ -64,19 +64,23 @@ module _ (w : World) (s : RunState) (t f : ℕ) (b : Builtin) (is : IsAtBuiltin 
   abbrev pub to : ComesToBuiltin w past s.memory t is.indirect f args b
   to = record { to = comes w s t System (told.Step is.indirect f) is.at (Steps is.indirect f args) is.at.told is.may; builtin = is.builtin }
 
+  -- nothing more is prepared
+  pub kept : (v : ℕ) (ins pieces : List Piece) (freed : List Range) (new : Memory) → ArePreparedBelow w (m w s t is.indirect f is.at v ins pieces freed new ∷ past) s.prepared
+  kept v ins pieces freed new = λ k. is.at.reached.around.prepared k ∙ sym (ap (λ ps. option_or (last_under k ps) (prepared_below w k past)) (prepares_nothing w is.at.reached.fit f b is.builtin args))
+
   pub fits : AreArguments w.laid f args
   fits = subst (CarriesValues w.laid) is.at.told (carries w s t System (told.Step is.indirect f) is.at)
 
 module _ (w : World) (s : RunState) (t f : ℕ) (is : IsAtBuiltin w s t f builtins.Malloc) where
   pub malloc_gives : (addr : ℕ) (new : Memory) → GivesBlock s.memory (first (args_at s.threads t)) addr new → IsResultStep w (record s { memory = new }) t f addr (Value addr)
   malloc_gives addr new made =
-      gives w s t is.indirect f is.at addr [] (zeros addr (granted addr (first (args_at s.threads t)))) [] new (record s { memory = new }) refl (prints_nothing s.system_output.items f)
+      gives w s t is.indirect f is.at addr [] (zeros addr (granted addr (first (args_at s.threads t)))) [] new s.prepared (record s { memory = new }) refl (kept w s t f builtins.Malloc is addr [] (zeros addr (granted addr (first (args_at s.threads t)))) [] new) (prints_nothing s.system_output.items f)
       (made w is.at.reached.past t is.indirect f (args_at s.threads t) (to w s t f builtins.Malloc is) refl)
 
 module _ (w : World) (s : RunState) (t f : ℕ) (is : IsAtBuiltin w s t f builtins.Free) where
   pub free_gives : (new : Memory) → FreesBlock s.memory (first (args_at s.threads t)) new → IsResultStep w (record s { memory = new }) t f 0 (Value 0)
   free_gives new made =
-      gives w s t is.indirect f is.at 0 [] [] (block_at (first (args_at s.threads t)) is.at.reached.past) new (record s { memory = new }) refl (prints_nothing s.system_output.items f)
+      gives w s t is.indirect f is.at 0 [] [] (block_at (first (args_at s.threads t)) is.at.reached.past) new s.prepared (record s { memory = new }) refl (kept w s t f builtins.Free is 0 [] [] (block_at (first (args_at s.threads t)) is.at.reached.past) new) (prints_nothing s.system_output.items f)
       (made w is.at.reached.past t is.indirect f (args_at s.threads t) (to w s t f builtins.Free is) refl)
 
   pub free_stops : (r : StepRefusal) (end : Stop) (new : Memory) → EndsBy t r end → RefusesFree s.memory (first (args_at s.threads t)) r → new ≡ s.memory → IsStopped w (record s { memory = new }) end
@@ -93,7 +97,7 @@ module _ (w : World) (s : RunState) (t f : ℕ) (b : Builtin) (is : IsAtBuiltin 
 
   pub threads_give : (v : ℕ) → given_in s.system t (first (args_at s.threads t)) b ≡ shown.Value v → IsResultStep w s t f v (Value v)
   threads_give v e =
-      gives w s t is.indirect f is.at v [] [] [] s.memory s refl (prints_nothing s.system_output.items f)
+      gives w s t is.indirect f is.at v [] [] [] s.memory s.prepared s refl (kept w s t f b is v [] [] [] s.memory) (prints_nothing s.system_output.items f)
       (steps_of_threads s.memory w is.at.reached.past t is.indirect f (args_at s.threads t) b v (to w s t f b is) threads (subst (IsGiven w (given w is.at.reached.past t f (args_at s.threads t))) e given_so))
 
 -- the builtin with this number is `r2_print`, so what it reads is printed
@@ -104,7 +108,7 @@ module _ (w : World) (s : RunState) (t f : ℕ) (is : IsAtBuiltin w s t f builti
   pub print_gives : (s' : RunState) (bytes : List ℕ) (ranges : List Range) → s' ≡ record s { system_output = s'.system_output } → s'.system_output.items ≡ s.system_output.items ++ bytes → ranges ≡ (interface_on w System f).ins f (args_at s.threads t) → Prints s.memory t ranges bytes → IsResultStep w s' t f 0 (Value 0)
   print_gives s' bytes ranges differs out are prints =
       let p = prints w is.at.reached.past is.indirect f (args_at s.threads t) (to w s t f builtins.Print is) (sym are) in
-      gives w s t is.indirect f is.at 0 p.ins [] [] s.memory s' differs (out ∙ ap (λ xs. s.system_output.items ++ xs) (sym p.bytes_are ∙ sym (printed f p.ins is.builtin))) p.marked
+      gives w s t is.indirect f is.at 0 p.ins [] [] s.memory s.prepared s' differs (kept w s t f builtins.Print is 0 p.ins [] [] s.memory) (out ∙ ap (λ xs. s.system_output.items ++ xs) (sym p.bytes_are ∙ sym (printed f p.ins is.builtin))) p.marked
 
   pub print_stops : (r : StepRefusal) (end : Stop) (ranges : List Range) → EndsBy t r end → ranges ≡ (interface_on w System f).ins f (args_at s.threads t) → RefusesPrint s.memory t ranges r → IsStopped w s end
   print_stops r end ranges ends are refuses =

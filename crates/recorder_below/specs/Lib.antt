@@ -1,2 +1,3 @@
 pub mod Builtins
 pub mod Frames
+pub mod Externals

@@ -153,8 +153,8 @@ fn print(
     }
 }
 
-// What is done at calls of the function below the cut. One that isn't of the interface has operations of its own there.
-fn ops_below(stubs: &StubSet, func: u16) -> &[StubOp]
+/// What is done at calls of the function below the cut. One that isn't of the interface has operations of its own there.
+pub fn ops_below(stubs: &StubSet, func: u16) -> &[StubOp]
     ensures { result.now ≡ or_none (added_at (stubs_below stubs.now func) func) }
 {
     if stubs.is_added(func) {

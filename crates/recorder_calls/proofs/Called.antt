@@ -220,6 +220,7 @@ module _ (w : World) (s : RunState) (t : ℕ) (regions : CallRegions) (keys : Li
                   system_output = sym (append-nil s.system_output.items) ∙ ap (λ os. os ++ []) h.at.reached.around.shown.system_output;
                   interface = counts (interface w) (placed w) (seen past) m (record { event = record { kind = kind; steps = r.stamp.steps; keys = r.stamp.keys; clock = r.stamp.clock }; act = refl; call = refl; keys_are = r.keys_are }) h.at.reached.around.interface;
                   functions = functions ∙ h.at.reached.around.functions;
+                  prepared = h.at.reached.around.prepared;
                 };
               };
               want_is = refl;

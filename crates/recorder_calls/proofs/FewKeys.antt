@@ -1,7 +1,7 @@
 -- A Call has at most 16 keys, so that its record can be written.
 use Rattle.std.proofs.Common.{◌≡◌, inl, inr, ℕ, zero, suc, ◌-◌, ◌<◌, ◌≤◌, Bool, true, false, cond, List, [], ◌∷◌, ◌++◌, length, Option, Some, None, refl, sym, ap, ◌∙◌, subst, arith}
 use Rattle.std.specs.Prelude.{slice_get}
-use Rattle.std.proofs.lemmas.Bool.{cases_lt, lt-ltb}
+use Rattle.std.proofs.lemmas.Bool.{cases_lt, lt-ltb, true≢false}
 use Rattle.marks.specs.Places.{builtin_count}
 use Rattle.c_builtins.specs.declared.builtin.Builtin.{Builtin}
 use Rattle.c_builtins.specs.declared.builtin.Builtin.TheVariants as builtins
@@ -9,6 +9,8 @@ use Rattle.c_builtins.specs.Table.{in_interface, number_of}
 use Rattle.c_code.specs.declared.code.FuncInfo.{FuncInfo}
 use Rattle.c_code.specs.Builtins.{AreBuiltins, Prototype, prototypes}
 use Rattle.c_code.specs.Machine.{Flat, func_of, is_face}
+use Rattle.c_code.specs.MarkLists.{takes_values}
+use Rattle.c_code.specs.Typed.{AreArguments}
 use Rattle.stub_operations.specs.declared.operation.StubOp.{StubOp}
 use Rattle.stub_operations.specs.declared.purpose.Purpose.TheVariants.{Record}
 use Rattle.stub_operations.specs.Builtins.{builtin_operations}
@@ -89,8 +91,12 @@ module _ (w : World) (fit : IsFit w) where
           subst (λ o. keys_by f args o ≤ 16) (sym h.2) (omega (arith, few, each, n))
       by false e = nothing_few f args e
 
-  pub keys_few : (f : ℕ) (info : FuncInfo) (args : List ℕ) → func_of w.laid.code f ≡ Some info → length (call_keys (done_at w.laid.code w.stubs f args 0)) ≤ 16
-  keys_few f info args known = elim (cases_lt f builtin_count) [
-    | inl lt ↦ low_few f info args lt known
-    | inr le ↦ source_few f info args le known
-  ]
+  pub keys_few : (f : ℕ) (args : List ℕ) → AreArguments w.laid f args → length (call_keys (done_at w.laid.code w.stubs f args 0)) ≤ 16
+  keys_few f args fits = by (func_of w.laid.code f) refl fits
+    where
+      by : (o : Option FuncInfo) → func_of w.laid.code f ≡ o → takes_values o args ≡ true → keys_by f args (added_at w.stubs f) ≤ 16
+      by None known takes = absurd (true≢false (sym takes))
+      by (Some info) known takes = elim (cases_lt f builtin_count) [
+        | inl lt ↦ low_few f info args lt known
+        | inr le ↦ source_few f info args le known
+      ]

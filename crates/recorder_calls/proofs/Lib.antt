@@ -9,6 +9,5 @@ mod Bounded
 mod Handed
 mod SaidKeys
 mod FewKeys
-mod Words
 mod Next
 mod CallModes

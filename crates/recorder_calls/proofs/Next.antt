@@ -25,10 +25,10 @@ use Rattle.recorder_threads.specs.declared.wants.Want.TheVariants as told
 use Rattle.recorder_threads.specs.Threads.{args_at}
 use Rattle.recorder_state.specs.declared.state.RunState.{RunState}
 use Rattle.recorder_plain.proofs.Steps.{carries}
+use Rattle.recorder_events.proofs.Arguments.{call_body}
 use Rattle.recorder_calls.specs.declared.calling.Calling.{Calling}
 use Rattle.recorder_calls.specs.Calls.{AreRegionsOf, IsAtCall, IsCallNext, keys_of_call}
 use Rattle.recorder_calls.proofs.FewKeys.{keys_few}
-use Rattle.recorder_calls.proofs.Words.{is_call, known}
 
 -- ---- regions
 
@@ -126,7 +126,6 @@ module _ (w : World) (s : RunState) (t func : ℕ) (c : Calling) (h : IsAtCall w
     pub next : (keys : List Key) (event : Event) → keys ≡ c.keys.items → logged.Call func args ≡ event → func < 2 ^ 16 → IsCallNext w s t regions keys event
     next keys event keys_is event_is small =
         let all : call_keys said ≡ keys = sym (keys_is ∙ (h.filled.keys ∙ ap call_keys h.filled.done)) in
-        let k = known w.laid func args fits in
         record {
           indirect = h.indirect;
           func = func;
@@ -134,7 +133,7 @@ module _ (w : World) (s : RunState) (t func : ℕ) (c : Calling) (h : IsAtCall w
           wanted = record { modes = h.modes; ins_are = ins_is; outs_are = outs_is; prepares = prepares_is };
           regions_are = are_regions;
           keys_are = ap (keys_of_call (interface w) func args) (sym prepares_is) ∙ all;
-          few = subst (λ ks. length ks ≤ 16) all (keys_few w h.at.reached.fit func k.info args k.known);
+          few = subst (λ ks. length ks ≤ 16) all (keys_few w h.at.reached.fit func args fits);
           event_is = event_is;
-          body = subst (λ e. IsBody (in_full e)) event_is (is_call w.laid h.at.reached.fit.code.valid func args small fits);
+          body = subst (λ e. IsBody (in_full e)) event_is (call_body w.laid h.at.reached.fit.code.valid func args small fits);
         }

@@ -1,6 +1,6 @@
 //! A Call, from what the code of its thread wants.
 
-ghost use Rattle.std.specs.Prelude.{◌≡◌, ◌+◌, IfErr, IfOk, OnOk};
+ghost use Rattle.std.specs.Prelude.{◌≡◌, ◌+◌, IfErr, OnOk};
 ghost use Rattle.marks.specs.declared.side.Side.TheVariants.{Replay};
 ghost use Rattle.recorder_threads.specs.declared.wants.Want.TheVariants as wants;
 ghost use Rattle.recorder_state.specs.Inputs.{world_of};
@@ -14,11 +14,11 @@ use crate::making::make;
 use crate::modes::first_forbidden;
 use crate::testing::stop_full;
 use marks::Side;
-use recorder_events::full;
+use recorder_events::{copied_words, full};
 use recorder_plain::{keeps_mode, mode_breach};
 use recorder_state::{Inputs, RunState, Stop};
-use run_events::{Event, Key, Words};
-use std::alloc::{AllocError, Global};
+use run_events::{Event, Key};
+use std::alloc::Global;
 use steps_above_memory::CallRegions;
 
 /// The thread's code calls the function of the interface, through a pointer where `indirect`: it must then be one that may run below
@@ -64,21 +64,13 @@ fn call_filled(
     ensures steps { OnOk result (state.new.steps ≡ state.old.steps + 1) }
     ensures stopped { IfErr result (IsStopped (world_of inputs.entry) state.new) }
 {
-    let Ok(args) = copied(alloc, state.threads.args(thread)) else {
+    let Ok(args) = copied_words(alloc, state.threads.args(thread)) else {
         return Err(Stop::Memory);
     };
     let event = Event::Call { func, args };
     let regions = calling.regions();
     let keys = calling.keys.as_slice();
     call_said(state, inputs, alloc, thread, &regions, keys, event)
-}
-
-fn copied(alloc: Global, words: &[u64]) -> Result<Words, AllocError>
-    ensures { IfOk result (λ copy. copy ≡ words.now) }
-{
-    let mut items = Vec::new(alloc);
-    items.extend_from_slice(words)?;
-    Ok(Words::from(items))
 }
 
 /// The thread's code makes a Call with these regions, keys and record. Where there is no room for it, its tests come first all the

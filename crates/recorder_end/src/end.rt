@@ -46,6 +46,7 @@ fn recorded(state: RunState, ending: Ending) -> Result<Recorded, AllocError>
         threads: _,
         system: _,
         memory,
+        prepared: _,
         stamps: _,
         interface: _,
         book,

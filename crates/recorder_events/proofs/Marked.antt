@@ -127,6 +127,7 @@ around_with w past s memory a = record {
   system = a.system;
   interface = a.interface;
   functions = a.functions;
+  prepared = a.prepared;
 }
 
 module _ (w : World) (past : List Mark) (s : Picked w past) (kind : EventKind) (keys : List Key) (old new : RunState) (r : IsRecorded w past s kind keys old new) where
@@ -152,6 +153,7 @@ module _ (w : World) (past : List Mark) (s : Picked w past) (kind : EventKind) (
         system_output = around.shown.system_output ∙ sym (same_system_output w past s r.stamp kind quiet);
         interface = same_functions w past s r.stamp kind quiet (interface w) (placed w) old.interface around.interface;
         functions = around.functions;
+        prepared = around.prepared;
       };
     };
     want_is = refl;
@@ -213,6 +215,7 @@ module _ (w : World) (s : RunState) (t : ℕ) (want : Want) (x : Answer) (h : Is
         system_output = k.others.system_output;
         interface = k.others.interface;
         functions = k.others.functions;
+        prepared = k.others.prepared;
       };
     };
     threads = told;

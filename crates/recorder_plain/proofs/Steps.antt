@@ -32,7 +32,7 @@ module _ (w : World) (past : List Mark) (s : RunState) (new : Memory) where
   shown_still h = record { threads = h.threads; stamps = h.stamps; book = h.book; output = h.output; system_output = h.system_output }
 
   around_still : IsAroundAfter w past s → IsAroundAfter w past (record s { memory = new })
-  around_still h = record { shown = shown_still h.shown; system = h.system; interface = h.interface; functions = h.functions }
+  around_still h = record { shown = shown_still h.shown; system = h.system; interface = h.interface; functions = h.functions; prepared = h.prepared }
 
 module _ (w : World) (s : RunState) (t : ℕ) (side : Side) (said : Told) (at : IsAtStep w s t side said) where
   abbrev pub before : List Mark

@@ -1,57 +1,58 @@
--- The Ret of a function with a body, whose tests pass, can be the step that its thread makes.
-use Rattle.std.proofs.Common.{◌≡◌, ℕ, Bool, true, ◌&&◌, List, [], ◌∷◌, ◌++◌, length, Option, Some, None, refl, sym, ap, ◌∙◌, subst, eq-eqb}
-use Rattle.std.specs.Prelude.{is_some, option_map}
-use Rattle.std.specs.Option.{option_to_list}
+-- The Ret of a function with a body, whose tests pass, comes next.
+use Rattle.std.proofs.Common.{◌≡◌, ℕ, zero, suc, ◌+◌, ◌-◌, ◌<◌, ◌≤◌, Bool, true, false, cond, ◌&&◌, ltb, List, [], ◌∷◌, length, Option, Some, None, refl, sym, ap, ◌∙◌, subst, eq-eqb, arith}
+use Rattle.std.specs.Prelude.{slice_get}
+use Rattle.std.proofs.lemmas.Bool.{le-ltb, ltb-false, true≢false}
 use Rattle.std.proofs.lemmas.List.{length-map}
-use Rattle.run_events.specs.declared.key.Class.{Class}
-use Rattle.run_events.specs.declared.key.Class.TheVariants.{Mutex, User, Callback, Thread, Pool, Out, Async}
 use Rattle.marks.specs.declared.side.Side.TheVariants.{Replay}
-use Rattle.marks.specs.declared.range.Range.{Range}
-use Rattle.marks.specs.Ranges.{Piece, piece_bytes, piece_ranges}
-use Rattle.marks.specs.Marks.{Commit, EventKind, Mark, Ret, logged, released}
-use Rattle.marks.specs.Opens.{open_calls}
+use Rattle.marks.specs.Places.{builtin_count, thread_count}
+use Rattle.marks.specs.Ranges.{Piece}
+use Rattle.marks.specs.Marks.{Mark, NoRegion, Ret}
 use Rattle.marks.specs.Wants.{Go, Returns, answer_if, event_answer, same_numbers}
 use Rattle.c_code.specs.declared.code.FuncInfo.{FuncInfo}
-use Rattle.c_code.specs.Machine.{func_of}
-use Rattle.c_code.specs.MarkLists.{result_shape}
+use Rattle.c_code.specs.Builtins.{Prototype, prototypes, AreBuiltins}
+use Rattle.c_code.specs.Machine.{Flat, Laid, entry, entry_of, func_of}
+use Rattle.c_code.specs.MarkLists.{has_entry, result_shape, takes_values}
 use Rattle.c_code.specs.Typed.{CarriesValues}
+use Rattle.c_code.specs.Valid.{IsValid}
+use Rattle.stub_meaning.specs.Meaning.{first_of, type_of}
 use Rattle.c_code.specs.Values.{is_value}
-use Rattle.stub_meaning.specs.Meaning.{type_of}
-use Rattle.replay_runs.specs.Checks.{Passes}
-use Rattle.replay_runs.specs.Interface.{Committing, Interface}
-use Rattle.replay_runs.specs.Pool.{in_use}
-use Rattle.replay_runs.specs.Rules.{AreUsed, Closes, Commits, CommitsUsed, ReleaseRule, SharedEvent}
-use Rattle.replay_runs.specs.Runs.{OfKey, new_events}
-use Rattle.replay_runs.specs.Threads.{last_return, same_return}
 use Rattle.space_memory_access.specs.declared.holder.Region.{Region}
-use Rattle.space_memory_access.specs.Held.{innermost, prepared_region}
-use Rattle.space_memory.specs.Releases.{AllFilled, committed, committed_size, outs_of}
-use Rattle.space_memory.specs.Spaces.{SpaceState}
-use Rattle.space_memory_laws.specs.Returns.{AreUsedSizes, ShowUsed}
-use Rattle.whole_runs.specs.World.{World, begin, interface}
-use Rattle.whole_runs.specs.Sides.{seen}
+use Rattle.space_memory_access.specs.Held.{innermost}
+use Rattle.space_memory.specs.Releases.{outs_of}
+use Rattle.steps_above_memory.specs.declared.refusal.StepRefusal.{StepRefusal}
+use Rattle.steps_above_memory.specs.Refusals.{IsFound}
+use Rattle.replay_runs.specs.Checks.{Passes}
+use Rattle.replay_runs.specs.Interface.{Interface}
+use Rattle.whole_runs.specs.World.{World, interface}
+use Rattle.whole_runs.specs.Below.{targets}
+use Rattle.whole_runs.specs.Memory.{HasAll, filled, real}
+use Rattle.whole_runs.specs.Outcomes.{started}
 use Rattle.whole_runs.specs.Steps.{Brings}
-use Rattle.whole_runs.specs.Tests.{ret_checks, tests}
-use Rattle.whole_runs_seen.proofs.Threads.{carried, threads_known}
-use Rattle.whole_runs_memory.specs.Rets.{IsEnding, IsRetAllowed}
-use Rattle.whole_runs_memory.proofs.RetChecks.{rets}
-use Rattle.whole_runs_memory.proofs.Rets.{brings}
-use Rattle.whole_runs_memory.proofs.Steps.{steps_begin}
+use Rattle.whole_runs.specs.Tests.{ret_checks, tests, with_answer}
+use Rattle.whole_runs_seen.proofs.Entries.{IsOwn}
+use Rattle.whole_runs_seen.proofs.Threads.{carried, own_want, picked_started, threads_known}
+use Rattle.whole_runs_memory.specs.Rets.{IsEnding}
+use Rattle.whole_runs_memory.proofs.RetChecks.{no_pieces}
 use Rattle.recorder_memory.specs.Laws.{HoldsCall}
-use Rattle.recorder_memory.specs.Returns.{IsAnswered}
+use Rattle.recorder_memory.specs.Returns.{IsAnswered, PassesReturn, RefusesReturn}
 use Rattle.recorder_memory.proofs.Quiet.{calls_held}
 use Rattle.recorder_memory.proofs.Returning.{none_answered}
 use Rattle.recorder_threads.specs.declared.wants.Want.TheVariants as told
 use Rattle.recorder_threads.specs.Threads.{args_at}
+use Rattle.recorder_threads.proofs.Places.{count_is}
 use Rattle.recorder_state.specs.declared.state.RunState.{RunState}
 use Rattle.recorder_state.specs.Turns.{IsAtStep}
-use Rattle.recorder_events.specs.Making.{CanBe, own_above}
-use Rattle.recorder_returns.specs.Bringing.{BringsUp, CommitsUnder, HaveBytes, IsCommitOf, committing_of}
+use Rattle.recorder_state.specs.Ends.{IsRefused}
+use Rattle.recorder_events.proofs.Steps.{watch_few}
+use Rattle.recorder_returns.specs.declared.returning.Returning.{Returning}
+use Rattle.recorder_returns.specs.Bringing.{committing_of}
+use Rattle.recorder_returns.specs.Coming.{IsReturning}
+use Rattle.recorder_returns.specs.Saying.{IsSaid}
 use Rattle.recorder_returns.proofs.Closing.{body_closes, ends_so}
-use Rattle.recorder_returns.proofs.Pieces.{are_used, last_used, ranges_of}
+use Rattle.recorder_returns.proofs.Few.{keys_few, regions_few}
 use Rattle.recorder_returns.proofs.Said.{sizes_count}
 
-pub alike : (xs : List ℕ) → same_numbers xs xs ≡ true
+alike : (xs : List ℕ) → same_numbers xs xs ≡ true
 alike [] = refl
 alike (x ∷ xs) = (λ j. eq-eqb x x refl j && alike xs j)
 
@@ -59,47 +60,40 @@ shape_is : (o : Option FuncInfo) → result_shape o ≡ (type_of o).result
 shape_is (Some f) = refl
 shape_is None = refl
 
--- ---- what is committed
+-- ---- functions of the code
 
-module _ (memory : SpaceState) (gs : List Region) (up : List Piece) (used : List ℕ) (commit : Commit) (ranges : ranges_of gs ≡ piece_ranges up) (count : length used ≡ length up) where
-  abbrev regions : List Region
-  regions = memory.held.regions
+pub taken : (o : Option FuncInfo) (args : List ℕ) → takes_values o args ≡ true → (f : FuncInfo) × (o ≡ Some f)
+taken (Some f) args e = (f, refl)
+taken None args e = absurd (true≢false (sym e))
 
-  under : (k : ℕ) (o : Option ℕ) → CommitsUnder regions k o commit → ShowUsed memory.bytes (up ++ released commit) (used ++ committed_size (option_map (λ u. (k, u)) o)) → AllFilled memory.bytes (gs ++ committed regions (option_map (λ u. (k, u)) o)) (used ++ committed_size (option_map (λ u. (k, u)) o))
-      → HaveBytes (up ++ released commit) → CommitsUsed k o commit
-  under k None h shows filled b = h
-  under k (Some n) h shows filled b = by (prepared_region regions k) refl
-    where
-      by : (o : Option Region) → prepared_region regions k ≡ o → CommitsUsed k (Some n) commit
-      by None e = absurd (none (ap (option_map (λ (r : Region). r.range)) (sym e) ∙ h.2))
-        where
-          none : ◌≡◌ {A = Option Range} None (Some h.0.range) → ⊥
-          none z = absurd cc
-      by (Some g) e =
-          let there : ◌≡◌ {A = Option Range} (Some g.range) (Some h.0.range) = ap (option_map (λ (r : Region). r.range)) (sym e) ∙ h.2 in
-          let is : g.range ≡ h.0.range = cc in
-          subst (CommitsUsed k (Some n)) (sym h.1) (
-            refl,
-            last_used memory.bytes gs g up h.0 used n ranges count is
-                (subst (λ c. ShowUsed memory.bytes (up ++ released c) (used ++ (n ∷ []))) h.1 shows)
-                (subst (λ o. AllFilled memory.bytes (gs ++ option_to_list o) (used ++ (n ∷ []))) e filled)
-                (subst (λ c. HaveBytes (up ++ released c)) h.1 b),
-          )
+no_body : (fs : List FuncInfo) (ps : List Prototype) → AreBuiltins fs ps → (k : ℕ) → has_entry (entry_of (slice_get fs k)) ≡ false
+no_body [] [] h k = refl
+no_body [] (p ∷ ps) h k = absurd h
+no_body (f ∷ fs) [] h k = absurd h
+no_body (f ∷ fs) (p ∷ ps) h zero = ap has_entry h.0.no_body
+no_body (f ∷ fs) (p ∷ ps) h (suc k) = no_body fs ps h.1 k
 
-  pub commits_so : (o : Option Committing) → IsCommitOf regions o commit → ShowUsed memory.bytes (up ++ released commit) (used ++ committed_size (committing_of o)) → AllFilled memory.bytes (gs ++ committed regions (committing_of o)) (used ++ committed_size (committing_of o))
-      → HaveBytes (up ++ released commit) → Commits o commit
-  commits_so None h shows filled b = h
-  commits_so (Some c) h shows filled b = under c.key c.used h shows filled b
+-- one with a body is no builtin
+pub is_source : (l : Laid) → IsValid l.code → (f : ℕ) → has_entry (entry l f) ≡ true → builtin_count ≤ f
+is_source l v f e = by (ltb f builtin_count) refl
+  where
+    by : (b : Bool) → ltb f builtin_count ≡ b → builtin_count ≤ f
+    by false z = ltb-false f builtin_count z
+    by true z = absurd (true≢false (sym e ∙ (ap (λ b. has_entry (entry_of (cond b (slice_get l.code.builtins f) (slice_get l.code.sources (f - builtin_count))))) z ∙ no_body l.code.builtins prototypes v.builtins f)))
 
--- the region that is released is the one in use
-module _ (regions : List Region) (commit : Commit) (x : ℕ) (region : Option Range) (there : option_map (λ (r : Region). r.range) (prepared_region regions x) ≡ region) where
-  releases_under : (k : ℕ) (o : Option ℕ) → CommitsUnder regions k o commit → ReleaseRule x region commit
-  releases_under k None h = subst (ReleaseRule x region) (sym h) tt
-  releases_under k (Some n) h = subst (ReleaseRule x region) (sym h.1) (λ e. sym there ∙ (ap (λ y. option_map (λ (r : Region). r.range) (prepared_region regions y)) (sym e) ∙ h.2))
+there : (fs : List FuncInfo) (k : ℕ) (f : FuncInfo) → slice_get fs k ≡ Some f → k < length fs
+there [] k f e = absurd (none e)
+  where
+    none : ◌≡◌ {A = Option FuncInfo} None (Some f) → ⊥
+    none z = absurd cc
+there (g ∷ fs) zero f e = omega arith
+there (g ∷ fs) (suc k) f e = let lt = there fs k f e in omega (arith, lt)
 
-  pub releases : (o : Option Committing) → IsCommitOf regions o commit → ReleaseRule x region commit
-  releases None h = subst (ReleaseRule x region) (sym h) tt
-  releases (Some c) h = releases_under c.key c.used h
+-- one of the source is known
+pub is_known : (code : Flat) (f : ℕ) (info : FuncInfo) → builtin_count ≤ f → func_of code f ≡ Some info → f < builtin_count + length code.sources
+is_known code f info le e =
+    let lt = there code.sources (f - builtin_count) info (sym (ap (λ b. cond b (slice_get code.builtins f) (slice_get code.sources (f - builtin_count))) (le-ltb f builtin_count le)) ∙ e) in
+    omega (arith, lt, le)
 
 -- ---- the step
 
@@ -112,9 +106,6 @@ module _ (w : World) (s : RunState) (t f v : ℕ) (h : IsAtStep w s t Replay (to
 
   abbrev i : Interface
   i = interface w
-
-  abbrev spaces : SpaceState
-  spaces = s.memory.above.spaces
 
   abbrev pub used : List ℕ
   used = i.used f args v
@@ -134,58 +125,89 @@ module _ (w : World) (s : RunState) (t f v : ℕ) (h : IsAtStep w s t Replay (to
   pub holds : HoldsCall s.memory h.step.thread (i.outs f args)
   holds = calls_held w past s.memory h.step.thread f args (i.outs f args) h.reached.memory.above ending.thread ending.closes
 
-  module _ (up : List Piece) (commit : Commit) (b : BringsUp w spaces f args v up commit) (same : Bool)
-      (repeats : same ≡ (i.is_cached f && same_return (last_return ((begin w).returned h.step.thread f) f (own_above w h.step.thread past)) (record { result = v; bytes = piece_bytes up ++ logged commit })))
-      (passes : Passes (ret_checks w past f args v [])) where
-    abbrev pub kind : EventKind
-    kind = Ret f args v same up commit
+  tested : Passes (ret_checks w past f args v []) → Passes (tests w past h.step.thread h.step.side h.step.want)
+  tested passes = subst (λ d. Passes (tests w past h.step.thread d h.step.want)) (sym h.side_is) (subst (λ x. Passes (tests w past h.step.thread Replay x)) (sym wants) passes)
 
-    allowed : IsRetAllowed spaces h.step.thread used committing
-    allowed = (rets w past spaces h.step.thread f args v used committing [] answered.step answered.fits ending).passes.0 passes
+  carries : CarriesValues w.laid (Returns f args v)
+  carries = subst (CarriesValues w.laid) wants (carried w h.reached.fit.code past (threads_known w h.reached.fit.code past h.reached.follows) h.step)
 
-    abbrev gs : List Region
-    gs = outs_of (innermost spaces.held h.step.thread) spaces.held.regions
+  body : has_entry (entry w.laid f) ≡ true
+  body = (subst (IsOwn w.laid h.step.side) wants (own_want w h.reached.fit.code past (threads_known w h.reached.fit.code past h.reached.follows) h.step)).1
 
-    ranges : ranges_of gs ≡ piece_ranges up
-    ranges = holds.regions ∙ sym b.outs_are
+  source : builtin_count ≤ f
+  source = is_source w.laid h.reached.fit.code.valid f body
 
-    sizes : AreUsedSizes (piece_ranges up) used used
-    sizes = subst (λ rs. AreUsedSizes rs used used) (sym b.outs_are) ending.sizes
+  info : (g : FuncInfo) × (func_of w.laid.code f ≡ Some g)
+  info = taken (func_of w.laid.code f) args carries.0
 
-    used_so : AreUsed used up
-    used_so = are_used spaces.bytes gs (committed spaces.held.regions committing) up (released commit) used (committed_size committing) ranges b.shows allowed.1 sizes b.bytes
+  -- with no pieces of an answer memory is as it is
+  as_it_is : (up : List Piece) → HasAll (with_answer w past f args v []) up → HasAll (real w past) up
+  as_it_is up has = subst (λ ps. HasAll (λ x. filled ps x (real w past x)) up) (no_pieces (targets w Replay past f args v)) has
 
-    shared_by : (c : Class) (x : ℕ) → SharedEvent i (begin w) c x (new_events (OfKey (record { class = c; value = x })) (seen past)) kind
-    shared_by Mutex x = tt
-    shared_by User x = tt
-    shared_by Callback x = tt
-    shared_by Thread x = tt
-    shared_by Pool x = tt
-    shared_by Out x = tt
-    shared_by Async x = releases spaces.held.regions commit x (in_use (begin w) x (seen past)) (answered.step.stands.above.keys x) (i.commits f args v) b.commit_is
+  pub returning : Passes (ret_checks w past f args v []) → IsReturning w s t f v Go
+  returning passes = record {
+    fit = h.reached.fit;
+    past = past;
+    follows = h.reached.follows;
+    steps = h.reached.steps;
+    around = h.reached.around;
+    few = watch_few w s h.reached;
+    step = h.step;
+    thread = h.thread;
+    side_is = h.side_is;
+    answer = [];
+    wanted = record {
+      answers = λ same up commit. ap (λ x. event_answer x (Ret f args v same up commit)) wants ∙ (λ j. answer_if (eq-eqb f f refl j && (alike args j && eq-eqb v v refl j)) Go);
+      brings = λ up has. subst (λ x. Brings w past h.step.thread x v up) (sym wants) (as_it_is up has);
+    };
+    of_interface = record {
+      known = is_known w.laid.code f info.0 source info.1;
+      gives = subst (λ z. is_value z v ≡ true) (shape_is (func_of w.laid.code f)) carries.1;
+      regions = regions_few w h.reached.fit f info.0 source info.1 args;
+      keys = keys_few w h.reached.fit f info.0 source info.1 args v h.step.thread past false [] NoRegion;
+    };
+    ending = ending;
+    answered = answered;
+    passes = passes;
+    tested = tested passes;
+  }
 
-    pub answer : event_answer h.step.want kind ≡ Some Go
-    answer = ap (λ x. event_answer x kind) wants ∙ (λ j. answer_if (eq-eqb f f refl j && (alike args j && eq-eqb v v refl j)) Go)
+  -- the thread is there
+  pub few : t < thread_count
+  few = subst (λ u. u < thread_count) h.thread ending.thread
 
-    carries_value : is_value (result_shape (func_of w.laid.code f)) v ≡ true
-    carries_value = (subst (CarriesValues w.laid) wants (carried w h.reached.fit.code past (threads_known w h.reached.fit.code past h.reached.follows) h.step)).1
+  pub is_started : t < length s.threads
+  is_started =
+      let lt : t < started past = subst (λ u. u < started past) h.thread (picked_started w h.reached.fit.code past (threads_known w h.reached.fit.code past h.reached.follows) h.step) in
+      let n = count_is w past s.threads h.reached.around.shown.threads in
+      omega (arith, lt, n)
 
-    pub can_be : CanBe w past h.step kind
-    can_be = record {
-      answers = ap is_some answer;
-      agrees = subst (λ x. Brings w past h.step.thread x v (up ++ released commit)) (sym wants)
-          (brings w past spaces [] (up ++ released commit) (used ++ committed_size committing) (steps_begin w past spaces h.reached.memory.whole) b.shows);
-      carries = record {
-        closes = subst (λ rs. Closes (open_calls (own_above w h.step.thread past)) f args rs) (sym b.outs_are) ending.closes;
-        result_is = subst (λ z. is_value z v ≡ true) (shape_is (func_of w.laid.code f)) carries_value;
-        used = used_so;
-        committed = commits_so spaces gs up used commit ranges count (i.commits f args v) b.commit_is b.shows allowed.1 b.bytes;
-        repeats = repeats;
+  -- what its tests find
+  module _ (said : Returning) (is_said : IsSaid w f args v said) (us : List ℕ) (o : Option (ℕ × ℕ)) (used_is : us ≡ said.done.used) (committing_is : o ≡ committing_of (first_of said.done.commits)) where
+    so : IsEnding w past t f args v us o
+    so = subst (λ u. IsEnding w past u f args v us o) h.thread
+        (subst (IsEnding w past h.step.thread f args v us) (sym (committing_is ∙ ap committing_of is_said.commit))
+        (subst (λ ns. IsEnding w past h.step.thread f args v ns committing) (sym (used_is ∙ is_said.used)) ending))
+
+    pub sizes : length us ≡ length (outs_of (innermost s.memory.above.spaces.held t) s.memory.above.spaces.held.regions)
+    sizes =
+        let held : HoldsCall s.memory t (i.outs f args) = subst (λ u. HoldsCall s.memory u (i.outs f args)) h.thread holds in
+        ap length (used_is ∙ is_said.used) ∙ (sizes_count (i.outs f args) used used ending.sizes ∙ (ap length (sym held.regions) ∙ length-map (outs_of (innermost s.memory.above.spaces.held t) s.memory.above.spaces.held.regions) (λ (g : Region). g.range)))
+
+    pub passes_so : PassesReturn s.memory t us o → IsReturning w s t f v Go
+    passes_so passes = returning (passes w past f args v [] answered so)
+
+    pub refused : (refusal : StepRefusal) → RefusesReturn s.memory t us o refusal → IsRefused w s t Replay refusal
+    refused refusal refuses = record {
+      at = record {
+        fit = h.reached.fit;
+        past = past;
+        follows = h.reached.follows;
+        seen = h.reached.memory.above;
+        shown = h.reached.around.shown;
+        step = h.step;
+        thread = h.thread;
+        side_is = h.side_is;
       };
-      shared = λ k among. shared_by k.class k.value;
-      bytes = λ x. tt;
-      passes = subst (λ d. Passes (tests w past h.step.thread d h.step.want)) (sym h.side_is) (subst (λ x. Passes (tests w past h.step.thread Replay x)) (sym wants) passes);
+      found = subst (λ x. IsFound (tests w past t Replay x) refusal) (sym wants) (refuses w past f args v [] answered so);
     }
-      where
-        count : length used ≡ length up
-        count = sizes_count (piece_ranges up) used used sizes ∙ length-map up (λ (p : Piece). p.range)

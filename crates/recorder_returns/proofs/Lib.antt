@@ -3,6 +3,12 @@ pub mod Said
 pub mod Few
 pub mod Closing
 pub mod Pieces
-pub mod Bodies
+pub mod Committed
+pub mod Coming
 pub mod Kept
-pub mod Recording
+pub mod Bodies
+pub mod Copied
+pub mod Allowed
+pub mod Counted
+pub mod Recorded
+pub mod Made

@@ -1,9 +1,11 @@
 //! What is said of the Ret of a call, before it is made.
 
-ghost use Rattle.std.specs.Prelude.{◌<◌, length, OnOk};
+ghost use Rattle.std.specs.Prelude.{◌≡◌, ◌<◌, length, OnOk};
 ghost use Rattle.marks.specs.Places.{thread_count};
 ghost use Rattle.whole_runs.specs.Fits.{IsFit};
 ghost use Rattle.recorder_state.specs.Inputs.{world_of};
+ghost use Rattle.stub_meaning.specs.Meaning.{first_of};
+ghost use Rattle.recorder_returns.specs.Bringing.{committing_of};
 ghost use Rattle.recorder_returns.specs.Saying.{IsSaid, RepeatsLast};
 
 use marks::Range;
@@ -51,6 +53,15 @@ impl Returning {
         self.ranges.extend_from_slice(self.done.outs())?;
         self.done.fill(code, ops, func, args, value)?;
         self.done.return_keys(&mut self.keys)
+    }
+
+    /// The key that is committed, with the used size; `None` where none is, or that size is negative.
+    pub fn commit(&self) -> Option<(u64, u64)>
+        ensures { result ≡ committing_of (first_of self.now.done.commits) }
+    {
+        let commit = self.done.commit()?;
+        let used = commit.used?;
+        Some((commit.key, used))
     }
 }
 

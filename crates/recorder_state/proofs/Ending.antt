@@ -77,5 +77,6 @@ module _ (w : World) (s : RunState) (t : ℕ) (h : IsStepTold w s t) where
       system = stands;
       interface = d.others.interface;
       functions = d.others.functions;
+      prepared = d.others.prepared;
     };
   }

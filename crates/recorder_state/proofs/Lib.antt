@@ -1,3 +1,4 @@
+pub mod Regions
 pub mod Plain
 pub mod Going
 pub mod Flags

@@ -34,6 +34,7 @@ use Rattle.recorder_system.proofs.Standing.{can_is_ready, ready_runs}
 use Rattle.recorder_state.specs.declared.state.RunState.{RunState}
 use Rattle.recorder_state.specs.Plain.{IsDone, IsPlainStep, IsStepTold}
 use Rattle.recorder_state.proofs.Plain.{is_counted, same_book, same_functions, same_output, same_system_output, seen_above, seen_below, with_seen}
+use Rattle.recorder_state.proofs.Regions.{same_prepared}
 use Rattle.recorder_state.proofs.Going.{GoesOn, in_budget, follows_so, no_call, room}
 
 -- no answer that a thread is told is a fault
@@ -122,6 +123,7 @@ module _ (w : World) (s : RunState) (t : ℕ) (side : Side) (x : Answer) (h : Is
         system_output = d.around.shown.system_output ∙ sym (same_system_output d.past m t h.no_outcome);
         interface = with_seen (λ ms. functions.IsStateOf (interface w) (placed w) ms s.interface) d.past m (same_functions m h.plain (interface w) (placed w) (seen d.past) s.interface d.around.interface) d.around.interface;
         functions = d.around.functions;
+        prepared = same_prepared w d.past m t s.prepared h.no_outcome d.around.prepared;
       };
     };
     threads = tells is_plain;

@@ -104,6 +104,7 @@ module _ (w : World) (s : RunState) (t func result : ℕ) (x : Answer) (h : IsRe
         system_output = d.others.system_output;
         interface = d.others.interface;
         functions = d.others.functions;
+        prepared = d.others.prepared;
       };
     };
     threads = stand;

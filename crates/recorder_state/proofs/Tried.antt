@@ -61,6 +61,7 @@ with_system w s system r stands = record {
     system = stands;
     interface = r.around.interface;
     functions = r.around.functions;
+    prepared = r.around.prepared;
   };
 }
 

@@ -1,4 +1,5 @@
 pub mod Inputs
+pub mod Prepared
 pub mod Stands
 pub mod Turns
 pub mod Ends

@@ -25,6 +25,7 @@ use Rattle.recorder_threads.specs.Answers.{IsAnswered, IsNoCall}
 use Rattle.recorder_system.specs.Stands.{IsSystemBut, IsSystemOf}
 use Rattle.recorder_book.specs.Book.{IsBookOf}
 use Rattle.recorder_state.specs.declared.state.RunState.{RunState}
+use Rattle.recorder_state.specs.Prepared.{ArePreparedBelow}
 use Rattle.recorder_state.specs.Stands.{IsAroundAfter}
 
 -- ---- steps that are no event, and in which no call comes to its result
@@ -61,6 +62,7 @@ pub record AreOthersAfter (w : World) (past : List Mark) (s : RunState) : Type 0
   pub system_output : s.system_output.items ≡ system_output past
   pub interface : functions.IsStateOf (interface w) (placed w) (seen past) s.interface
   pub functions : length s.interface.registered ≡ builtin_count + length w.laid.code.sources
+  pub prepared : ArePreparedBelow w past s.prepared
 
 -- a run comes to a step and makes this mark, which was not counted yet
 pub record IsMarkedStep (w : World) (s : RunState) (t : ℕ) : Type 0 where

@@ -14,6 +14,7 @@ use Rattle.recorder_threads.specs.Threads.{AreThreadsOf}
 use Rattle.recorder_system.specs.Stands.{IsSystemOf}
 use Rattle.recorder_book.specs.Book.{IsBookOf}
 use Rattle.recorder_state.specs.declared.state.RunState.{RunState}
+use Rattle.recorder_state.specs.Prepared.{ArePreparedBelow}
 
 -- what is shown of the run after these marks, and what the Stops follow from that end it
 pub record IsShownAfter (w : World) (past : List Mark) (s : RunState) : Type 0 where
@@ -30,6 +31,7 @@ pub record IsAroundAfter (w : World) (past : List Mark) (s : RunState) : Type 0 
   pub interface : functions.IsStateOf (interface w) (placed w) (seen past) s.interface
   -- of each function of the code
   pub functions : length s.interface.registered ≡ builtin_count + length w.laid.code.sources
+  pub prepared : ArePreparedBelow w past s.prepared
 
 -- a run of a world that fits comes to the state
 pub record IsReached (w : World) (s : RunState) : Type 0 where

@@ -10,6 +10,7 @@ ghost use Rattle.recorder_state.specs.Stands.{IsReached};
 ghost use Rattle.recorder_state.specs.Inputs.{is_main_in};
 
 use crate::inputs::Inputs;
+use crate::prepared::PreparedBelow;
 use crate::state::RunState;
 use c_code::FuncInfo;
 use c_code_fused::FusedCode;
@@ -42,6 +43,7 @@ impl RunState {
             threads,
             system,
             memory,
+            prepared: PreparedBelow::new(alloc),
             stamps,
             interface,
             book,

@@ -4,6 +4,7 @@
 mod begin;
 mod inputs;
 mod next;
+mod prepared;
 mod state;
 mod stop;
 mod telling;
@@ -11,6 +12,7 @@ mod turn;
 
 pub use begin::main_of;
 pub use inputs::Inputs;
+pub use prepared::PreparedBelow;
 pub use state::RunState;
 pub use stop::Stop;
 pub use turn::Turn;

@@ -6,6 +6,7 @@ ghost use Rattle.recorder_state.specs.Inputs.{world_of};
 ghost use Rattle.recorder_state.specs.Stands.{IsReached};
 
 use crate::inputs::Inputs;
+use crate::prepared::PreparedBelow;
 use recorder_book::Book;
 use recorder_memory::Memory;
 use recorder_system::RunSystem;
@@ -14,13 +15,15 @@ use std::alloc::{AllocError, Global};
 use steps_above_interface::InterfaceState;
 use steps_above_stamps::Stamps;
 
-/// What is kept of a run while it is recorded: its threads, the system below the cut, the memory of both sides, the numbers of its
-/// events, what was registered and returned, its records and its log, and what was printed on either side.
+/// What is kept of a run while it is recorded: its threads, the system below the cut, the memory of both sides, the regions that
+/// externals prepared below the cut, the numbers of its events, what was registered and returned, its records and its log, and what
+/// was printed on either side.
 #[derive(Drop)]
 pub struct RunState {
     pub threads: Threads,
     pub system: RunSystem,
     pub memory: Memory,
+    pub prepared: PreparedBelow,
     pub stamps: Stamps,
     pub interface: InterfaceState,
     pub book: Book,

@@ -26,11 +26,12 @@ returns c =
           threads = c.in_ok-threads.ensures w refl;
           stamps = c.in_ok-stamps.ensures _;
           book = c.in_ok-book.ensures w refl;
-          output = c.new-7.ensures.items;
-          system_output = c.new-8.ensures.items;
+          output = c.new-8.ensures.items;
+          system_output = c.new-9.ensures.items;
         };
         system = c.in_ok-system.ensures w refl;
         interface = c.in_ok-interface.ensures.begins _ _;
         functions = c.in_ok-interface.ensures.functions ∙ (let f = c.from.ensures in let n = c.sources.ensures.count in omega (arith, f, n));
+        prepared = c.new-7.ensures;
       };
     }

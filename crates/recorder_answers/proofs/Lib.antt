@@ -1,0 +1,5 @@
+pub mod Faces
+pub mod Scripted
+pub mod Interfaces
+pub mod Given
+pub mod Answered
