@@ -2,7 +2,6 @@
 #![tactic(auto)]
 
 mod buffers;
-mod missing;
 mod recording;
 mod steps;
 

@@ -10,7 +10,6 @@ ghost use Rattle.recorder_state.specs.Turns.{IsAtStep};
 ghost use Rattle.recorder_state.specs.Ends.{IsStopped};
 
 use crate::buffers::Buffers;
-use crate::missing;
 use c_builtins::Builtin;
 use c_code::Side;
 use recorder_state::{Inputs, RunState, Stop};
@@ -59,7 +58,7 @@ pub fn step(
             indirect,
             func,
         ),
-        Want::Give { func } => missing::give(
+        Want::Give { func } => recorder_answers::give(
             state,
             alloc,
             inputs,
@@ -67,7 +66,7 @@ pub fn step(
             thread,
             func,
         ),
-        Want::Return { func, result } => missing::return_from(
+        Want::Return { func, result } => recorder_returns::return_from(
             state,
             alloc,
             inputs,
@@ -226,6 +225,6 @@ fn plain_call(
         Some(builtin) => {
             recorder_below::builtin(state, alloc, inputs, done, thread, indirect, func, builtin)
         }
-        None => missing::external(state, alloc, inputs, done, thread, indirect, func),
+        None => recorder_below::external(state, alloc, inputs, done, thread, indirect, func),
     }
 }

@@ -15,5 +15,5 @@ returns-in-Replay-clause-stopped c =
 pub builtin-requires-clause-builtin : goal.builtin-requires-clause-builtin
 builtin-requires-clause-builtin c = subst (λ f. builtin_of f ≡ Some c.in-Some.builtin) ((c.of_number.ensures c.in-Some.builtin).0 c.in-Some.is) (numbered c.in-Some.builtin)
 
-pub external-requires-clause-none : goal.external-requires-clause-none
-external-requires-clause-none c = unnumbered c.args.func (λ b same. absurd (let no : None ≡ Some b = sym c.in-None.is ∙ (c.of_number.ensures b).1 same in cc))
+pub external-requires-clause-external : goal.external-requires-clause-external
+external-requires-clause-external c = unnumbered c.args.func (λ b same. absurd (let no : None ≡ Some b = sym c.in-None.is ∙ (c.of_number.ensures b).1 same in cc))
