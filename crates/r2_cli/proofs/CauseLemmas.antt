@@ -1,5 +1,5 @@
 -- Each outcome has a status with a cause.
-use Rattle.std.proofs.Common.{◌≡◌, ◌≤◌, [], inl, ℕ, List, Bool, true, false, Some, length, codes, sym, refl, subst}
+use Rattle.std.proofs.Common.{◌≡◌, ◌≤◌, [], inl, inr, ℕ, List, Bool, true, false, Some, length, codes, sym, refl, subst}
 use Rattle.cut_check.specs.Lines.{LinesOf}
 use Rattle.front_end.specs.Sources.{IsWrong}
 use Rattle.front_end.specs.declared.error.SourceError.{SourceError}
@@ -22,11 +22,19 @@ use Rattle.r2_cli_outcome.proofs.Consequences.{leaves_cause}
 use Rattle.r2_cli.specs.declared.help.TheConstants.{HELP, VERSION}
 use Rattle.r2_cli.specs.Source as source_stage
 use Rattle.r2_cli.specs.Source.{SourceOf, refused_for, source}
-use Rattle.r2_cli.specs.Words.{Form, help, version, order, check, stubs, gen, IsForm, source_of, log_of, inputs_of}
+use Rattle.r2_cli.specs.Words.{Form, help, version, order, check, stubs, gen, recording, IsForm, source_of, log_of, system_of, inputs_of}
 use Rattle.r2_cli.specs.Commands.{command, generated, order_outcome, IsOutcome, OutcomeOf, StubsOf, no_form, formed}
 use Rattle.r2_cli.specs.Causes as cause
-use Rattle.r2_cli.proofs.CommandLemmas.{stubs_end}
-use Rattle.r2_cli.specs.Causes.{Cause, IsCaused, IsComplete, IsTooLong, ReadsLog, ReadsSource, long_log, long_source}
+use Rattle.r2_cli.specs.System.{system}
+use Rattle.whole_runs.specs.declared.ending.Ending.{Ending}
+use Rattle.whole_runs.specs.declared.ending.Ending.TheVariants as endings
+use Rattle.whole_runs.specs.Recorded.{Told}
+use Rattle.recording_texts.specs.Endings.{status_of}
+use Rattle.recorded_outcome.specs.Stages as system_stage
+use Rattle.recorded_outcome.specs.Stages.{recorded_as}
+use Rattle.r2_cli.proofs.CommandLemmas.{recording_end, stubs_end}
+use Rattle.r2_cli.proofs.SourceLemmas.{none_found}
+use Rattle.r2_cli.specs.Causes.{Cause, IsCaused, IsComplete, IsTooLong, ReadsLog, ReadsSource, ReadsSystem, Records, long_log, long_source, long_system}
 
 -- the outcome's status has a cause
 abbrev Caused : List (List ℕ) → Contents → World → World → Outcome → Type 0
@@ -61,7 +69,26 @@ ends_source words held a b form src cut is of reads o (on {a = bytes} (input.rea
 ends_source words held a b form src cut is of reads o (on {a = bytes} (input.read h short) (source_stage.found are some)) =
     cause.found is (record { name = src; is_source = of; there = sym h; short = short }) are some
 
+-- the bytes that a source passes on are what was read
+source_read : (held : Contents) (form : Form) (src cut bytes : List ℕ) → source_of form ≡ Some (src, cut) → source (Of held) src cut (passed bytes) → ReadsSource held form bytes cut
+source_read held form src cut bytes of (on {a = text} (input.read there short) (source_stage.accepted none)) = record { name = src; is_source = of; there = sym there; short = short }
+
+-- ---- system files
+
+ends_system : (words : List (List ℕ)) (held : Contents) (a b : World) (form : Form) (src cut bytes sys : List ℕ) → IsForm words form → source_of form ≡ Some (src, cut) → source (Of held) src cut (passed bytes)
+    → system_of form ≡ Some sys → In sys (inputs_of form) → EndsIn (Caused words held a b) (system (Of held) sys cut bytes)
+ends_system words held a b form src cut bytes sys is from first of reads o (stop (input.missing h)) = cause.no_file form sys is reads (sym h)
+ends_system words held a b form src cut bytes sys is from first of reads o (stop (input.too_long h m)) = cause.too_long is (long_system of (sym h) m)
+ends_system words held a b form src cut bytes sys is from first of reads o (on {a = script} (input.read h short) (system_stage.wrong accepted breaks)) =
+    cause.bad_system is (source_read held form src cut bytes from first) (record { name = sys; is_system = of; there = sym h; short = short }) accepted breaks
+
 -- ---- commands
+
+ends_recording : (words : List (List ℕ)) (held : Contents) (a b : World) (src cut sys log rep : List ℕ) → IsForm words (recording src cut sys log rep) → EndsIn (Caused words held a b) (command (Of held) (recording src cut sys log rep))
+ends_recording words held a b src cut sys log rep is o (stop h) = ends_source words held a b (recording src cut sys log rep) src cut is refl (inl refl) o h
+ends_recording words held a b src cut sys log rep is o (on {a = bytes} h (stop k)) =
+    ends_system words held a b (recording src cut sys log rep) src cut bytes sys is refl h refl (inr (inl refl)) o k
+ends_recording words held a b src cut sys log rep is o (on {a = bytes} h (on {a = script} i k)) = recording_end (Caused words held a b) log rep cut bytes script o k
 
 ends_command : (words : List (List ℕ)) (held : Contents) (a b : World) (form : Form) → IsForm words form → EndsIn (Caused words held a b) (command (Of held) form)
 ends_command words held a b help is = ends_only (Caused words held a b) (printed Done HELP.now [])
@@ -76,6 +103,7 @@ ends_command words held a b (stubs src cut) is =
     ends_then (Caused words held a b) (source (Of held) src cut) (λ bytes. Then (StubsOf cut bytes) (λ text. Only (passed (printed Done text [])))) (ends_source words held a b (stubs src cut) src cut is refl (inl refl))
     (λ bytes. stubs_end (Caused words held a b) cut bytes)
 ends_command words held a b (gen rounds src sys) is = ends_only (Caused words held a b) (generated rounds src sys)
+ends_command words held a b (recording src cut sys log rep) is = ends_recording words held a b src cut sys log rep is
 
 of_same : (words : List (List ℕ)) (held : Contents) (a b : World) (o p : Outcome) → Only (passed p) (passed o) → Caused words held a b p → Caused words held a b o
 of_same words held a b o p e c = let same : o ≡ p = cc e in subst (λ (q : Outcome). Caused words held a b q) (sym same) c
@@ -92,6 +120,17 @@ accepted_there : (held : Contents) (form : Form) (src cut accepted : List ℕ) �
 accepted_there held form src cut accepted of (on {a = bytes} (input.read there short) (source_stage.accepted none)) =
     (bytes, record { name = src; is_source = of; there = sym there; short = short }, none)
 
+-- a system file that was read, and how the run that was recorded ended
+system_read : (held : Contents) (form : Form) (sys cut bytes script : List ℕ) → system_of form ≡ Some sys → system (Of held) sys cut bytes (passed script) → ReadsSystem held form script
+system_read held form sys cut bytes script of (on {a = text} (input.read there short) (system_stage.right accepted reads)) = record { name = sys; is_system = of; there = sym there; short = short }
+
+ended_so : (words : List (List ℕ)) (held : Contents) (a b : World) (src cut sys log rep : List ℕ) (told : Told) (e : Ending) → IsForm words (recording src cut sys log rep) → Records held (recording src cut sys log rep) told
+    → told.ending ≡ e → Cause words held a b (status_of e)
+ended_so words held a b src cut sys log rep told endings.Done is records e = cause.done (recording src cut sys log rep) is (told, records, e)
+ended_so words held a b src cut sys log rep told (endings.Fault kind thread) is records e = cause.fault is records e
+ended_so words held a b src cut sys log rep told (endings.Breach kind thread addr other) is records e = cause.breach is records e
+ended_so words held a b src cut sys log rep told (endings.Halted why) is records e = cause.halted is records e
+
 done_command : (words : List (List ℕ)) (held : Contents) (a b : World) (form : Form) (o : Outcome) → IsForm words form → command (Of held) form (passed o) → Caused words held a b o
 done_command words held a b help o is h = of_same words held a b o (printed Done HELP.now []) h (cause.done help is tt)
 done_command words held a b version o is h = of_same words held a b o (printed Done VERSION.now []) h (cause.done version is tt)
@@ -101,6 +140,17 @@ done_command words held a b (check src cut) o is (on {a = accepted} h k) = of_sa
 done_command words held a b (stubs src cut) o is (on {a = accepted} h (on {a = text} i k)) =
     of_same words held a b o (printed Done text []) k (cause.done (stubs src cut) is (accepted_there held (stubs src cut) src cut accepted refl h))
 done_command words held a b (gen rounds src sys) o is h = of_same words held a b o (generated rounds src sys) h (cause.done (gen rounds src sys) is tt)
+done_command words held a b (recording src cut sys log rep) o is (on {a = bytes} h (on {a = script} i (recorded_as {code = code} {told = told} of))) =
+    ended_so words held a b src cut sys log rep told told.ending is (record {
+      bytes = bytes;
+      cut = cut;
+      script = script;
+      code = code;
+      source = source_read held (recording src cut sys log rep) src cut bytes refl h;
+      right = none_found (Of held) src cut bytes h;
+      system = system_read held (recording src cut sys log rep) sys cut bytes script refl i;
+      of = of;
+    }) refl
 
 comes_cause : (words : List (List ℕ)) (held : Contents) (a b : World) (form : Form) (o : Outcome) → IsForm words form → Comes (command (Of held) form) o → Caused words held a b o
 comes_cause words held a b form o is (done h) = done_command words held a b form o is h

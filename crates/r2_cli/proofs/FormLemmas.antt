@@ -6,7 +6,7 @@ use Rattle.log_closure.specs.Events.{In}
 use Rattle.r2_cli_outcome.proofs.Named.{has, has_first, has_more, same_name}
 use Rattle.r2_cli.specs.declared.forms.Command.{Command}
 use Rattle.r2_cli.specs.Forms.{form_of}
-use Rattle.r2_cli.specs.Words.{Form, help, version, order, check, stubs, gen, words_of, HasNames, IsForm, IsUsage}
+use Rattle.r2_cli.specs.Words.{Form, help, version, order, check, stubs, gen, recording, words_of, HasNames, IsForm, IsUsage}
 
 -- a command line is read back: one line a form, where a comparison of forms has one for each two
 read : List (List ℕ) → Option Form
@@ -14,6 +14,7 @@ read (w ∷ []) = cond (bytes_eq w (codes "--help")) (Some help) (Some version)
 read (w ∷ a ∷ []) = Some (order a)
 read (w ∷ a ∷ b ∷ []) = cond (bytes_eq w (codes "check")) (Some (check a b)) (Some (stubs a b))
 read (w ∷ a ∷ b ∷ d ∷ []) = Some (gen (digits_value 10 a) b d)
+read (w ∷ a ∷ b ∷ d ∷ e ∷ f ∷ []) = Some (recording a b d e f)
 read _ = None
 
 reads : (f : Form) → HasNames f → read (words_of f) ≡ Some f
@@ -23,6 +24,7 @@ reads version h = refl
 reads (order a) h = refl
 reads (check a b) h = refl
 reads (stubs a b) h = refl
+reads (recording a b d e f) h = refl
 reads (gen n a b) h = ap (λ m. Some (gen m a b)) (decimal_is_IsNumeral n (omega (arith, h.few))).1
 
 same_words : (f g : Form) → HasNames f → HasNames g → words_of f ≡ words_of g → f ≡ g
@@ -37,18 +39,20 @@ is_form_of words c d form is e same = subst (IsForm words) (ap form_of e ∙ sam
 
 -- words that have none of the forms, form by form
 no_form_of : (words : List (List ℕ)) → (IsForm words help → ⊥) → (IsForm words version → ⊥) → ((log : List ℕ) → IsForm words (order log) → ⊥) → ((src cut : List ℕ) → IsForm words (check src cut) → ⊥)
-    → ((src cut : List ℕ) → IsForm words (stubs src cut) → ⊥) → ((n : ℕ) (src sys : List ℕ) → IsForm words (gen n src sys) → ⊥) → IsUsage words
-no_form_of words a b d e f g help is = a is
-no_form_of words a b d e f g version is = b is
-no_form_of words a b d e f g (order log) is = d log is
-no_form_of words a b d e f g (check src cut) is = e src cut is
-no_form_of words a b d e f g (stubs src cut) is = f src cut is
-no_form_of words a b d e f g (gen n src sys) is = g n src sys is
+    → ((src cut : List ℕ) → IsForm words (stubs src cut) → ⊥) → ((src cut sys log rep : List ℕ) → IsForm words (recording src cut sys log rep) → ⊥)
+    → ((n : ℕ) (src sys : List ℕ) → IsForm words (gen n src sys) → ⊥) → IsUsage words
+no_form_of words a b d e f r g help is = a is
+no_form_of words a b d e f r g version is = b is
+no_form_of words a b d e f r g (order log) is = d log is
+no_form_of words a b d e f r g (check src cut) is = e src cut is
+no_form_of words a b d e f r g (stubs src cut) is = f src cut is
+no_form_of words a b d e f r g (gen n src sys) is = g n src sys is
+no_form_of words a b d e f r g (recording src cut sys log rep) is = r src cut sys log rep is
 
 pub is_usage : {T : Type 0} (words : List (List ℕ)) (result : Option T) → (IsForm words help → ⊥) → (IsForm words version → ⊥) → ((log : List ℕ) → IsForm words (order log) → ⊥)
-    → ((src cut : List ℕ) → IsForm words (check src cut) → ⊥) → ((src cut : List ℕ) → IsForm words (stubs src cut) → ⊥) → IfNone result ((n : ℕ) (src sys : List ℕ) → IsForm words (gen n src sys) → ⊥) → IfNone result (IsUsage words)
-is_usage words None a b d e f g = no_form_of words a b d e f g
-is_usage words (Some x) a b d e f g = tt
+    → ((src cut : List ℕ) → IsForm words (check src cut) → ⊥) → ((src cut : List ℕ) → IsForm words (stubs src cut) → ⊥) → ((src cut sys log rep : List ℕ) → IsForm words (recording src cut sys log rep) → ⊥) → IfNone result ((n : ℕ) (src sys : List ℕ) → IsForm words (gen n src sys) → ⊥) → IfNone result (IsUsage words)
+is_usage words None a b d e f r g = no_form_of words a b d e f r g
+is_usage words (Some x) a b d e f r g = tt
 
 -- a name among these
 pub in_has : (names : List (List ℕ)) (n : List ℕ) → In n names → has names n ≡ true

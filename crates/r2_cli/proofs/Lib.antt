@@ -5,3 +5,4 @@ pub mod CommandLemmas
 pub mod CauseLemmas
 pub mod RunLemmas
 pub mod Rounds
+pub mod Recordings

@@ -31,6 +31,17 @@ four_items (a ∷ b ∷ d ∷ e ∷ []) x y z w some few is it at last =
     ap (λ k. k ∷ b ∷ d ∷ e ∷ []) (sym is) ∙ ap (λ k. x ∷ k ∷ d ∷ e ∷ []) (sym it) ∙ ap (λ k. x ∷ y ∷ k ∷ e ∷ []) (sym at) ∙ ap (λ k. x ∷ y ∷ z ∷ k ∷ []) (sym last)
 four_items (a ∷ b ∷ d ∷ e ∷ f ∷ fs) x y z w some few is it at last = absurd (omega arith)
 
+pub six_items : {A : Type 0} (xs : List A) (a b c d e f : A) → 6 ≤ length xs → length xs < 7 → a ≡ get_or xs 0 a → b ≡ get_or xs 1 b → c ≡ get_or xs 2 c → d ≡ get_or xs 3 d → e ≡ get_or xs 4 e → f ≡ get_or xs 5 f
+    → xs ≡ a ∷ b ∷ c ∷ d ∷ e ∷ f ∷ []
+six_items [] a b c d e f some few p q r s t u = absurd (omega arith)
+six_items (x ∷ []) a b c d e f some few p q r s t u = absurd (omega arith)
+six_items (x ∷ y ∷ []) a b c d e f some few p q r s t u = absurd (omega arith)
+six_items (x ∷ y ∷ z ∷ []) a b c d e f some few p q r s t u = absurd (omega arith)
+six_items (x ∷ y ∷ z ∷ w ∷ []) a b c d e f some few p q r s t u = absurd (omega arith)
+six_items (x ∷ y ∷ z ∷ w ∷ v ∷ []) a b c d e f some few p q r s t u = absurd (omega arith)
+six_items (x ∷ y ∷ z ∷ w ∷ v ∷ k ∷ []) a b c d e f some few p q r s t u = λ j. sym p j ∷ sym q j ∷ sym r j ∷ sym s j ∷ sym t j ∷ sym u j ∷ []
+six_items (x ∷ y ∷ z ∷ w ∷ v ∷ k ∷ l ∷ ls) a b c d e f some few p q r s t u = absurd (omega arith)
+
 pub one_word : {A B : Type 0} (f : A → B) (xs : List A) (x : A) (w : B) → 1 ≤ length xs → length xs < 2 → x ≡ get_or xs 0 x → f x ≡ w → map f xs ≡ w ∷ []
 one_word f xs x w some few is e = ap (map f) (one_item xs x some few is) ∙ ap (λ z. z ∷ []) e
 
@@ -46,6 +57,11 @@ pub four_words : {A B : Type 0} (f : A → B) (xs : List A) (x y z k : A) (w v u
     → f x ≡ w → f y ≡ v → f z ≡ u → f k ≡ t → map f xs ≡ w ∷ v ∷ u ∷ t ∷ []
 four_words f xs x y z k w v u t some few is it at last e d g h = ap (map f) (four_items xs x y z k some few is it at last)
     ∙ ap (λ n. n ∷ f y ∷ f z ∷ f k ∷ []) e ∙ ap (λ n. w ∷ n ∷ f z ∷ f k ∷ []) d ∙ ap (λ n. w ∷ v ∷ n ∷ f k ∷ []) g ∙ ap (λ n. w ∷ v ∷ u ∷ n ∷ []) h
+
+pub six_words : {A B : Type 0} (g : A → B) (xs : List A) (a b c d e f : A) (k l m n o p : B) → 6 ≤ length xs → length xs < 7 → a ≡ get_or xs 0 a → b ≡ get_or xs 1 b → c ≡ get_or xs 2 c → d ≡ get_or xs 3 d → e ≡ get_or xs 4 e → f ≡ get_or xs 5 f
+    → g a ≡ k → g b ≡ l → g c ≡ m → g d ≡ n → g e ≡ o → g f ≡ p → map g xs ≡ k ∷ l ∷ m ∷ n ∷ o ∷ p ∷ []
+six_words g xs a b c d e f k l m n o p some few h i q r s t u v w x y z =
+    ap (map g) (six_items xs a b c d e f some few h i q r s t) ∙ (λ j. u j ∷ v j ∷ w j ∷ x j ∷ y j ∷ z j ∷ [])
 
 pub same_bytes : (a b : List ℕ) → bytes_eq a b ≡ true → a ≡ b
 same_bytes a b e = (bytes_eq-Decides a b).0 e

@@ -14,8 +14,9 @@ use Rattle.r2_cli_outcome.specs.declared.plan.End.{End}
 use Rattle.r2_cli_outcome.specs.declared.plan.End.TheVariants.{NoMemory}
 use Rattle.r2_cli_outcome.specs.declared.status.Status.TheVariants.{Findings}
 use Rattle.r2_cli_outcome.specs.Outcome.{Outcome, printed}
-use Rattle.r2_cli_outcome.specs.Reading.{Of}
-use Rattle.r2_cli_outcome.specs.Stages.{passed, ended}
+use Rattle.r2_cli_outcome.specs.Reading.{Of, Reading}
+use Rattle.r2_cli_outcome.specs.Stages.{passed, ended, on}
+use Rattle.r2_cli_outcome.specs.Input as input
 use Rattle.r2_cli_outcome.specs.Input.{Input}
 use Rattle.r2_cli_outcome.specs.Plans.{EndsAs, IsEnd}
 use Rattle.r2_cli_outcome.proofs.StageLemmas.{is_refused}
@@ -75,3 +76,7 @@ pub one_stubs_of : (cut bytes : List ℕ) → IsOne SameOutcome (StubsOf cut byt
 one_stubs_of cut bytes (passed x) (passed y) (printed_as a) (printed_as b) = one_stubs a b
 one_stubs_of cut bytes (passed x) (ended o) a b = elim b [ ]
 one_stubs_of cut bytes (ended o) b a c = elim a [ ]
+
+-- in what is passed on nothing is found
+pub none_found : (reading : Reading) (src cut bytes : List ℕ) → source reading src cut (passed bytes) → LinesOf bytes cut []
+none_found reading src cut bytes (on {a = text} (input.read there short) (stage.accepted none)) = none

@@ -1,5 +1,5 @@
 -- When each status comes.
-use Rattle.std.specs.Prelude.{◌≡◌, ◌≢◌, ◌≤◌, ◌<◌, ℕ, List, [], true, false, Some, None, length}
+use Rattle.std.specs.Prelude.{◌≡◌, ◌≢◌, ◌≤◌, ◌<◌, ℕ, List, [], true, false, Option, Some, None, length}
 use Rattle.cut_check.specs.Lines.{LinesOf}
 use Rattle.front_end.specs.Sources.{IsWrong}
 use Rattle.front_end.specs.declared.error.SourceError.TheVariants as errors
@@ -9,13 +9,22 @@ use Rattle.log_closure.specs.Events.{Part, In}
 use Rattle.r2_base.specs.Causes.{Rose}
 use Rattle.r2_base.specs.Seen.{Contents}
 use Rattle.r2_cli_outcome.specs.declared.status.Status.{Status}
-use Rattle.r2_cli_outcome.specs.declared.status.Status.TheVariants.{Done, Findings, Usage, Source, Short, BadLog, ReadFault, WriteFault, Limit, NoMemory}
+use Rattle.r2_cli_outcome.specs.declared.status.Status.TheVariants.{Done, Findings, Usage, Source, System, Fault, Breach, Halted, Short, BadLog, ReadFault, WriteFault, Limit, NoMemory}
 use Rattle.r2_cli_outcome.specs.World.{World}
 use Rattle.r2_cli_outcome.specs.Outcome.{Target}
 use Rattle.r2_cli_outcome.specs.Reading.{AreOf}
 use Rattle.r2_cli_outcome.specs.Left.{faults_at}
 use Rattle.r2_cli_outcome.specs.Log.{IsLogPart, IsBadLog}
-use Rattle.r2_cli.specs.Words.{Form, help, version, order, check, stubs, gen, IsForm, IsUsage, source_of, log_of, inputs_of}
+use Rattle.front_end.specs.declared.source.CheckedSource.{CheckedSource}
+use Rattle.front_end.specs.Answers.{IsAccepted}
+use Rattle.sys_script_lines.specs.Scripts.{Breaks}
+use Rattle.c_code.specs.Machine.{Flat}
+use Rattle.whole_runs.specs.declared.ending.Ending.TheVariants as endings
+use Rattle.whole_runs.specs.declared.ending.Halt.{Halt}
+use Rattle.whole_runs.specs.Recorded.{Told}
+use Rattle.recorded_outcome.specs.Recorded.{IsRecordingOf}
+use Rattle.recorded_outcome.specs.Stages.{script_for}
+use Rattle.r2_cli.specs.Words.{Form, help, version, order, check, stubs, gen, recording, IsForm, IsUsage, source_of, log_of, system_of, inputs_of}
 
 -- the command reads a log of at most 67,108,864 bytes, and this is what it holds
 pub record ReadsLog (contents : Contents) (form : Form) (bytes : List ℕ) : Type 0 where
@@ -31,8 +40,27 @@ pub record ReadsSource (contents : Contents) (form : Form) (bytes cut : List ℕ
   pub there : contents name ≡ Some bytes
   pub short : length bytes ≤ 1048576
 
+-- the command reads a system file of at most 1,048,576 bytes, and this is what it holds
+pub record ReadsSystem (contents : Contents) (form : Form) (script : List ℕ) : Type 0 where
+  pub name : List ℕ
+  pub is_system : system_of form ≡ Some name
+  pub there : contents name ≡ Some script
+  pub short : length script ≤ 1048576
+
+-- the command reads a right source in which nothing is found, and a system file, and this is what the run that it
+-- records is told of
+pub record Records (contents : Contents) (form : Form) (told : Told) : Type 0 where
+  pub bytes : List ℕ
+  pub cut : List ℕ
+  pub script : List ℕ
+  pub code : Flat
+  pub source : ReadsSource contents form bytes cut
+  pub right : LinesOf bytes cut []
+  pub system : ReadsSystem contents form script
+  pub of : IsRecordingOf bytes cut script code told
+
 -- the command's job is complete: of a log that it reads, the whole is there; a source that it reads is
--- right, and nothing is found in it
+-- right, and nothing is found in it; in a run that it records all threads end
 abbrev pub IsComplete : Contents → Form → Type 0
 IsComplete contents help = Unit {0}
 IsComplete contents version = Unit {0}
@@ -43,6 +71,8 @@ IsComplete contents (check src cut) = (bytes : List ℕ) × ReadsSource contents
 IsComplete contents (stubs src cut) = (bytes : List ℕ) × ReadsSource contents (stubs src cut) bytes cut ×
     LinesOf bytes cut []
 IsComplete contents (gen rounds src sys) = Unit {0}
+IsComplete contents (recording src cut sys log rep) = (told : Told) ×
+    Records contents (recording src cut sys log rep) told × (told.ending ≡ endings.Done)
 
 -- what an input file holds exceeds its limit
 pub data IsTooLong (contents : Contents) (form : Form) : Type 0 where
@@ -50,6 +80,8 @@ pub data IsTooLong (contents : Contents) (form : Form) : Type 0 where
       67108864 < length bytes → IsTooLong contents form
   long_source : {name cut bytes : List ℕ} → source_of form ≡ Some (name, cut) →
       contents name ≡ Some bytes → 1048576 < length bytes → IsTooLong contents form
+  long_system : {name bytes : List ℕ} → system_of form ≡ Some name → contents name ≡ Some bytes →
+      1048576 < length bytes → IsTooLong contents form
 
 -- when each status comes, by the words and what the names hold, or by a count of faults that rose in the
 -- call
@@ -64,6 +96,16 @@ pub data Cause (words : List (List ℕ)) (contents : Contents) (old new : World)
       Cause words contents old new Source
   no_cut : {form : Form} {bytes cut : List ℕ} → IsForm words form → ReadsSource contents form bytes cut →
       IsWrong bytes cut errors.NoSuchCut → Cause words contents old new Source
+  bad_system : {form : Form} {bytes cut script : List ℕ} {c : CheckedSource} {n : ℕ} → IsForm words form →
+      ReadsSource contents form bytes cut → ReadsSystem contents form script → IsAccepted bytes cut c →
+      script_for c script ≡ Breaks n → Cause words contents old new System
+  fault : {form : Form} {told : Told} {kind thread : ℕ} → IsForm words form → Records contents form told →
+      told.ending ≡ endings.Fault kind thread → Cause words contents old new Fault
+  breach : {form : Form} {told : Told} {kind thread addr : ℕ} {other : Option ℕ} → IsForm words form →
+      Records contents form told → told.ending ≡ endings.Breach kind thread addr other →
+      Cause words contents old new Breach
+  halted : {form : Form} {told : Told} {why : Halt} → IsForm words form → Records contents form told →
+      told.ending ≡ endings.Halted why → Cause words contents old new Halted
   short : {form : Form} {bytes : List ℕ} {part : Part} → IsForm words form → ReadsLog contents form bytes →
       IsLogPart bytes part → part.whole ≡ false → Cause words contents old new Short
   bad_log : {form : Form} {bytes fault : List ℕ} → IsForm words form → ReadsLog contents form bytes →

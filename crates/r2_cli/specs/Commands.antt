@@ -14,8 +14,10 @@ use Rattle.r2_cli_outcome.specs.Reading.{Reading, Of, AreOf}
 use Rattle.r2_cli_outcome.specs.Stages.{Answer, Stage, Only, Comes, passed, ◌>>=◌}
 use Rattle.r2_cli_outcome.specs.Log.{log}
 use Rattle.r2_cli.specs.declared.help.TheConstants.{HELP, VERSION}
+use Rattle.recorded_outcome.specs.Stages.{RecordingOf}
 use Rattle.r2_cli.specs.Source.{source, source_words}
-use Rattle.r2_cli.specs.Words.{Form, help, version, order, check, stubs, gen, IsForm, IsUsage}
+use Rattle.r2_cli.specs.System.{system}
+use Rattle.r2_cli.specs.Words.{Form, help, version, order, check, stubs, gen, recording, IsForm, IsUsage}
 
 -- the events are printed, of a whole log or of one that is cut short
 abbrev pub order_outcome : Bool → List LogEvent → Outcome
@@ -49,6 +51,10 @@ command reading (stubs src cut) = do
   text ← StubsOf cut accepted
   Only (passed (printed Done text []))
 command reading (gen rounds src sys) = Only (passed (generated rounds src sys))
+command reading (recording src cut sys log rep) = do
+  bytes ← source reading src cut
+  script ← system reading sys cut bytes
+  RecordingOf log rep cut bytes script
 
 -- the outcome of the words: that of the command whose form they have, or else Usage
 pub data IsOutcome (reading : List ℕ → Option (List ℕ) → Type 0) (words : List (List ℕ)) : Outcome →

@@ -1,5 +1,6 @@
 pub mod Words
 pub mod Forms
 pub mod Source
+pub mod System
 pub mod Commands
 pub mod Causes

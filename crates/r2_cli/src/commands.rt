@@ -9,20 +9,23 @@ ghost use Rattle.r2_cli_outcome.specs.Outcome.{file, printed};
 ghost use Rattle.r2_cli_outcome.specs.Reading.{Sees};
 ghost use Rattle.r2_cli_outcome.specs.Stages.{Only, passed};
 ghost use Rattle.r2_cli_outcome.specs.Plans.{Answers, IsPlanned, outcome_of, write_of};
-ghost use Rattle.r2_cli.specs.Words.{texts_of, order, check, stubs};
+ghost use Rattle.r2_cli.specs.Words.{texts_of, order, check, stubs, recording};
 ghost use Rattle.generated_files.specs.Source.{source_text};
 ghost use Rattle.r2_cli.specs.Commands.{command, generated, order_outcome, IsOutcome};
 
 use crate::forms::{Command, command_of};
 use crate::help::{HELP, VERSION};
 use crate::source::source;
+use crate::system::system;
 use cut_check::stubs_text;
 use front_end::CheckedSource;
 use generated_files::SYSTEM;
 use log_closure::Closed;
 use r2_base::Files;
 use r2_cli_outcome::{End, Plan, Status, Target, Text, Write, line, log, print, refused};
+use recorded_outcome::recorded_plan;
 use std::alloc::{AllocError, Global};
+use whole_runs_sources::accepted_sources_have_few_functions;
 
 /// The plan that prints the text.
 fn printed(alloc: Global, text: &str) -> Result<Plan, AllocError>
@@ -127,6 +130,29 @@ fn generate(alloc: Global, rounds: u32, src: &str, sys: &str) -> Result<Plan, En
     })
 }
 
+fn record<F: Files>(
+    alloc: Global,
+    files: &mut F,
+    src: &str,
+    cut: &str,
+    sys: &str,
+    log: &str,
+    rep: &str,
+) -> Result<Plan, End>
+    ensures only { OnlyReads (F.seen files.old) (F.seen files.new) }
+    ensures answers { Answers outcome_of
+        (command (Sees (F.seen files.old)) (recording src.now cut.now sys.now log.now rep.now))
+        (F.seen files.old).read_faults (F.seen files.new).read_faults result }
+{
+    accepted_sources_have_few_functions();
+    let accepted = source(alloc, files, src, cut)?;
+    let system = system(alloc, files, sys, &accepted.source)?;
+    let plan = recorded_plan(alloc, log, rep, &accepted.source, &system.file);
+    drop(accepted);
+    drop(system);
+    Ok(plan?)
+}
+
 /// What the words come to.
 pub fn planned<F: Files>(alloc: Global, words: &[String], files: &mut F) -> Result<Plan, End>
     ensures only { OnlyReads (F.seen files.old) (F.seen files.new) }
@@ -147,5 +173,12 @@ pub fn planned<F: Files>(alloc: Global, words: &[String], files: &mut F) -> Resu
             source,
             system,
         } => generate(alloc, rounds, source, system),
+        Command::Record {
+            source,
+            cut,
+            system,
+            log,
+            report,
+        } => record(alloc, files, source, cut, system, log, report),
     }
 }

@@ -1,7 +1,7 @@
 //! The command line.
 
-ghost use Rattle.std.specs.Prelude.{◌≡◌, ◌≤◌, ℕ, List, IfNone, IfSome, decimal};
-ghost use Rattle.r2_cli.specs.Words.{texts_of, IsForm, IsUsage, CanGenerate, help, version, order, check, stubs, gen};
+ghost use Rattle.std.specs.Prelude.{◌≡◌, ◌≤◌, ℕ, List, IfNone, IfSome, decimal, false, true};
+ghost use Rattle.r2_cli.specs.Words.{texts_of, IsForm, IsUsage, CanGenerate, CanRecord, help, version, order, check, stubs, gen, recording};
 ghost use Rattle.r2_cli.specs.Forms.{form_of};
 
 use r2_base::read_dec;
@@ -29,6 +29,13 @@ pub enum Command<'a> {
         rounds: u32,
         source: &'a str,
         system: &'a str,
+    },
+    Record {
+        source: &'a str,
+        cut: &'a str,
+        system: &'a str,
+        log: &'a str,
+        report: &'a str,
     },
 }
 
@@ -148,6 +155,82 @@ fn generate_form(words: &[String]) -> Option<Command<'_>>
     }
 }
 
+/// Whether these are the names of four files.
+fn can_record(source: &str, system: &str, log: &str, report: &str) -> bool
+    ensures yes { result ≡ true → CanRecord source.now system.now log.now report.now }
+    ensures no { result ≡ false → CanRecord source.now system.now log.now report.now → ⊥ }
+{
+    if source.is_empty() {
+        return false;
+    }
+    if system.is_empty() {
+        return false;
+    }
+    if log.is_empty() {
+        return false;
+    }
+    if report.is_empty() {
+        return false;
+    }
+    if source == system {
+        return false;
+    }
+    if source == log {
+        return false;
+    }
+    if source == report {
+        return false;
+    }
+    if system == log {
+        return false;
+    }
+    if system == report {
+        return false;
+    }
+    log != report
+}
+
+/// The recording, where the four names are names of four files.
+fn recorded<'a>(
+    source: &'a str,
+    cut: &'a str,
+    system: &'a str,
+    log: &'a str,
+    report: &'a str,
+) -> Option<Command<'a>>
+    ensures form { IfSome result (λ c. (form_of c ≡ recording source.now cut.now system.now log.now report.now)
+        × CanRecord source.now system.now log.now report.now) }
+    ensures none { IfNone result (CanRecord source.now system.now log.now report.now → ⊥) }
+{
+    if !can_record(source, system, log, report) {
+        return None;
+    }
+    Some(Command::Record {
+        source,
+        cut,
+        system,
+        log,
+        report,
+    })
+}
+
+fn record_form(words: &[String]) -> Option<Command<'_>>
+    ensures form { IfSome result (λ c. IsForm (texts_of words.now) (form_of c)) }
+    ensures none { IfNone result ((src cut sys log rep : List ℕ) →
+        IsForm (texts_of words.now) (recording src cut sys log rep) → ⊥) }
+{
+    match words {
+        [word, source, cut, system, log, report] if word.as_str() == "record" => recorded(
+            source.as_str(),
+            cut.as_str(),
+            system.as_str(),
+            log.as_str(),
+            report.as_str(),
+        ),
+        _ => None,
+    }
+}
+
 /// The command that the words say; None where they have none of the forms.
 pub fn command_of(words: &[String]) -> Option<Command<'_>>
     ensures form { IfSome result (λ c. IsForm (texts_of words.now) (form_of c)) }
@@ -166,6 +249,9 @@ pub fn command_of(words: &[String]) -> Option<Command<'_>>
         return Some(command);
     }
     if let Some(command) = stubs_form(words) {
+        return Some(command);
+    }
+    if let Some(command) = record_form(words) {
         return Some(command);
     }
     generate_form(words)

@@ -7,6 +7,7 @@ mod help;
 mod running;
 mod source;
 mod source_words;
+mod system;
 
 pub use r2_cli_outcome::Status;
 pub use running::run;

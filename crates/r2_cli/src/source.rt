@@ -88,6 +88,7 @@ fn unless_found(alloc: Global, found: Vec<u8>) -> Result<(), End>
 fn source_of(alloc: Global, bytes: Vec<u8>, cut: &str) -> Result<AcceptedSource, End>
     requires { length bytes.items ≤ 1048576 }
     ensures accepted { IfOk result (λ s. IsAccepted s.bytes.items cut.now s.source) }
+    ensures short { IfOk result (λ s. length s.bytes.items ≤ 1048576) }
     ensures answers { Answers (λ s. s.bytes.items) (SourceOf cut.now bytes.items) 0 0 result }
 {
     let source = checked(alloc, &bytes, cut)?;
@@ -105,6 +106,7 @@ pub fn source<F: Files>(
 ) -> Result<AcceptedSource, End>
     ensures only { OnlyReads (F.seen files.old) (F.seen files.new) }
     ensures accepted { IfOk result (λ s. IsAccepted s.bytes.items cut.now s.source) }
+    ensures short { IfOk result (λ s. length s.bytes.items ≤ 1048576) }
     ensures answers { Answers (λ s. s.bytes.items) (source (Sees (F.seen files.old)) name.now cut.now)
         (F.seen files.old).read_faults (F.seen files.new).read_faults result }
 {

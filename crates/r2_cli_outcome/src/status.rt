@@ -14,6 +14,14 @@ pub enum Status {
     Usage,
     /// The source breaks a rule, or no declaration names the cut.
     Source,
+    /// A line of the system file is wrong.
+    System,
+    /// The run that was recorded met a fault.
+    Fault,
+    /// The run that was recorded stopped before a breach.
+    Breach,
+    /// The run that was recorded was halted.
+    Halted,
     /// The log is a proper prefix of a log text. Its closed part was printed.
     Short,
     /// The bytes of the log, or the order of its events, are wrong.
@@ -38,6 +46,10 @@ impl Status {
             Status::Findings => 1,
             Status::Usage => 2,
             Status::Source => 3,
+            Status::System => 4,
+            Status::Fault => 5,
+            Status::Breach => 6,
+            Status::Halted => 7,
             Status::Short => 8,
             Status::BadLog => 9,
             Status::ReadFault => 11,

@@ -1,6 +1,6 @@
 //! What a call of a builtin or external is given.
 
-ghost use Rattle.std.specs.Prelude.{◌≡◌, ◌+◌, ◌<◌, length, IfErr, OnOk, Some, slice_get};
+ghost use Rattle.std.specs.Prelude.{◌≡◌, ◌+◌, IfErr, OnOk};
 ghost use Rattle.marks.specs.declared.side.Side.TheVariants.{Replay};
 ghost use Rattle.recorder_threads.specs.declared.wants.Want.TheVariants as wants;
 ghost use Rattle.recorder_state.specs.Inputs.{world_of};

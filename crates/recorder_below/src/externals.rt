@@ -1,6 +1,6 @@
 //! Externals.
 
-ghost use Rattle.std.specs.Prelude.{◌+◌, ◌<◌, ◌≡◌, None, Some, length, slice_get, IfErr, OnOk};
+ghost use Rattle.std.specs.Prelude.{◌+◌, ◌≡◌, None, IfErr, OnOk};
 ghost use Rattle.marks.specs.declared.side.Side.TheVariants.{System};
 ghost use Rattle.whole_runs.specs.Outcomes.{builtin_of};
 ghost use Rattle.recorder_threads.specs.declared.wants.Want.TheVariants as want;

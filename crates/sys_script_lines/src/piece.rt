@@ -16,11 +16,12 @@ use system_side::AnswersSoFar;
 fn hex_digit(byte: u8) -> Option<u8>
     ensures { result ≡ hex_digit byte }
 {
-    match byte {
-        b'0'..=b'9' => Some(byte - b'0'),
-        b'a'..=b'f' => Some(byte - b'a' + 10),
-        _ => None,
+    let digit = byte.wrapping_sub(b'0');
+    if digit < 10 {
+        return Some(digit);
     }
+    let letter = byte.wrapping_sub(b'a');
+    if letter < 6 { Some(letter + 10) } else { None }
 }
 
 /// The byte that two digits spell, the high one first.
@@ -42,7 +43,7 @@ fn hex_bytes(alloc: Global, digits: &[u8]) -> Result<Vec<u8>, Wrong>
         let Some(byte) = hex_byte(*high, *low) else {
             return Err(Wrong::Text);
         };
-        bytes.push(byte)?;
+        bytes.push_reserved(byte);
         rest = after;
     }
     if rest.is_empty() {

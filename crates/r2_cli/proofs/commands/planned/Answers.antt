@@ -1,6 +1,6 @@
 use Rattle.std.proofs.Common.{refl}
 use Rattle.r2_cli_outcome.proofs.StageLemmas.{plans, plans_refusal, read_nothing}
-use Rattle.r2_cli.specs.Words.{help, version, order, check, stubs, gen}
+use Rattle.r2_cli.specs.Words.{help, version, order, check, stubs, gen, recording}
 use Rattle.r2_cli.specs.Commands.{no_form, formed}
 use Rattle.r2_cli.proofs.FormLemmas.{is_form_of}
 use Rattle.r2_cli.proofs.commands.planned.Goals as goal
@@ -32,3 +32,8 @@ pub returns-in-Generate-clause-planned : goal.returns-in-Generate-clause-planned
 returns-in-Generate-clause-planned g c =
     plans _ _ _ _ _ (λ o k. formed (gen c.in-Generate.rounds c.in-Generate.source.now c.in-Generate.system.now)
     (is_form_of _ _ _ (gen c.in-Generate.rounds c.in-Generate.source.now c.in-Generate.system.now) c.in-Some.ensures.form c.in-Generate.is refl) k) (read_nothing _ _ _ _ _ c.generate.ensures)
+
+pub returns-in-Record-clause-planned : goal.returns-in-Record-clause-planned
+returns-in-Record-clause-planned g c =
+    let form = recording c.in-Record.source.now c.in-Record.cut.now c.in-Record.system.now c.in-Record.log.now c.in-Record.report.now in
+    plans _ _ _ _ _ (λ o k. formed form (is_form_of _ _ _ form c.in-Some.ensures.form c.in-Record.is refl) k) c.record.ensures.answers

@@ -33,7 +33,7 @@ get-said-requires c =
 pub give_this-requires-in-Answer : goal.give_this-requires-in-Answer
 give_this-requires-in-Answer c =
     let q = told_so (world_of c.args.inputs) c.args.state.now c.args.thread c.args.func c.requires c.args-2.result.now c.given.result (shown.Answer c.in-Answer.place) c.args-2.ensures c.given.ensures c.in-Answer.is in
-    let same = same_answer q.0 (as_scripted c.get-said.result) (sym q.1 ∙ sym c.get-said.ensures) in
+    let same = same_answer q.0 (as_scripted c.get-said.result) (sym q.1 ∙ c.get-said.ensures) in
     let pieces = ap (λ (a : Scripted). a.pieces) same in
     record { at = c.requires; given_so = q.2 ∙ (λ j. Says (same j).result (pieces j)) }
 

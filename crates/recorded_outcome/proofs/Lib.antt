@@ -1,0 +1,9 @@
+pub mod SameStubs
+pub mod OneReport
+pub mod OneCode
+pub mod OneInterface
+pub mod OnePlaces
+pub mod OneSource
+pub mod OneRecording
+pub mod SystemLemmas
+pub mod PlacedLemmas
