@@ -1,5 +1,5 @@
 -- A Ret whose bytes are copied, and which is recorded.
-use Rattle.std.proofs.Common.{◌≡◌, ℕ, suc, ◌+◌, ◌^◌, ◌<◌, ◌≤◌, Bool, true, false, cond, ◌&&◌, List, [], ◌∷◌, ◌++◌, length, refl, sym, ap, ◌∙◌, subst, arith}
+use Rattle.std.proofs.Common.{◌≡◌, ℕ, suc, ◌+◌, ◌^◌, ◌<◌, ◌≤◌, Bool, true, false, cond, ◌&&◌, List, [], ◌∷◌, ◌++◌, length, Option, refl, sym, ap, ◌∙◌, subst, arith}
 use Rattle.std.proofs.lemmas.List.{length-map, length-reverse}
 use Rattle.std.specs.Prelude.{reverse, slice_index}
 use Rattle.std.specs.List.{AllByRecursion}
@@ -90,13 +90,15 @@ module _ (w : World) (s : RunState) (t f v : ℕ) (x : Answer) (r : IsReturning 
   used_sizes used is = ap length (is ∙ h.used) ∙ (sizes_count ((interface w).outs f args) ((interface w).used f args v) ((interface w).used f args v) r.ending.sizes ∙ (ap length (sym held_so.regions) ∙ length-map (outs_of (innermost s.memory.above.spaces.held t) s.memory.above.spaces.held.regions) (λ (g : Region). g.range)))
 
   -- what refuses it is want of memory, since its tests have passed
-  pub lack : (used : List ℕ) → used ≡ said.done.used → (refusal : StepRefusal) → RefusesReturn s.memory t used (committing_of (first_of said.done.commits)) refusal → refusal ≡ Memory
-  lack used is refusal refuses =
+  pub lack : (used : List ℕ) (k : Option (ℕ × ℕ)) → used ≡ said.done.used → k ≡ committing_of (first_of said.done.commits) → (refusal : StepRefusal) →
+      RefusesReturn s.memory t used k refusal → refusal ≡ Memory
+  lack used k is k_is refusal refuses =
       let u : used ≡ (interface w).used f args v = is ∙ h.used in
+      let c : k ≡ committing_of ((interface w).commits f args v) = k_is ∙ ap committing_of h.commit in
       let found : IsFound (ret_checks w r.past f args v r.answer) refusal =
       subst (λ us. RefusesReturn s.memory t us (committing_of ((interface w).commits f args v)) refusal) u
-      (subst (λ o. RefusesReturn s.memory t used (committing_of o) refusal) h.commit refuses) w r.past f args v r.answer r.answered
-      (subst (λ k. IsEnding w r.past k f args v ((interface w).used f args v) (committing_of ((interface w).commits f args v))) r.thread r.ending) in
+      (subst (λ o. RefusesReturn s.memory t used o refusal) c refuses) w r.past f args v r.answer r.answered
+      (subst (λ q. IsEnding w r.past q f args v ((interface w).used f args v) (committing_of ((interface w).commits f args v))) r.thread r.ending) in
       by refusal found
     where
       by : (q : StepRefusal) → IsFound (ret_checks w r.past f args v r.answer) q → q ≡ Memory

@@ -22,7 +22,7 @@ pub return_above-requires-clause-few : goal.return_above-requires-clause-few
 return_above-requires-clause-few c = c.requires.next.2.next.few
 
 pub lack_of_memory-requires : goal.lack_of_memory-requires
-lack_of_memory-requires c = lack _ c.args.state.now c.args.thread c.args.func _ _ c.requires.next.2.next c.args.returning.now c.requires.next.2.is_said c.used-used.result.now c.used-used.ensures c.in-Err.refusal c.in-Err.ensures.refused
+lack_of_memory-requires c = lack _ c.args.state.now c.args.thread c.args.func _ _ c.requires.next.2.next c.args.returning.now c.requires.next.2.is_said c.used-used.result.now c.commit.result c.used-used.ensures c.commit.ensures c.in-Err.refusal c.in-Err.ensures.refused
 
 pub make_event-requires-clause-coming : goal.make_event-requires-clause-coming
 make_event-requires-clause-coming c = coming_so _ c.args.state.now c.args.thread c.args.func _ _ c.args.returning.now c.args.ranges.now c.args.event c.requires.next.2 c.as_slice-keys.result.now c.as_slice-keys.ensures.value c.return_above.new.self
