@@ -1,14 +1,12 @@
 #!/usr/bin/env python3
 """Runs `PROGRAM record` on a loop of arithmetic and accesses, one of calls across the cut, one of blocks, and four threads that sum
-under a mutex (`gen`), and the same built by `gcc -O0`, natively and under Helgrind. Prints marks and events a second, the time over
-those of the others, each the best of a few runs, and the peak memory without the sizes of log and report. What a program
+under a mutex (`gen`), and the same built by `gcc -O0`, natively and under Helgrind. Prints marks and events a second of processor time,
+that time over those of the others, each the best of a few runs, and the peak memory without the sizes of log and report. What a program
 takes to start is part of each; the first line says how much that is."""
 import os
 import re
 import subprocess
 import sys
-
-from timing import timed
 
 RUNS = 3
 HERE = os.path.dirname(os.path.abspath(__file__))
@@ -59,6 +57,14 @@ LARGE = [
 ]
 
 
+def spent(words, out):
+    """The processor time, the exit status and the peak memory in bytes of a program."""
+    with open(out, "wb") as file:
+        child = subprocess.Popen(words, stdout=file, stderr=subprocess.DEVNULL)
+    _, status, usage = os.wait4(child.pid, 0)
+    return usage.ru_utime + usage.ru_stime, os.waitstatus_to_exitcode(status), usage.ru_maxrss * 1024
+
+
 def plain(source):
     """The source without its annotations."""
     return PROTOTYPES + re.sub(r"(?m)^(\[[a-z_]+\(\w+\)\] )+", "", source)
@@ -68,7 +74,7 @@ def best(words, printed):
     """The shortest of a few runs: its time, and the greatest peak of memory."""
     seconds, memory = float("inf"), 0
     for _ in range(RUNS):
-        took, status, peak = timed(words, printed)
+        took, status, peak = spent(words, printed)
         seconds, memory = min(seconds, took), max(memory, peak)
     return seconds, status, memory
 
@@ -133,7 +139,7 @@ def measure_large(program, name, source, system, wanted, scratch):
         with open(path, "w") as file:
             file.write(text)
     words = [program, "record", paths[0], "top", *paths[1:]]
-    seconds, status, memory = timed(words, os.path.join(scratch, "printed"))
+    seconds, status, memory = spent(words, os.path.join(scratch, "printed"))
     if status != wanted:
         sys.exit(f"{name}: record ended with {status}")
     sizes = sum(os.path.getsize(path) for path in paths[2:])
