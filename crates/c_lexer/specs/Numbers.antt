@@ -40,7 +40,7 @@ limit suffixes.UL decimal = 2 ^ 64
 
 -- a number that has a type
 unfoldable pub typed : Bool → ℕ → Suffix → Result Kind Fault
-typed decimal n suffix = if nat_lt n (limit suffix decimal) then Ok (kinds.Number n suffix decimal) else
+typed decimal n suffix = if nat_lt n (limit suffix decimal) then Ok (kinds.Number suffix decimal n) else
     Err BigNumber
 
 unfoldable pub suffixed : Bool → ℕ → Option Suffix → Result Kind Fault

@@ -1,15 +1,16 @@
 // What stands at a place of the source.
 
-ghost use Rattle.std.specs.Prelude.{◌≡◌, ◌≤◌, length, IfOk};
+ghost use Rattle.std.specs.Prelude.{◌≡◌, ◌≤◌, length, drop, IfOk, IfSome};
+ghost use Rattle.c_lexer.specs.declared.item.Item.TheVariants.{Skip};
 ghost use Rattle.c_lexer.specs.Signs.{sign_at};
 ghost use Rattle.c_lexer.specs.Items.{name_at, number_at, sign, token_at, item_of, item_at as item_seen};
 
 use crate::bytes::{Class, is_blank, is_digit, is_letter, run};
 use crate::gap::{read_comment, read_marker};
+use crate::names::Names;
 use crate::number::number_of;
 use crate::quoted::{read_character, read_string};
 use crate::spelling::{keyword_of, sign_of};
-use crate::text::Text;
 use crate::token::Kind;
 use std::alloc::{AllocError, Global};
 
@@ -42,14 +43,14 @@ pub enum Item {
 
 // A name or keyword: the run of letters, digits and `_` at the prefix.
 #[tactic(auto, unfolding(crate::specs::Items::name_at))]
-fn read_name(alloc: Global, bytes: &[u8]) -> Result<Item, AllocError>
+fn read_name(names: &mut Names, bytes: &[u8]) -> Result<Item, AllocError>
     ensures { IfOk result (λ x. x ≡ name_at bytes.now) }
 {
     let len = run(Class::Name, bytes);
     let (name, _) = bytes.split_at(len);
     let kind = match keyword_of(name) {
         Some(word) => Kind::Word(word),
-        None => Kind::Name(Text::from_slice(alloc, name)?),
+        None => Kind::Name(names.text_of(name)?),
     };
     Ok(Item::Token(len, kind))
 }
@@ -79,13 +80,13 @@ fn read_sign(bytes: &[u8]) -> Item
 
 // The token that begins with this byte.
 #[tactic(auto, unfolding(crate::specs::Items::token_at))]
-fn read_token(alloc: Global, first: u8, bytes: &[u8]) -> Result<Item, AllocError>
+fn read_token(alloc: Global, names: &mut Names, first: u8, bytes: &[u8]) -> Result<Item, AllocError>
     requires { 1 ≤ length bytes.now }
     ensures { IfOk result (λ x. x ≡ token_at first bytes.now) }
 {
     let (_, rest) = bytes.split_at(1);
     if is_letter(first) {
-        read_name(alloc, bytes)
+        read_name(names, bytes)
     } else if is_digit(first) {
         Ok(read_number(bytes))
     } else if first == b'\'' {
@@ -98,7 +99,13 @@ fn read_token(alloc: Global, first: u8, bytes: &[u8]) -> Result<Item, AllocError
 }
 
 #[tactic(auto, unfolding(crate::specs::Items::item_of))]
-fn read_item(alloc: Global, fresh: bool, first: u8, bytes: &[u8]) -> Result<Item, AllocError>
+fn read_item(
+    alloc: Global,
+    names: &mut Names,
+    fresh: bool,
+    first: u8,
+    bytes: &[u8],
+) -> Result<Item, AllocError>
     requires { 1 ≤ length bytes.now }
     ensures { IfOk result (λ x. x ≡ item_of fresh first bytes.now) }
 {
@@ -115,17 +122,36 @@ fn read_item(alloc: Global, fresh: bool, first: u8, bytes: &[u8]) -> Result<Item
     } else if fresh && first == b'#' {
         Ok(read_marker(bytes))
     } else {
-        read_token(alloc, first, bytes)
+        read_token(alloc, names, first, bytes)
     }
 }
 
 /// What stands at the prefix of the bytes, where `fresh` says that only blanks of a line that
 /// begins outside a comment stand before it.
-pub fn item_at(alloc: Global, fresh: bool, bytes: &[u8]) -> Result<Item, AllocError>
+pub fn item_at(
+    alloc: Global,
+    names: &mut Names,
+    fresh: bool,
+    bytes: &[u8],
+) -> Result<Item, AllocError>
     ensures { IfOk result (λ x. x ≡ item_seen fresh bytes.now) }
 {
     match bytes {
         [] => Ok(Item::Finished),
-        [first, ..] => read_item(alloc, fresh, *first, bytes),
+        [first, ..] => read_item(alloc, names, fresh, *first, bytes),
+    }
+}
+
+/// What is left after a space that stands at the prefix, and whether only blanks of a line then stand before it. `None` where
+/// something else than a space stands there, or the end.
+#[tactic(auto, unfolding(crate::specs::Items::item_of))]
+pub fn after_space(fresh: bool, bytes: &[u8]) -> Option<(bool, &[u8])>
+    ensures space { IfSome result (λ r. item_seen fresh bytes.now ≡ Skip 1 r.0) }
+    ensures rest { IfSome result (λ r. r.1.now ≡ drop 1 bytes.now) }
+{
+    match bytes {
+        [first, others @ ..] if is_blank(*first) => Some((fresh, others)),
+        [b'\n', others @ ..] => Some((true, others)),
+        _ => None,
     }
 }

@@ -7,7 +7,8 @@ ghost use Rattle.c_lexer.specs.Signs.{sign_at, IsLongest};
 ghost use Rattle.c_lexer.specs.Lexing.{IsTokens, IsLexError, Refuses, InOrder, HasReading, OneReading};
 
 use crate::error::LexError;
-use crate::item::{Item, item_at};
+use crate::item::{Item, after_space, item_at};
+use crate::names::Names;
 use crate::token::Token;
 use std::alloc::{AllocError, Global};
 
@@ -24,12 +25,19 @@ fn read_tokens(alloc: Global, source: &[u8]) -> Result<Vec<Token>, LexError>
     ensures places { IfOk result (λ v. InOrder 0 v.items (length source.now)) }
     ensures refused { IfErr result (Refuses source.now) }
 {
+    let mut names = Names::new(alloc)?;
     let mut tokens: Vec<Token> = Vec::new(alloc);
     let mut rest = source;
     let mut at: usize = 0;
     let mut fresh = true;
     loop {
-        match item_at(alloc, fresh, rest)? {
+        if let Some((line, others)) = after_space(fresh, rest) {
+            rest = others;
+            at += 1;
+            fresh = line;
+            continue;
+        }
+        match item_at(alloc, &mut names, fresh, rest)? {
             Item::Finished => return Ok(tokens),
             Item::Fault(fault, len) => return Err(LexError::new(fault, (at + len) as u32)),
             Item::Skip(len, line) => {

@@ -6,6 +6,7 @@ mod error;
 mod gap;
 mod item;
 mod lexing;
+mod names;
 mod number;
 mod quoted;
 mod spelling;

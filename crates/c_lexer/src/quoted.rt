@@ -58,7 +58,7 @@ pub fn read_string(alloc: Global, bytes: &[u8]) -> Result<Item, AllocError>
                 rest = rest.split_at(count).1;
                 len += count;
             }
-            Part::Close => return Ok(Item::Token(len + 2, Kind::Text(Text::from(values)))),
+            Part::Close => return Ok(Item::Token(len + 2, Kind::Text(Text::from_vec(values)?))),
             Part::Open => return Ok(Item::Fault(Fault::OpenText, 0)),
             Part::Bad => return Ok(Item::Fault(Fault::BadByte, len + 1)),
         }

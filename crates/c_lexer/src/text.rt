@@ -1,37 +1,49 @@
 // Bytes of a name or a string, which contracts see as a list.
 
 ghost use Rattle.std.specs.Prelude.{◌≡◌, ℕ, List, IfOk};
+ghost use Rattle.std.specs.Rc.{rc_slice_items};
 
 use std::alloc::{AllocError, Global};
 use std::marker::Model;
+use std::rc::RcSlice;
 
-/// The bytes of a name, or of a string without its ending zero.
+/// The bytes of a name, or of a string without its ending zero: once in memory, however many share them.
 #[derive(Drop)]
 pub struct Text {
-    bytes: Vec<u8>,
+    bytes: RcSlice<u8>,
 }
 
 impl Model for Text {
     ghost Value = { List ℕ };
 
-    ghost view = { λ t. t.bytes.items };
-}
-
-impl From<Vec<u8>> for Text {
-    ghost from_gives = { λ v t. t ≡ v.items };
-
-    fn from(bytes: Vec<u8>) -> Self {
-        Text { bytes }
-    }
+    ghost view = { λ t. rc_slice_items t.bytes };
 }
 
 impl Text {
-    /// A text of these bytes, which are copied.
+    /// A text of these bytes. `AllocError` where there is no memory.
+    pub fn from_vec(bytes: Vec<u8>) -> Result<Text, AllocError>
+        ensures bytes { IfOk result (λ t. t ≡ bytes.items) }
+    {
+        Ok(Text {
+            bytes: RcSlice::from_vec(bytes)?,
+        })
+    }
+
+    /// A text of these bytes, which are copied. `AllocError` where there is no memory.
     pub fn from_slice(alloc: Global, bytes: &[u8]) -> Result<Text, AllocError>
         ensures bytes { IfOk result (λ t. t ≡ bytes.now) }
     {
         Ok(Text {
-            bytes: Vec::from_slice(alloc, bytes)?,
+            bytes: RcSlice::from_slice(alloc, bytes)?,
+        })
+    }
+
+    /// The same text once more, without a copy. `AllocError` where 2^64 - 1 share its bytes.
+    pub fn share(&self) -> Result<Text, AllocError>
+        ensures bytes { IfOk result (λ t. t ≡ self.now) }
+    {
+        Ok(Text {
+            bytes: self.bytes.clone()?,
         })
     }
 
@@ -40,12 +52,5 @@ impl Text {
         ensures bytes { result.now ≡ self.now }
     {
         self.bytes.as_slice()
-    }
-
-    /// Its bytes as the `Vec` that it was made from.
-    pub fn into_vec(self) -> Vec<u8>
-        ensures bytes { result.items ≡ self }
-    {
-        self.bytes
     }
 }

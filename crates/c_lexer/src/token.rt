@@ -158,9 +158,9 @@ pub enum Kind {
     Word(Word),
     /// A number, which is `decimal` unless it begins with `0`.
     Number {
-        value: u64,
         suffix: Suffix,
         decimal: bool,
+        value: u64,
     },
     /// A character, by its value as a signed char.
     Char(i8),

@@ -97,7 +97,7 @@ IsNumber (Err fault) = Unit {0}
 
 typed_number : (decimal : Bool) (n : ℕ) (suffix : Suffix) → IsNumber (typed decimal n suffix)
 unfolding typed
-typed_number decimal n suffix = either_arm IsNumber _ (Ok (kinds.Number n suffix decimal)) (Err BigNumber) refl tt
+typed_number decimal n suffix = either_arm IsNumber _ (Ok (kinds.Number suffix decimal n)) (Err BigNumber) refl tt
 
 suffixed_number : (decimal : Bool) (n : ℕ) (suffix : Option Suffix) → IsNumber (suffixed decimal n suffix)
 unfolding suffixed
@@ -175,7 +175,7 @@ item_spells fresh (b ∷ bs) = item_of_spells fresh b (b ∷ bs)
 one_more : (k : Kind) (rest : List (List ℕ)) (n m : ℕ) → Spells n k → spelled rest ≤ m → spelled (if_string k rest) ≤ n + m
 one_more (kinds.Name name) rest n m h le = omega arith
 one_more (kinds.Word word) rest n m h le = omega arith
-one_more (kinds.Number value suffix decimal) rest n m h le = omega arith
+one_more (kinds.Number suffix decimal value) rest n m h le = omega arith
 one_more (kinds.Char value) rest n m h le = omega arith
 one_more (kinds.Text bytes) rest n m h le = omega arith
 one_more (kinds.Sign s) rest n m h le = omega arith

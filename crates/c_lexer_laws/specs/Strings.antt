@@ -7,7 +7,7 @@ use Rattle.c_lexer.specs.declared.token.Token.{Token}
 abbrev pub if_string : Kind → List (List ℕ) → List (List ℕ)
 if_string (kinds.Name name) rest = rest
 if_string (kinds.Word word) rest = rest
-if_string (kinds.Number value suffix decimal) rest = rest
+if_string (kinds.Number suffix decimal value) rest = rest
 if_string (kinds.Char value) rest = rest
 if_string (kinds.Text bytes) rest = bytes ∷ rest
 if_string (kinds.Sign sign) rest = rest

@@ -25,3 +25,4 @@ pub mod LessDeclr
 pub mod LessSource
 pub mod Less
 pub mod Exact
+pub mod Newest

@@ -216,7 +216,7 @@ pub atom_name : {t : Token} {n : List ℕ} {ts : List Token} {P : List Piece} {K
 unfolding step give_next take_next read_next atom
 atom_name e0 r = go (rw e0 r)
 
-pub atom_number : {t : Token} {val_n : ℕ} {sf : Suffix} {de : Bool} {ts : List Token} {P : List Piece} {K : List Frame} {s : TState} → t.kind ≡ kinds.Number val_n sf de → Reaches (tstate nx.AtomDone (PAtom (NumberAtom val_n) ∷ P) ts K) s → Reaches (tstate nx.Atom P (t ∷ ts) K) s
+pub atom_number : {t : Token} {val_n : ℕ} {sf : Suffix} {de : Bool} {ts : List Token} {P : List Piece} {K : List Frame} {s : TState} → t.kind ≡ kinds.Number sf de val_n → Reaches (tstate nx.AtomDone (PAtom (NumberAtom val_n) ∷ P) ts K) s → Reaches (tstate nx.Atom P (t ∷ ts) K) s
 unfolding step give_next take_next read_next atom
 atom_number e0 r = go (rw e0 r)
 

@@ -26,7 +26,7 @@ pub name_move : {t : Token} {n : List ℕ} {ts : List Token} {P : List Piece} {K
 unfolding step give_next take_next read_next start
 name_move e0 r = go (rw e0 r)
 
-pub number_move : {t : Token} {val_n : ℕ} {sf : Suffix} {de : Bool} {ts : List Token} {P : List Piece} {K : List Frame} {s : TState} → t.kind ≡ kinds.Number val_n sf de → Reaches (tstate (nx.After t.from) (PExpr (Number t.from val_n sf de) ∷ P) ts K) s → Reaches (tstate nx.Operand P (t ∷ ts) K) s
+pub number_move : {t : Token} {val_n : ℕ} {sf : Suffix} {de : Bool} {ts : List Token} {P : List Piece} {K : List Frame} {s : TState} → t.kind ≡ kinds.Number sf de val_n → Reaches (tstate (nx.After t.from) (PExpr (Number t.from val_n sf de) ∷ P) ts K) s → Reaches (tstate nx.Operand P (t ∷ ts) K) s
 unfolding step give_next take_next read_next start
 number_move e0 r = go (rw e0 r)
 

@@ -107,7 +107,7 @@ module _ (all : List Token) where
   pub good_start : (t : Token) (P : List Piece) (ts : List Token) (K : List Frame) → Wants all P K (t ∷ ts) → (k : Kind) → t.kind ≡ k → Good all (run (start k t.from ts K) P)
   unfolding start
   good_start t P ts K h (kinds.Name n) e = (Name t.from n, t ∷ ts, P, refl, refl, g.name e, h)
-  good_start t P ts K h (kinds.Number v x d) e = (Number t.from v x d, t ∷ ts, P, refl, refl, g.number e, h)
+  good_start t P ts K h (kinds.Number x d v) e = (Number t.from v x d, t ∷ ts, P, refl, refl, g.number e, h)
   good_start t P ts K h (kinds.Char v) e = (Char t.from v, t ∷ ts, P, refl, refl, g.char e, h)
   good_start t P ts K h (kinds.Text n) e = (Text t.from n, t ∷ ts, P, refl, refl, g.text e, h)
   good_start t P ts K h (kinds.Word w) e = good_word t P ts K h w e

@@ -276,7 +276,7 @@ module _ (all : List Token) where
   pub good_atom : (P : List Piece) (K : List Frame) (t : Token) (ts : List Token) → WantsAtom all P K (t ∷ ts) → (k : Kind) → t.kind ≡ k → Good all (run (atom k ts K) P)
   unfolding atom
   good_atom P K t ts h (kinds.Name n) e = (NameAtom n, t ∷ ts, P, refl, g.name_atom e, h)
-  good_atom P K t ts h (kinds.Number v x d) e = (NumberAtom v, t ∷ ts, P, refl, g.number_atom e, h)
+  good_atom P K t ts h (kinds.Number x d v) e = (NumberAtom v, t ∷ ts, P, refl, g.number_atom e, h)
   good_atom P K t ts h (kinds.Word w) e = good_atom_word P K t ts h w e
   good_atom P K t ts h _ e = tt
 

@@ -187,7 +187,7 @@ atom_size _ ts K = fail ts K
 
 unfoldable pub atom : Kind → List Token → List Frame → Move
 atom (kinds.Name n) ts K = move nexts.AtomDone (acts.NameAtom n ∷ []) ts K
-atom (kinds.Number v s d) ts K = move nexts.AtomDone (acts.NumberAtom v ∷ []) ts K
+atom (kinds.Number s d v) ts K = move nexts.AtomDone (acts.NumberAtom v ∷ []) ts K
 atom (kinds.Word words.Return) ts K = move nexts.AtomDone (acts.ReturnAtom ∷ []) ts K
 atom (kinds.Word words.Sizeof) ts K = atom_size (mark_at ts) (tail ts) K
 atom _ ts K = fail ts K

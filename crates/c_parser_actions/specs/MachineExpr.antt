@@ -34,7 +34,7 @@ start_sign s f ts K = if is_prefix s then move nexts.Operand [] ts (frames.Prefi
 -- the first token of an operand, and what is after it
 unfoldable pub start : Kind → ℕ → List Token → List Frame → Move
 start (kinds.Name n) f ts K = move (nexts.After f) (acts.Name f n ∷ []) ts K
-start (kinds.Number v s d) f ts K = move (nexts.After f) (acts.Number f v s d ∷ []) ts K
+start (kinds.Number s d v) f ts K = move (nexts.After f) (acts.Number f v s d ∷ []) ts K
 start (kinds.Char v) f ts K = move (nexts.After f) (acts.Char f v ∷ []) ts K
 start (kinds.Text n) f ts K = move (nexts.After f) (acts.Text f n ∷ []) ts K
 start (kinds.Word words.Sizeof) f ts K = size (opens_type ts) f ts K

@@ -7,14 +7,13 @@ ghost use Rattle.c_parser_actions.specs.Plans.{Plans};
 use crate::action::Action;
 use crate::frame::{Frame, Next, Target};
 use crate::mark::{Punctuator, mark_first};
-use crate::parser::{copy, skip_one};
+use crate::parser::skip_one;
 use crate::plan::{Acts, Plan};
 use c_lexer::{Kind, Text, Token, Word};
-use std::alloc::{AllocError, Global};
+use std::alloc::AllocError;
 
 #[tactic(auto, unfolding(crate::specs::MachineDeclr::annot_items))]
 fn start_items<'a>(
-    alloc: Global,
     what: Punctuator,
     from: u32,
     name: &Text,
@@ -23,7 +22,7 @@ fn start_items<'a>(
 ) -> Result<Plan<'a>, AllocError>
     ensures { IfOk result (λ p. Plans p (annot_items what from name.now whole.now rest.now)) }
 {
-    let acts = Acts::One(Action::AnnotName(from, copy(alloc, name)?));
+    let acts = Acts::One(Action::AnnotName(from, name.share()?));
     match what {
         Punctuator::Open => Ok(Plan::Open(acts, Frame::Items, Next::Item, rest)),
         _ => Ok(Plan::Go(acts, Next::AnnotDone, whole)),
@@ -31,17 +30,13 @@ fn start_items<'a>(
 }
 
 #[tactic(auto, unfolding(crate::specs::MachineDeclr::annot))]
-pub fn start_annot<'a>(
-    alloc: Global,
-    first: &'a Token,
-    rest: &'a [Token],
-) -> Result<Plan<'a>, AllocError>
+pub fn start_annot<'a>(first: &'a Token, rest: &'a [Token]) -> Result<Plan<'a>, AllocError>
     ensures { IfOk result (λ p. Plans p (annot first.now.kind first.now.from rest.now)) }
 {
     match &first.kind {
         Kind::Name(name) => {
             let others = skip_one(rest);
-            start_items(alloc, mark_first(rest), first.from, name, rest, others)
+            start_items(mark_first(rest), first.from, name, rest, others)
         }
         _ => Ok(Plan::Refuse(rest)),
     }
@@ -88,16 +83,12 @@ fn start_atom_type<'a>(what: Punctuator, rest: &'a [Token]) -> Plan<'a>
 }
 
 #[tactic(auto, unfolding(crate::specs::MachineDeclr::atom))]
-pub fn start_atom<'a>(
-    alloc: Global,
-    first: &'a Token,
-    rest: &'a [Token],
-) -> Result<Plan<'a>, AllocError>
+pub fn start_atom<'a>(first: &'a Token, rest: &'a [Token]) -> Result<Plan<'a>, AllocError>
     ensures { IfOk result (λ p. Plans p (atom first.now.kind rest.now)) }
 {
     match &first.kind {
         Kind::Name(name) => {
-            let name = copy(alloc, name)?;
+            let name = name.share()?;
             Ok(Plan::Go(Acts::One(Action::NameAtom(name)), Next::AtomDone, rest))
         }
         Kind::Number { value, .. } => {

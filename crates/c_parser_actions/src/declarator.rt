@@ -11,11 +11,11 @@ use crate::action::Action;
 use crate::ahead::annots_follow;
 use crate::frame::{DeclaredIn, Frame, Naming, Next};
 use crate::mark::{Punctuator, mark_first, void_first};
-use crate::parser::{copy, skip_one};
+use crate::parser::skip_one;
 use crate::plan::{Acts, Plan};
 use crate::words::after_consts;
 use c_lexer::{Kind, Sign, Text, Token};
-use std::alloc::{AllocError, Global};
+use std::alloc::AllocError;
 
 fn names_group(naming: Naming) -> bool
     ensures { result ≡ named_group naming }
@@ -58,7 +58,6 @@ fn without_name<'a>(naming: Naming, from: u32, rest: &'a [Token]) -> Plan<'a>
 
 #[tactic(auto, unfolding(crate::specs::MachineDeclr::give_name))]
 fn with_name<'a>(
-    alloc: Global,
     naming: Naming,
     from: u32,
     at: u32,
@@ -72,7 +71,7 @@ fn with_name<'a>(
     match naming {
         Naming::Never => Ok(without_name(naming, from, whole)),
         _ => {
-            let name = copy(alloc, name)?;
+            let name = name.share()?;
             Ok(Plan::Go(Acts::One(Action::Named(at, name)), Next::Direct, rest))
         }
     }
@@ -98,7 +97,6 @@ fn in_brackets<'a>(
 
 #[tactic(auto, unfolding(crate::specs::MachineDeclr::declr))]
 pub fn start_declr<'a>(
-    alloc: Global,
     ahead: &[bool],
     naming: Naming,
     from: u32,
@@ -111,7 +109,7 @@ pub fn start_declr<'a>(
         (λ p. Plans p (declr first.now.kind naming from first.now.from whole.now rest.now)) }
 {
     match &first.kind {
-        Kind::Name(name) => with_name(alloc, naming, from, first.from, name, whole, rest),
+        Kind::Name(name) => with_name(naming, from, first.from, name, whole, rest),
         Kind::Sign(Sign::Star) => {
             Ok(Plan::Open(
                 Acts::None,

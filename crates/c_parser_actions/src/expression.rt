@@ -11,10 +11,10 @@ use crate::frame::{Frame, Next};
 use crate::mark::{
     After, Punctuator, after_first, mark_first, open_type_first, prefix_sign, type_first,
 };
-use crate::parser::{copy, skip_one};
+use crate::parser::skip_one;
 use crate::plan::{Acts, Plan};
 use c_lexer::{Kind, Sign, Token, Word};
-use std::alloc::{AllocError, Global};
+use std::alloc::AllocError;
 
 #[tactic(auto, unfolding(crate::specs::MachineExpr::bracket))]
 fn open_bracket<'a>(from: u32, rest: &'a [Token]) -> Plan<'a>
@@ -60,17 +60,13 @@ fn start_with_sign<'a>(sign: Sign, from: u32, rest: &'a [Token]) -> Plan<'a>
 }
 
 #[tactic(auto, unfolding(crate::specs::MachineExpr::start))]
-pub fn start_operand<'a>(
-    alloc: Global,
-    first: &'a Token,
-    rest: &'a [Token],
-) -> Result<Plan<'a>, AllocError>
+pub fn start_operand<'a>(first: &'a Token, rest: &'a [Token]) -> Result<Plan<'a>, AllocError>
     ensures { IfOk result (λ p. Plans p (start first.now.kind first.now.from rest.now)) }
 {
     let from = first.from;
     match &first.kind {
         Kind::Name(name) => {
-            let name = copy(alloc, name)?;
+            let name = name.share()?;
             Ok(Plan::Go(Acts::One(Action::Name(from, name)), Next::After(from), rest))
         }
         Kind::Number {
@@ -97,7 +93,7 @@ pub fn start_operand<'a>(
             ))
         }
         Kind::Text(text) => {
-            let text = copy(alloc, text)?;
+            let text = text.share()?;
             Ok(Plan::Go(Acts::One(Action::Text(from, text)), Next::After(from), rest))
         }
         Kind::Word(Word::Sizeof) => Ok(start_sizeof(from, rest)),
@@ -121,19 +117,14 @@ fn start_call<'a>(from: u32, rest: &'a [Token]) -> Plan<'a>
 }
 
 #[tactic(auto, unfolding(crate::specs::MachineExpr::field_name, crate::specs::MachineExpr::field))]
-fn read_field<'a>(
-    alloc: Global,
-    dot: bool,
-    from: u32,
-    rest: &'a [Token],
-) -> Result<Plan<'a>, AllocError>
+fn read_field<'a>(dot: bool, from: u32, rest: &'a [Token]) -> Result<Plan<'a>, AllocError>
     ensures { IfOk result (λ p. Plans p (field dot from rest.now)) }
 {
     match rest {
         [] => Ok(Plan::Refuse(rest)),
         [first, others @ ..] => match &first.kind {
             Kind::Name(name) => {
-                let name = copy(alloc, name)?;
+                let name = name.share()?;
                 if dot {
                     Ok(Plan::Go(
                         Acts::One(Action::Member(from, name)),
@@ -155,7 +146,6 @@ fn read_field<'a>(
 
 #[tactic(auto, unfolding(crate::specs::MachineExpr::after))]
 pub fn after_operand<'a>(
-    alloc: Global,
     what: After,
     from: u32,
     whole: &'a [Token],
@@ -166,8 +156,8 @@ pub fn after_operand<'a>(
     match what {
         After::Index => Ok(Plan::Read(Acts::None, Frame::Index(from), 1, rest)),
         After::Call => Ok(start_call(from, rest)),
-        After::Dot => read_field(alloc, true, from, rest),
-        After::Arrow => read_field(alloc, false, from, rest),
+        After::Dot => read_field(true, from, rest),
+        After::Arrow => read_field(false, from, rest),
         After::Postfix(sign) => {
             Ok(Plan::Go(
                 Acts::One(Action::Postfix(from, sign)),

@@ -10,6 +10,7 @@ mod frame;
 mod initial;
 mod law;
 mod mark;
+mod operand;
 mod parser;
 mod plan;
 mod postfix;

@@ -10,8 +10,8 @@ use crate::action::Action;
 use crate::frame::{Frame, Next};
 use crate::mark::from_first;
 use crate::plan::{Acts, Plan};
-use c_lexer::{Text, Token};
-use std::alloc::{AllocError, Global};
+use c_lexer::Token;
+use std::alloc::AllocError;
 
 /// What comes next, and the tokens after it.
 pub type Went<'a> = Result<(Next, &'a [Token]), AllocError>;
@@ -104,7 +104,7 @@ impl Parser {
 
     /// Opens a construct, in which an expression of this level is to be read.
     #[inline(always)]
-    fn begin<'a>(&mut self, frame: Frame, level: u8, rest: &'a [Token]) -> Went<'a>
+    pub fn begin<'a>(&mut self, frame: Frame, level: u8, rest: &'a [Token]) -> Went<'a>
         ensures { Goes result self.old self.new (λ K. begin level [] rest.now (frame ∷ K)) }
     {
         self.open(frame)?;
@@ -158,13 +158,6 @@ impl Parser {
         let Parser { actions, frames: _ } = self;
         actions
     }
-}
-
-/// A copy of a text.
-pub fn copy(alloc: Global, text: &Text) -> Result<Text, AllocError>
-    ensures { IfOk result (λ t. t ≡ text.now) }
-{
-    Text::from_slice(alloc, text.as_slice())
 }
 
 /// All but the first.

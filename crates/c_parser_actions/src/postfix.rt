@@ -60,13 +60,13 @@ pub fn actions(alloc: Global, tokens: &[Token]) -> Result<Vec<Action>, PostfixEr
             open: parser.newest(),
             rest,
         };
-        let (then, others) = parser.step(alloc, &ahead, next, rest)?;
+        let (then, others) = parser.step(&ahead, next, rest)?;
         next = then;
         rest = others;
     }
     match next {
         Next::End => Ok(parser.into_actions()),
-        _ => Err(PostfixError::Token(at.refusal(alloc, tokens)?)),
+        _ => Err(PostfixError::Token(at.refusal(tokens)?)),
     }
 }
 

@@ -4,7 +4,7 @@ use crate::frame::{Frame, Next};
 use crate::specifier::at_top;
 use crate::words::words_read;
 use c_lexer::{Kind, Sign, Token, Word};
-use std::alloc::{AllocError, Global};
+use std::alloc::AllocError;
 
 /// A step of the parser: what came next, the construct that was opened last, and the tokens that were left.
 #[derive(Clone, Copy)]
@@ -31,18 +31,18 @@ fn begins_two(next: Next, open: Option<Frame>, kind: &Kind) -> bool {
 
 impl Step<'_> {
     /// How many tokens it read before the one that it failed at.
-    fn count(self, alloc: Global) -> Result<usize, AllocError> {
+    fn count(self) -> Result<usize, AllocError> {
         match (self.next, self.rest) {
-            (Next::TypeName | Next::Names(_), _) => words_read(alloc, false, self.rest),
-            (Next::Specs(target), _) => words_read(alloc, at_top(target), self.rest),
+            (Next::TypeName | Next::Names(_), _) => words_read(false, self.rest),
+            (Next::Specs(target), _) => words_read(at_top(target), self.rest),
             (next, [first, ..]) if begins_two(next, self.open, &first.kind) => Ok(1),
             _ => Ok(0),
         }
     }
 
     /// The offset of the token that it failed at, or of the end of all tokens.
-    pub fn refusal(self, alloc: Global, tokens: &[Token]) -> Result<u32, AllocError> {
-        let count = self.count(alloc)?;
+    pub fn refusal(self, tokens: &[Token]) -> Result<u32, AllocError> {
+        let count = self.count()?;
         Ok(match (self.rest.get(count), tokens) {
             (Some(token), _) => token.from,
             (None, [.., last]) => last.to,

@@ -13,7 +13,7 @@ use crate::plan::{Acts, Plan};
 use crate::words::specs;
 use c_lexer::Token;
 use c_syntax::Base;
-use std::alloc::{AllocError, Global};
+use std::alloc::AllocError;
 
 pub fn at_top(target: Target) -> bool
     ensures { result ≡ is_top target }
@@ -25,12 +25,12 @@ pub fn at_top(target: Target) -> bool
 }
 
 #[tactic(auto, unfolding(crate::specs::MachineDeclr::typed))]
-pub fn start_type<'a>(alloc: Global, rest: &'a [Token]) -> Result<Plan<'a>, AllocError>
+pub fn start_type<'a>(rest: &'a [Token]) -> Result<Plan<'a>, AllocError>
     ensures { IfOk result (λ p. Plans p
         (typed (take_specs false rest.now) (from_of rest.now))) }
 {
     let from = from_first(rest);
-    match specs(alloc, false, rest)? {
+    match specs(false, rest)? {
         None => Ok(Plan::Refuse(&rest[rest.len()..])),
         Some((base, others)) => {
             Ok(Plan::Go(
@@ -64,15 +64,11 @@ fn begin_target<'a>(base: Base, target: Target, rest: &'a [Token]) -> Plan<'a>
 }
 
 #[tactic(auto, unfolding(crate::specs::MachineDeclr::targeted))]
-pub fn start_target<'a>(
-    alloc: Global,
-    target: Target,
-    rest: &'a [Token],
-) -> Result<Plan<'a>, AllocError>
+pub fn start_target<'a>(target: Target, rest: &'a [Token]) -> Result<Plan<'a>, AllocError>
     ensures { IfOk result
         (λ p. Plans p (targeted (take_specs (is_top target) rest.now) target)) }
 {
-    match specs(alloc, at_top(target), rest)? {
+    match specs(at_top(target), rest)? {
         None => Ok(Plan::Refuse(&rest[rest.len()..])),
         Some((base, others)) => Ok(begin_target(base, target, others)),
     }
@@ -104,14 +100,10 @@ fn begin_names<'a>(base: Base, place: DeclaredIn, rest: &'a [Token]) -> Plan<'a>
 }
 
 #[tactic(auto, unfolding(crate::specs::MachineDeclr::placed))]
-pub fn start_names<'a>(
-    alloc: Global,
-    place: DeclaredIn,
-    rest: &'a [Token],
-) -> Result<Plan<'a>, AllocError>
+pub fn start_names<'a>(place: DeclaredIn, rest: &'a [Token]) -> Result<Plan<'a>, AllocError>
     ensures { IfOk result (λ p. Plans p (placed (take_specs false rest.now) place)) }
 {
-    match specs(alloc, false, rest)? {
+    match specs(false, rest)? {
         None => Ok(Plan::Refuse(&rest[rest.len()..])),
         Some((base, others)) => Ok(begin_names(base, place, others)),
     }

@@ -17,7 +17,7 @@ use crate::plan::{Acts, Plan};
 use crate::specifier::{start_annotated, start_names, start_target, start_type};
 use crate::statement::{first_part, give_stmt, start_stmt, step_part, test_part};
 use c_lexer::Token;
-use std::alloc::{AllocError, Global};
+use std::alloc::AllocError;
 
 /// Gives what has been read to the construct that wants it.
 #[tactic(auto, unfolding(crate::specs::MachineSteps::give_next))]
@@ -40,7 +40,6 @@ fn give<'a>(next: Next, frame: Frame, rest: &'a [Token]) -> Plan<'a>
 /// Reads a token that must be there.
 #[tactic(auto, unfolding(crate::specs::MachineSteps::take_next))]
 fn take<'a>(
-    alloc: Global,
     ahead: &[bool],
     next: Next,
     first: &'a Token,
@@ -51,10 +50,10 @@ fn take<'a>(
     ensures { IfOk result (λ p. Plans p (take_next next first.now whole.now rest.now)) }
 {
     match next {
-        Next::Operand => start_operand(alloc, first, rest),
-        Next::Declr(naming, from) => start_declr(alloc, ahead, naming, from, first, whole, rest),
-        Next::Annot => start_annot(alloc, first, rest),
-        Next::Atom => start_atom(alloc, first, rest),
+        Next::Operand => start_operand(first, rest),
+        Next::Declr(naming, from) => start_declr(ahead, naming, from, first, whole, rest),
+        Next::Annot => start_annot(first, rest),
+        Next::Atom => start_atom(first, rest),
         Next::Stmt => Ok(start_stmt(begin_kind(&first.kind), first.from, whole, rest)),
         _ => Ok(Plan::Refuse(rest)),
     }
@@ -62,19 +61,19 @@ fn take<'a>(
 
 /// Goes on by what the rest begins with, where no construct is taken off for it.
 #[tactic(auto, unfolding(crate::specs::MachineSteps::read_next, crate::specs::Plans::read_ahead))]
-fn plan_ahead<'a>(alloc: Global, next: Next, rest: &'a [Token]) -> Result<Plan<'a>, AllocError>
+fn plan_ahead<'a>(next: Next, rest: &'a [Token]) -> Result<Plan<'a>, AllocError>
     ensures { IfOk result (λ p. Plans p (read_ahead next rest.now)) }
 {
     let what = mark_first(rest);
     let from = from_first(rest);
     let others = skip_one(rest);
     match next {
-        Next::After(from) => after_operand(alloc, after_first(rest), from, rest, others),
-        Next::TypeName => start_type(alloc, rest),
+        Next::After(from) => after_operand(after_first(rest), from, rest, others),
+        Next::TypeName => start_type(rest),
         Next::Direct => Ok(after_direct(what, from, rest, others)),
         Next::Param => Ok(start_annotated(what, Target::Param(from), rest, others)),
-        Next::Specs(target) => start_target(alloc, target, rest),
-        Next::Names(place) => start_names(alloc, place, rest),
+        Next::Specs(target) => start_target(target, rest),
+        Next::Names(place) => start_names(place, rest),
         Next::Item => Ok(Plan::Open(Acts::None, Frame::FirstFactor(from), Next::Atom, rest)),
         Next::Initial => Ok(start_initial(what, from, rest, others)),
         Next::ForFirst(from) => Ok(first_part(what, type_first(rest), from, rest, others)),
@@ -88,7 +87,7 @@ fn plan_ahead<'a>(alloc: Global, next: Next, rest: &'a [Token]) -> Result<Plan<'
 impl Parser {
     /// Goes on by what the rest begins with, if anything.
     #[tactic(auto, unfolding(crate::specs::MachineSteps::read_next, crate::specs::Plans::read_ahead))]
-    fn read<'a>(&mut self, alloc: Global, next: Next, rest: &'a [Token]) -> Went<'a>
+    fn read<'a>(&mut self, next: Next, rest: &'a [Token]) -> Went<'a>
         ensures { Goes result self.old self.new (read_next next rest.now) }
     {
         let what = mark_first(rest);
@@ -96,8 +95,8 @@ impl Parser {
         match next {
             Next::Entry => self.next_entry(what, type_first(rest), rest, others),
             Next::MemberEnd => self.next_member(what, rest, others),
-            Next::Top => self.next_top(alloc, rest),
-            _ => self.go(plan_ahead(alloc, next, rest)),
+            Next::Top => self.next_top(rest),
+            _ => self.go(plan_ahead(next, rest)),
         }
     }
 
@@ -112,48 +111,38 @@ impl Parser {
     }
 
     /// Reads a token that must be there, if there is any.
-    fn take_first<'a>(
-        &mut self,
-        alloc: Global,
-        ahead: &[bool],
-        next: Next,
-        rest: &'a [Token],
-    ) -> Went<'a>
+    fn take_first<'a>(&mut self, ahead: &[bool], next: Next, rest: &'a [Token]) -> Went<'a>
         requires { Foretells ahead.now rest.now }
         ensures { Goes result self.old self.new (taken next rest.now) }
     {
         match rest {
             [] => Ok((Next::Fail, rest)),
-            [first, others @ ..] => self.go(take(alloc, ahead, next, first, rest, others)),
+            [first, others @ ..] => self.go(take(ahead, next, first, rest, others)),
         }
     }
 
     /// One step, by what the table has of the tokens ahead.
     #[inline(always)]
     #[tactic(auto, unfolding(crate::specs::MachineSteps::step))]
-    pub fn step<'a>(
-        &mut self,
-        alloc: Global,
-        ahead: &[bool],
-        next: Next,
-        rest: &'a [Token],
-    ) -> Went<'a>
+    pub fn step<'a>(&mut self, ahead: &[bool], next: Next, rest: &'a [Token]) -> Went<'a>
         requires { Foretells ahead.now rest.now }
         ensures { Goes result self.old self.new (step next rest.now) }
     {
         match next {
-            Next::Done(_)
-            | Next::Value
-            | Next::DeclrDone
+            Next::Operand => self.read_operand(rest),
+            Next::After(from) => self.read_after(from, rest),
+            Next::Done(level) => self.give_level(level, rest),
+            Next::Value => self.give_whole(rest),
+            Next::DeclrDone
             | Next::AnnotDone
             | Next::AtomDone
             | Next::ItemDone
             | Next::ValueDone
             | Next::StmtDone => self.give_newest(next, rest),
-            Next::Operand | Next::Declr(_, _) | Next::Annot | Next::Atom | Next::Stmt => {
-                self.take_first(alloc, ahead, next, rest)
+            Next::Declr(_, _) | Next::Annot | Next::Atom | Next::Stmt => {
+                self.take_first(ahead, next, rest)
             }
-            _ => self.read(alloc, next, rest),
+            _ => self.read(next, rest),
         }
     }
 }

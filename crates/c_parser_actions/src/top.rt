@@ -8,20 +8,20 @@ ghost use Rattle.c_parser_actions.specs.Seen.{Goes};
 use crate::action::Action;
 use crate::frame::{DeclaredIn, Frame, Next, Target};
 use crate::mark::{Punctuator, mark_first};
-use crate::parser::{Parser, Went, copy, skip_one};
+use crate::parser::{Parser, Went, skip_one};
 use crate::plan::{Acts, Plan};
 use crate::specifier::start_annotated;
 use c_lexer::{Kind, Sign, Token, Word};
-use std::alloc::{AllocError, Global};
+use std::alloc::AllocError;
 
 #[tactic(auto, unfolding(crate::specs::MachineSource::top, crate::specs::MachineSource::defines))]
-fn start_top<'a>(alloc: Global, rest: &'a [Token]) -> Result<Plan<'a>, AllocError>
+fn start_top<'a>(rest: &'a [Token]) -> Result<Plan<'a>, AllocError>
     ensures { IfOk result (λ p. Plans p (top (defines rest.now) rest.now)) }
 {
     match rest {
         [first, second, third, others @ ..] => match (&first.kind, &second.kind, &third.kind) {
             (Kind::Word(Word::Struct), Kind::Name(name), Kind::Sign(Sign::OpenBrace)) => {
-                let name = copy(alloc, name)?;
+                let name = name.share()?;
                 Ok(Plan::Open(
                     Acts::Two(Action::Tag(first.from, name), Action::NoDecls),
                     Frame::Struct,
@@ -71,14 +71,14 @@ impl Parser {
         }
     }
 
-    fn begin_top<'a>(&mut self, alloc: Global, rest: &'a [Token]) -> Went<'a>
+    fn begin_top<'a>(&mut self, rest: &'a [Token]) -> Went<'a>
         ensures { Goes result self.old self.new (top (defines rest.now) rest.now) }
     {
-        self.go(start_top(alloc, rest))
+        self.go(start_top(rest))
     }
 
     #[tactic(auto, unfolding(crate::specs::MachineSource::tops))]
-    pub fn next_top<'a>(&mut self, alloc: Global, rest: &'a [Token]) -> Went<'a>
+    pub fn next_top<'a>(&mut self, rest: &'a [Token]) -> Went<'a>
         ensures { Goes result self.old self.new (tops rest.now) }
     {
         match rest {
@@ -86,10 +86,10 @@ impl Parser {
                 None => Ok((Next::End, rest)),
                 Some(frame) => {
                     self.open(frame)?;
-                    self.begin_top(alloc, rest)
+                    self.begin_top(rest)
                 }
             },
-            [_, ..] => self.begin_top(alloc, rest),
+            [_, ..] => self.begin_top(rest),
         }
     }
 }

@@ -5,8 +5,8 @@ ghost use Rattle.c_parser_actions.specs.Words.{put_word, take_words, take_specs,
 ghost use Rattle.c_syntax.specs.TypeWords.{with_core, with_word, with_tag, base_of, no_words as no_words_yet, put_sign};
 
 use c_lexer::{Kind, Text, Token, Word};
-use c_syntax::{Base, Core, SharedSeq, Signedness, Specifiers};
-use std::alloc::{AllocError, Global};
+use c_syntax::{Base, Core, Signedness, Specifiers};
+use std::alloc::AllocError;
 
 /// What one more token does to the words of a type.
 #[derive(Clone, Copy)]
@@ -72,31 +72,24 @@ fn add_word(words: &mut Specifiers, word: Word) -> bool
     }
 }
 
-fn add_tag(alloc: Global, words: &mut Specifiers, tag: &Text) -> Result<bool, AllocError>
+fn add_tag(words: &mut Specifiers, tag: &Text) -> Result<bool, AllocError>
     ensures { IfOk result (λ b. Becomes (with_tag words.old tag.now) words.old b words.new) }
 {
     match words.core {
         Core::Absent => {
-            let tag = Vec::from_slice(alloc, tag.as_slice())?;
-            words.core = Core::Struct(SharedSeq::from_vec(tag)?);
+            words.core = Core::Struct(tag.share()?);
             Ok(true)
         }
         _ => Ok(false),
     }
 }
 
-fn put(
-    alloc: Global,
-    words: &mut Specifiers,
-    top: bool,
-    pending: bool,
-    kind: &Kind,
-) -> Result<Took, AllocError>
+fn put(words: &mut Specifiers, top: bool, pending: bool, kind: &Kind) -> Result<Took, AllocError>
     ensures { IfOk result (λ t. step_of t words.new ≡ put_word kind.now top pending words.old) }
 {
     match kind {
         Kind::Name(tag) if pending => {
-            let fits = add_tag(alloc, words, tag)?;
+            let fits = add_tag(words, tag)?;
             Ok(if fits {
                 Took::More(false)
             } else {
@@ -131,7 +124,6 @@ fn no_words() -> Specifiers
 
 /// The words of a type at the prefix of the tokens, and what is after them.
 fn words<'a>(
-    alloc: Global,
     top: bool,
     tokens: &'a [Token],
 ) -> Result<Option<(Specifiers, &'a [Token])>, AllocError>
@@ -141,7 +133,7 @@ fn words<'a>(
     let mut pending = false;
     let mut rest = tokens;
     while let [first, others @ ..] = rest {
-        match put(alloc, &mut words, top, pending, &first.kind)? {
+        match put(&mut words, top, pending, &first.kind)? {
             Took::Refused => return Ok(None),
             Took::Ended => return Ok(Some((words, rest))),
             Took::More(wants_name) => pending = wants_name,
@@ -174,14 +166,10 @@ fn base(words: Specifiers) -> Option<Base>
 
 /// The type at the prefix of the tokens, and what is after it.
 #[tactic(auto, unfolding(crate::specs::Words::take_specs))]
-pub fn specs<'a>(
-    alloc: Global,
-    top: bool,
-    tokens: &'a [Token],
-) -> Result<Option<(Base, &'a [Token])>, AllocError>
+pub fn specs<'a>(top: bool, tokens: &'a [Token]) -> Result<Option<(Base, &'a [Token])>, AllocError>
     ensures { IfOk result (λ r. SpecsAre r (take_specs top tokens.now)) }
 {
-    match words(alloc, top, tokens)? {
+    match words(top, tokens)? {
         None => Ok(None),
         Some((words, rest)) => match base(words) {
             None => Ok(None),
@@ -205,11 +193,11 @@ pub fn after_consts(tokens: &[Token]) -> &[Token]
 }
 
 /// How many tokens at the prefix are words of one type.
-pub fn words_read(alloc: Global, top: bool, tokens: &[Token]) -> Result<usize, AllocError> {
+pub fn words_read(top: bool, tokens: &[Token]) -> Result<usize, AllocError> {
     let mut words = no_words();
     let mut pending = false;
     for (at, token) in tokens.iter().enumerate() {
-        match put(alloc, &mut words, top, pending, &token.kind)? {
+        match put(&mut words, top, pending, &token.kind)? {
             Took::More(wants_name) => pending = wants_name,
             _ => return Ok(at),
         }

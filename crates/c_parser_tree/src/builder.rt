@@ -102,19 +102,20 @@ fn next_number(count: usize) -> Result<u32, BuildError>
 }
 
 impl Builder {
-    /// Nothing has been built.
+    /// Nothing has been built, and there is room for so many expressions. `Memory` where there is no memory for them.
     #[tactic(auto, unfolding(crate::specs::Seen::nodes_seen, crate::specs::Seen::stack_seen))]
-    pub fn new(alloc: Global) -> Builder
-        ensures nodes { nodes_seen result ≡ no_nodes }
-        ensures stack { stack_seen result ≡ no_pieces }
+    pub fn new(alloc: Global, exprs: usize) -> Result<Builder, BuildError>
+        ensures nodes { IfOk result (λ b. nodes_seen b ≡ no_nodes) }
+        ensures stack { IfOk result (λ b. stack_seen b ≡ no_pieces) }
+        ensures memory { IfErr result (λ e. e ≡ BuildError.Memory) }
     {
-        Builder {
+        Ok(Builder {
             alloc,
             decls: DeclTable::new(alloc),
             stmts: Vec::new(alloc),
-            exprs: Vec::new(alloc),
+            exprs: Vec::with_capacity(alloc, exprs)?,
             pieces: Pieces::new(alloc),
-        }
+        })
     }
 
     /// A new expression.

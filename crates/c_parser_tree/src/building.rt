@@ -54,7 +54,7 @@ pub fn build(alloc: Global, actions: Vec<Action>) -> Result<Tree, BuildError>
     // Actions are unfit that build no source.
     ensures unfit { IfErr result (λ e. IsUnfit actions.items e) }
 {
-    let mut builder = Builder::new(alloc);
+    let mut builder = Builder::new(alloc, actions.len() / 2)?;
     for action in actions {
         builder.step(action)?;
     }

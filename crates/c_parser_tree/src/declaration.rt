@@ -41,12 +41,11 @@ impl Builder {
         ensures stack { OnOk result (stack_seen self.new ≡ stack_seen self.old) }
         ensures memory { IfErr result (λ e. e ≡ BuildError.Memory) }
     {
-        let name = SharedSeq::from_vec(tag.name.into_vec())?;
         let parts = empty(self.alloc);
         self.new_decl(Decl {
             from: tag.from,
             annots: SharedSeq::empty(),
-            base: Base::Struct(name),
+            base: Base::Struct(tag.name),
             parts,
             name: None,
             rest: Rest::Members(members),

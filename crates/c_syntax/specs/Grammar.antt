@@ -60,7 +60,7 @@ mutual
   pub data IsPostfix : List Token → Expr → List Token → Type 0 where
     name : {t : Token} {ts : List Token} {n : List ℕ} → t.kind ≡ kinds.Name n →
         IsPostfix (t ∷ ts) (Name t.from n) ts
-    number : {t : Token} {ts : List Token} {v : ℕ} {s : Suffix} {d : Bool} → t.kind ≡ kinds.Number v s d →
+    number : {t : Token} {ts : List Token} {v : ℕ} {s : Suffix} {d : Bool} → t.kind ≡ kinds.Number s d v →
         IsPostfix (t ∷ ts) (Number t.from v s d) ts
     char : {t : Token} {ts : List Token} {v : ℤ} → t.kind ≡ kinds.Char v →
         IsPostfix (t ∷ ts) (Char t.from v) ts
@@ -220,7 +220,7 @@ mutual
     name_atom : {t : Token} {ts : List Token} {n : List ℕ} → t.kind ≡ kinds.Name n →
         IsAtom (t ∷ ts) (NameAtom n) ts
     number_atom : {t : Token} {ts : List Token} {v : ℕ} {s : Suffix} {d : Bool} →
-        t.kind ≡ kinds.Number v s d → IsAtom (t ∷ ts) (NumberAtom v) ts
+        t.kind ≡ kinds.Number s d v → IsAtom (t ∷ ts) (NumberAtom v) ts
     return_atom : {t : Token} {ts : List Token} → t.kind ≡ kinds.Word words.Return →
         IsAtom (t ∷ ts) ReturnAtom ts
     sizeof_atom : {t u v : Token} {ts rest : List Token} {d : Decl} →

@@ -12,7 +12,7 @@ pub enum Base {
     /// An integer type of 1, 2, 4 or 8 bytes.
     Int { bytes: u8, signed: bool },
     /// A struct, by its tag.
-    Struct(SharedSeq<u8>),
+    Struct(Text),
 }
 
 /// A factor of an annotation's item.

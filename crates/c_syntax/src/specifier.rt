@@ -1,6 +1,6 @@
 // The words that stand before a declarator.
 
-use crate::shared::SharedSeq;
+use c_lexer::Text;
 
 /// The words of a type but `signed` and `unsigned`.
 #[derive(Drop)]
@@ -13,7 +13,7 @@ pub enum Core {
     Int,
     Long,
     LongInt,
-    Struct(SharedSeq<u8>),
+    Struct(Text),
 }
 
 /// Whether `signed` or `unsigned` stands among the words.

@@ -38,7 +38,7 @@ entries_more : (xs : Entries) (x : Entry) → FitsEntries xs → FitsEntry x →
 entries_more NoEntries x p q = (q, tt)
 entries_more (MoreEntries y ys) x p q = (p.0, entries_more ys x p.1 q)
 
-a_number : (k : Kind) (v : ℕ) (s : _) (d : Bool) → k ≡ kinds.Number v s d → FitsKind k → IsNumber v s d
+a_number : (k : Kind) (v : ℕ) (s : _) (d : Bool) → k ≡ kinds.Number s d v → FitsKind k → IsNumber v s d
 a_number k v s d e h = subst FitsKind e h
 
 -- ---- words before a declarator

@@ -52,7 +52,7 @@ branch_of_result : (b : Bool) (x y : Result Kind Fault) → FitsResult x → Fit
 branch_of_result true x y p q = p
 branch_of_result false x y p q = q
 
-tested : (decimal : Bool) (n : ℕ) (s : Suffix) (b : Bool) → (b ≡ true → n < limit s decimal) → FitsResult (if b then Ok (kinds.Number n s decimal) else Err BigNumber)
+tested : (decimal : Bool) (n : ℕ) (s : Suffix) (b : Bool) → (b ≡ true → n < limit s decimal) → FitsResult (if b then Ok (kinds.Number s decimal n) else Err BigNumber)
 unfolding FitsResult
 tested decimal n s true h = h refl
 tested decimal n s false h = tt

@@ -116,7 +116,7 @@ abbrev mutual
 
 -- the number of a token is such
 abbrev pub FitsKind : Kind → Type 0
-FitsKind (kinds.Number v s d) = IsNumber v s d
+FitsKind (kinds.Number s d v) = IsNumber v s d
 FitsKind _ = Unit {0}
 
 -- each number among the tokens is such

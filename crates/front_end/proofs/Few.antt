@@ -15,7 +15,7 @@ few_tokens (t ∷ ts) at end h = let rest = few_tokens ts t.to end h.2 in omega 
 one_text : (from : ℕ) (k : Kind) (rest : List TextLiteral) → length (if_text from k rest) ≤ suc (length rest)
 one_text from (kinds.Name name) rest = omega arith
 one_text from (kinds.Word word) rest = omega arith
-one_text from (kinds.Number value suffix decimal) rest = omega arith
+one_text from (kinds.Number suffix decimal value) rest = omega arith
 one_text from (kinds.Char value) rest = omega arith
 one_text from (kinds.Text bytes) rest = omega arith
 one_text from (kinds.Sign sign) rest = omega arith

@@ -25,7 +25,7 @@ is_text t = text_test t.kind
 one : (k : Kind) (from to : ℕ) (kept rest : List Token) → texts_among kept ≡ texts_among rest → texts_among (if text_test k then (let t : Token = record { kind = k; from = from; to = to } in t) ∷ kept else kept) ≡ if_text from k (texts_among rest)
 one (kinds.Name name) from to kept rest h = h
 one (kinds.Word word) from to kept rest h = h
-one (kinds.Number value suffix decimal) from to kept rest h = h
+one (kinds.Number suffix decimal value) from to kept rest h = h
 one (kinds.Char value) from to kept rest h = h
 one (kinds.Text bytes) from to kept rest h = ap (if_text from (kinds.Text bytes)) h
 one (kinds.Sign sign) from to kept rest h = h

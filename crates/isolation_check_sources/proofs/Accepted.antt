@@ -32,7 +32,7 @@ use Rattle.isolation_check_sources.proofs.Members.{typed_has_few}
 one_string : (from : ℕ) (k : Kind) (rest : List TextLiteral) → strings_in (if_text from k rest) ≡ if_string k (strings_in rest)
 one_string from (kinds.Name name) rest = refl
 one_string from (kinds.Word word) rest = refl
-one_string from (kinds.Number value suffix decimal) rest = refl
+one_string from (kinds.Number suffix decimal value) rest = refl
 one_string from (kinds.Char value) rest = refl
 one_string from (kinds.Text bytes) rest = refl
 one_string from (kinds.Sign sign) rest = refl

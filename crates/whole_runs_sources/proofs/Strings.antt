@@ -326,7 +326,7 @@ module _ (T : List ℕ) where
           (g t.from (0, omega arith, refl), rest (λ from k. g from (Contains-append_right (t.from ∷ []) (texts_in (texts_among us)) from k)))
       by (kinds.Name n) g rest = (tt, rest g)
       by (kinds.Word w) g rest = (tt, rest g)
-      by (kinds.Number v x y) g rest = (tt, rest g)
+      by (kinds.Number x y v) g rest = (tt, rest g)
       by (kinds.Char v) g rest = (tt, rest g)
       by (kinds.Sign z) g rest = (tt, rest g)
 

@@ -18,7 +18,7 @@ loop-byte-preserved c = record {
 
 pub returns-in-Close : goal.returns-in-Close
 unfolding string_at
-returns-in-Close c = rw c.from.ensures (string_close c.loop-byte.rest.now c.loop-byte.values.items c.loop-byte.len _ (sym c.part_at.ensures ∙ c.in-Close.is) c.loop-byte.invariant.goes_on)
+returns-in-Close c = rw c.in_ok-from_vec-in-Close.ensures.bytes (string_close c.loop-byte.rest.now c.loop-byte.values.items c.loop-byte.len _ (sym c.part_at.ensures ∙ c.in-Close.is) c.loop-byte.invariant.goes_on)
 
 pub returns-in-Open : goal.returns-in-Open
 unfolding string_at

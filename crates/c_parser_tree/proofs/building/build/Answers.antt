@@ -10,7 +10,7 @@ use Rattle.c_parser_tree.proofs.building.build.Goals as goal
 
 pub loop-action-init : goal.loop-action-init
 loop-action-init c =
-    (([], holds_nothing _ c.new-builder.ensures.stack, ap (λ (v : List Action). acted (reverse v) []) c.into_iter-action-iterator.ensures.into_iter_gives.0), search rules)
+    (([], holds_nothing _ c.in_ok-builder.ensures.stack, ap (λ (v : List Action). acted (reverse v) []) c.into_iter-action-iterator.ensures.into_iter_gives.0), search rules)
 
 pub loop-action-preserved : goal.loop-action-preserved
 loop-action-preserved c =
@@ -35,7 +35,7 @@ returns-in_err-step-clause-unfit c =
     let P = at.invariant.0.0 in
     let steps : into_iter_items at.action-iterator ≡ a ∷ into_iter_items c.next.new.self = c.in-Some.ensures.steps.0 in
     let e = c.in_err-step.field-0.0 in
-    passed c.from_residual.result e c.args.actions.items c.from_residual.ensures.1 (unfit_on e c.step.new.self a (into_iter_items c.next.new.self) c.args.actions.items P (c.in_err-step.ensures P at.invariant.0.1) (rw steps at at.invariant.0.2))
+    passed c.from_residual-in_err-step.result e c.args.actions.items c.from_residual-in_err-step.ensures.1 (unfit_on e c.step.new.self a (into_iter_items c.next.new.self) c.args.actions.items P (c.in_err-step.ensures P at.invariant.0.1) (rw steps at at.invariant.0.2))
 
 pub returns : goal.returns
 returns c =

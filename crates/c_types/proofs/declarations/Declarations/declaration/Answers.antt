@@ -15,7 +15,7 @@ pub decl-decl-requires : goal.decl-decl-requires
 decl-decl-requires c = record { inside = decl_inside c.args.tree.now c.args.id c.requires.id }
 
 pub struct_defined-requires-clause-base : goal.struct_defined-requires-clause-base
-struct_defined-requires-clause-base c = c.in-Struct-Members.is-0 ∙ ap bases.Struct (sym c.as_slice.ensures.items)
+struct_defined-requires-clause-base c = c.in-Struct-Members.is-0 ∙ ap bases.Struct (sym c.as_slice.ensures.bytes)
 
 pub struct_defined-requires-clause-ids : goal.struct_defined-requires-clause-ids
 struct_defined-requires-clause-ids c =
@@ -31,7 +31,7 @@ returns-in-Struct-Members-clause-agrees c =
     let e = c.decl-decl.result.now in
     let new = c.struct_defined.new.self in
     λ y z.
-    let w = struct_words N c.args.id e c.as_slice.result.now c.as_slice-in-Struct-Members.result.now c.decl-decl.ensures.node (c.in-Struct-Members.is-0 ∙ ap bases.Struct (sym c.as_slice.ensures.items))
+    let w = struct_words N c.args.id e c.as_slice.result.now c.as_slice-in-Struct-Members.result.now c.decl-decl.ensures.node (c.in-Struct-Members.is-0 ∙ ap bases.Struct (sym c.as_slice.ensures.bytes))
     (c.in-Struct-Members.is-1 ∙ ap rests.Members (sym c.as_slice-in-Struct-Members.ensures.items)) d.env.env.tags (program_of d) y z in
     declares d new _ c.struct_defined.result (steps_as d new (IsProgramOf new) _ _ c.struct_defined.result w.2 (c.struct_defined.ensures w.0 w.1))
 
