@@ -1,5 +1,5 @@
 -- What is known of the functions of a source.
-use Rattle.std.proofs.Common.{◌≡◌, ℕ, zero, suc, ◌+◌, ◌<◌, ◌≤◌, nat_le, Bool, true, false, ◌&&◌, List, [], ◌∷◌, ◌++◌, length, map, get_or, take, refl, sym, ap, ◌∙◌, subst, arith, length-append}
+use Rattle.std.proofs.Common.{◌≡◌, ℕ, zero, suc, ◌+◌, ◌<◌, ◌≤◌, nat_le, Bool, true, false, ◌&&◌, List, [], ◌∷◌, ◌++◌, length, map, get_or, take, refl, sym, ap, ◌∙◌, subst, arith}
 use Rattle.std.specs.List.{All}
 use Rattle.std.proofs.lemmas.Bool.{leb-true}
 use Rattle.std.proofs.lemmas.List.{take_more}
@@ -9,7 +9,7 @@ use Rattle.c_types_model.specs.Types as types
 use Rattle.c_types_table.specs.declared.ids.TypeId.{TypeId}
 use Rattle.c_types_table.specs.declared.ty.Ty.{Ty}
 use Rattle.c_types_table.specs.declared.ty.Ty.TheVariants as nodes
-use Rattle.c_types_table.specs.Tables.{IsMadeOf, all_at, at, made, type_at, types_after, types_of}
+use Rattle.c_types_table.specs.Tables.{IsMadeOf, all_at, at, made, type_at, types_of}
 use Rattle.c_types_rules.specs.Limits.{all_keep, count, few_params}
 use Rattle.c_types_rules.specs.Sources.{Function as Known, params_of}
 use Rattle.c_types_rules.specs.TypeTests.{is_function}

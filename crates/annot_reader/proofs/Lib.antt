@@ -1,4 +1,4 @@
-mod FunctionTypes
+pub mod FunctionTypes
 mod Headings
 mod Typed
 mod Listed

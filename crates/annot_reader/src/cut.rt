@@ -3,43 +3,52 @@
 ghost use Rattle.std.specs.Prelude.{IfOk};
 ghost use Rattle.c_syntax.specs.Syntax.{Decls};
 ghost use Rattle.c_types_rules.specs.Sources.{Program};
+ghost use Rattle.c_types_source.specs.Sources.{GoesOn, IsTypedSource};
 ghost use Rattle.annot_reader_rules.specs.Cuts.{annotations};
-ghost use Rattle.c_types_expressions.specs.Found.{Stays};
 ghost use Rattle.annot_reader.specs.Interfaces.{IsInterface};
-ghost use Rattle.annot_reader.specs.Sources.{IsSource, IsTypedSource, interface_in};
+ghost use Rattle.annot_reader.specs.Sources.{interface_in};
 
 use crate::error::InterfaceError;
 use crate::functions::headings_of;
 use crate::iface::Iface;
 use crate::interface::interface;
 use crate::source::Source;
-use c_syntax::Tree;
-use c_types_environment::Environment;
-use c_types_program::Function;
+use c_types_source::{Parts, TypedSource};
 use std::alloc::Global;
 
-/// The interface of a cut of a source, and what is declared at its end, where all numbers stand for what they did.
+/// The interface of a cut of a source, and the source itself, where all numbers stand for what they did.
 ///
-/// `functions` has the functions of the source by number, less that of the first. `Rule` names the first rule of annotations that the
-/// source breaks, with the offset of the node that breaks it; `NoSuchCut` where it breaks none and no declaration names the cut.
+/// `Rule` names the first rule of annotations that the source breaks, with the offset of the node that breaks it; `NoSuchCut` where it
+/// breaks none and no declaration names the cut.
 pub fn interface_of(
     alloc: Global,
-    mut env: Environment,
-    functions: &[Function],
-    tree: &Tree,
+    source: TypedSource,
     cut: &[u8],
-) -> Result<(Environment, Iface), InterfaceError>
-    requires { IsSource tree.now env functions.now }
-    ensures interface { (ds : Decls) (p : Program) → IsTypedSource tree.now env functions.now ds p →
+) -> Result<(TypedSource, Iface), InterfaceError>
+    ensures interface { (ds : Decls) (p : Program) → IsTypedSource ds p source →
         IsInterface cut.now (annotations ds p) (interface_in result) }
-    ensures kept { IfOk result (λ found. Stays env found.0) }
+    ensures kept { IfOk result (λ found. GoesOn source found.0) }
 {
-    let headings = headings_of(alloc, &env, functions)?;
-    let source = Source {
+    let Parts {
         tree,
+        mut env,
+        functions,
+        globals,
+        texts,
+    } = source.into_parts();
+    let headings = headings_of(alloc, &env, functions.as_slice())?;
+    let read = Source {
+        tree: &tree,
         functions: headings.as_slice(),
         cut,
     };
-    let iface = interface(alloc, &mut env, &source)?;
-    Ok((env, iface))
+    let iface = interface(alloc, &mut env, &read)?;
+    let source = TypedSource::new(Parts {
+        tree,
+        env,
+        functions,
+        globals,
+        texts,
+    });
+    Ok((source, iface))
 }

@@ -10,3 +10,4 @@ mod wide;
 
 pub use error::LowerError;
 pub use lowering::{MOST_NODES, lower};
+pub use wide::MOST_VALUES;

@@ -14,8 +14,8 @@ use c_builtins::FIRST_SOURCE_FUNCTION;
 use c_types_nodes::{NodeId, TypedTable};
 use c_types_program::{Body, Statement, TypedProgram};
 
-// The evaluation stack of one function may be so deep.
-const MOST_VALUES: u8 = 64;
+/// How deep the evaluation stack of a function may be, in values.
+pub const MOST_VALUES: u8 = 64;
 
 fn maybe_depth(table: &TypedTable, value: Option<NodeId>) -> u8
     requires { IsMaybeAt table.now value }

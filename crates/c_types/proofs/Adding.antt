@@ -1,5 +1,5 @@
 -- What a function or a global adds to what is declared at file scope: one new name at most, which hides nothing.
-use Rattle.std.proofs.Common.{◌≡◌, ℕ, ◌+◌, ◌-◌, Bool, true, false, not, is_some, List, [], ◌∷◌, Option, Some, None, ◌⊎◌, inl, inr, if◌then◌else◌, refl, sym, ap, ◌∙◌, subst}
+use Rattle.std.proofs.Common.{◌≡◌, ℕ, ◌-◌, Bool, true, false, not, is_some, List, [], ◌∷◌, Option, Some, None, ◌⊎◌, inl, inr, if◌then◌else◌, refl, sym, ap, ◌∙◌, subst}
 use Rattle.std.specs.Option.{option_or}
 use Rattle.std.proofs.lemmas.Slice.Eq.{bytes_eq-Decides}
 use Rattle.c_syntax.specs.Syntax.{Parts, Rest, NoRest, Initial, Body, Members}
@@ -7,7 +7,7 @@ use Rattle.c_types_model.specs.Types.{CType, Void, Integer, PointerTo, ArrayOf, 
 use Rattle.c_builtins.specs.declared.builtin.Builtin.{Builtin}
 use Rattle.c_builtins.specs.declared.builtin.Builtin.TheVariants as builtins
 use Rattle.c_builtins.specs.Table.{first_source_function, name_of}
-use Rattle.c_scopes.specs.Scopes.{Scope, meaning_in, meaning_of, same_name}
+use Rattle.c_scopes.specs.Scopes.{Scope, meaning_in, same_name}
 use Rattle.c_types_rules.specs.Checked.{Checked, Fine, Noted, Broken, Notes, heard, keep, noting, ◌>>=◌, ◌>>◌}
 use Rattle.c_types_rules.specs.Environment.{Meaning, FunctionNamed, GlobalNamed, LocalNamed, builtin_of, extents, first_builtin, is_reserved}
 use Rattle.c_types_rules.specs.Expressions.{complete}

@@ -28,7 +28,7 @@ use Rattle.c_types_expressions.specs.Found.{Found}
 use Rattle.c_types_expressions.proofs.Kept.{same_table}
 use Rattle.c_types.specs.declared.declarations.Declarations.{Declarations}
 use Rattle.c_types.specs.States.{GoesOn, IsAligned, IsSound, Steps, program_of}
-use Rattle.c_types.specs.Sources.{IsSmall}
+use Rattle.c_types_source.specs.Sources.{IsSmall}
 use Rattle.c_types.specs.Members.{members_in}
 
 -- the program with one more struct, which is defined here

@@ -7,28 +7,33 @@ use Rattle.c_scopes.specs.Scopes.{innermost, same_name}
 use Rattle.c_syntax.specs.declared.id.DeclId.{DeclId}
 use Rattle.c_syntax.specs.Nodes.{Nodes}
 use Rattle.c_syntax.specs.Syntax.{Decl, Decls, NoDecls, MoreDecls}
-use Rattle.c_syntax.specs.Stands.{StandsDecl, StandDecls}
+use Rattle.c_syntax.specs.Stands.{Holds, StandsDecl, StandDecls}
+use Rattle.c_syntax_laws.specs.Numbers.{FitsDecls}
 use Rattle.c_types_rules.specs.Checked.{Checked, Fine, Noted, Broken, keep, noting, ◌>>=◌, ◌>>◌, Notes}
 use Rattle.c_types_rules.specs.Sources as sources
-use Rattle.c_types_rules.specs.Sources.{Program, declaration, declarations, has_main, main, nothing, program, tags_of}
+use Rattle.c_types_rules.specs.Sources.{Program, at_file, declaration, declarations, has_main, main, nothing, program, tags_of}
 use Rattle.c_types_rules.specs.Limits as limits
 use Rattle.c_types_rules.specs.Limits.{Outcome, Which, decided, first_limit, outcome, unless}
 use Rattle.c_types_operators.specs.declared.error.TypeError.{TypeError}
 use Rattle.c_types_operators.specs.declared.error.TypeError.TheVariants as operators
 use Rattle.c_types_nodes.specs.Tables.{Table}
 use Rattle.c_types_program.specs.declared.function.Function.{Function}
+use Rattle.c_types_program.specs.declared.global.Global.{Global}
 use Rattle.c_types_program.specs.declared.text.TextLiteral.{TextLiteral}
 use Rattle.c_types_program.specs.Declarations.{body_in, function_in, global_in}
 use Rattle.c_types_expressions.specs.Found.{Found}
 use Rattle.c_types_expressions.proofs.Sequences.{gone_on, passed, stopped_in}
 use Rattle.c_types.specs.declared.declarations.Declarations.{Declarations}
 use Rattle.c_types.specs.declared.error.CheckError.{CheckError}
-use Rattle.c_types.specs.declared.source.TypedSource.{TypedSource}
-use Rattle.c_types.specs.Answers.{IsCheckedSource}
+use Rattle.c_types.specs.declared.error.CheckError.TheVariants as checks
+use Rattle.c_types_source.specs.declared.parts.Parts.{Parts as TypedSource}
+use Rattle.c_types_source.specs.Sources.{IsTypedSource}
+use Rattle.c_types.specs.Answers.{IsChecked, IsDeclared, IsFirstError, which_in}
 use Rattle.c_types.specs.Quiet.{large_noted, quiet}
-use Rattle.c_types.specs.States.{Declares, DeclaresNothing, Ends, GoesOn, program_of}
+use Rattle.c_types.specs.States.{Declares, DeclaresNothing, Ends, GoesOn, IsSound, program_of}
 use Rattle.c_types.specs.Errors.{by_type_error}
 use Rattle.c_types.specs.Pieces.{finished}
+use Rattle.c_types.proofs.Followed.{at_file_is}
 use Rattle.c_types.proofs.Quieting.{quiet_error, quiet_then}
 use Rattle.c_types.proofs.Limited.{large_is_limited}
 
@@ -148,8 +153,37 @@ pub small_within : (l : Bool) (p : Program) → first_limit (not l) p ≡ None �
 small_within true p h = absurd (large_is_limited p h)
 small_within false p h = refl
 
-pub checked_as : (texts : List TextLiteral) (tags : List (List ℕ)) (o p : Outcome) (r : Result TypedSource CheckError) → o ≡ p → IsCheckedSource texts tags p r → IsCheckedSource texts tags o r
-checked_as texts tags o p r e h = subst (λ x. IsCheckedSource texts tags x r) (sym e) h
+pub checked_as : (texts : List TextLiteral) (N : Nodes) (ds : Decls) (o p : Outcome) (r : Result TypedSource CheckError) → o ≡ p → IsChecked texts N ds p r → IsChecked texts N ds o r
+checked_as texts N ds o p r e h = subst (λ x. IsChecked texts N ds x r) (sym e) h
+
+-- ---- the answer
+
+-- what is declared is the source, where it has no error
+pub typed_here : (N : Nodes) (ds : Decls) (d : Declarations) (texts : List TextLiteral) → IsSound d → IsDeclared N ds d → IsFirstError d None
+    → IsTypedSource ds (program_of d) (record { tree = N; env = d.env; functions = d.functions.items; globals = d.globals.items; texts = texts })
+typed_here N ds d texts sound h e = record {
+  holds = h.holds;
+  fits = h.fits;
+  typed = h.outcome_is ∙ e.0;
+  is = record {
+    env = sym (at_file_is d sound) ∙ ap (λ t. at_file t (program_of d)) h.tags;
+    functions = refl;
+    globals = refl;
+    are_functions = sound.functions;
+    are_globals = sound.globals;
+    small = sound.small e.1;
+  };
+}
+
+pub typed_by : (N : Nodes) (ds : Decls) (d : Declarations) (fs : List Function) (gs : List Global) (texts : List TextLiteral) → fs ≡ d.functions.items → gs ≡ d.globals.items → IsSound d → IsDeclared N ds d → IsFirstError d None
+    → IsTypedSource ds (program_of d) (record { tree = N; env = d.env; functions = fs; globals = gs; texts = texts })
+typed_by N ds d fs gs texts e g sound h none = rw (e, g) (typed_here N ds d texts sound h none)
+
+-- its first error is that of the source
+pub error_here : (N : Nodes) (ds : Decls) (d : Declarations) (texts : List TextLiteral) (e : CheckError) → IsDeclared N ds d → IsFirstError d (Some e) → IsChecked texts N ds (outcome ds) (Err e)
+error_here N ds d texts (checks.Rule f r) h e = checked_as texts N ds (outcome ds) (limits.Rule f r) (Err (checks.Rule f r)) (h.outcome_is ∙ e) (refl, refl)
+error_here N ds d texts (checks.Limit v) h e = checked_as texts N ds (outcome ds) (limits.Limit (which_in v)) (Err (checks.Limit v)) (h.outcome_is ∙ e) refl
+error_here N ds d texts checks.Memory h e = absurd e
 
 -- ---- from the beginning
 
@@ -193,14 +227,18 @@ outcome_is ds d n tags t h e =
     let begun : declarations (tags_of ds) nothing ds ≡ declarations d.env.env.tags (program_of d) ds = ap (λ g. declarations g nothing ds) (sym file) ∙ ap (λ p. declarations d.env.env.tags p ds) (sym (from_nothing tags d h)) in
     ap (λ c. decided (c >>= last)) begun ∙ noted_on d.env.found_large n.env.found_large n (declarations d.env.env.tags (program_of d) ds) h.small e.agrees
 
-pub outcome_stops : (ds : Decls) (d : Declarations) (tags : List (List ℕ)) (texts : List TextLiteral) (x : TypeError) → tags ≡ tags_of ds → DeclaresNothing tags d → Ends d (declarations d.env.env.tags (program_of d) ds) (Err x) → IsCheckedSource texts (tags_of ds) (outcome ds) (Err (by_type_error x))
+-- all that is declared of a source
+pub declared_in : (N : Nodes) (ds : Decls) (d n : Declarations) (tags : List (List ℕ)) → Holds N ds → FitsDecls ds → tags ≡ tags_of ds → DeclaresNothing tags d → Ends d (declarations d.env.env.tags (program_of d) ds) (Ok n) → IsDeclared N ds n
+declared_in N ds d n tags holds fits t h e = record { holds = holds; fits = fits; tags = e.kept.tags ∙ (ap (λ x. x.tags) h.env ∙ t); outcome_is = outcome_is ds d n tags t h e }
+
+pub outcome_stops : (ds : Decls) (d : Declarations) (tags : List (List ℕ)) (texts : List TextLiteral) (N : Nodes) (x : TypeError) → tags ≡ tags_of ds → DeclaresNothing tags d → Ends d (declarations d.env.env.tags (program_of d) ds) (Err x) → IsChecked texts N ds (outcome ds) (Err (by_type_error x))
 unfolding last
-outcome_stops ds d tags texts x t h e =
+outcome_stops ds d tags texts N x t h e =
     let file : d.env.env.tags ≡ tags_of ds = ap (λ y. y.tags) h.env ∙ t in
     let begun : declarations (tags_of ds) nothing ds ≡ declarations d.env.env.tags (program_of d) ds = ap (λ g. declarations g nothing ds) (sym file) ∙ ap (λ p. declarations d.env.env.tags p ds) (sym (from_nothing tags d h)) in
-    checked_as texts (tags_of ds) (outcome ds) (decided (declarations d.env.env.tags (program_of d) ds >>= last)) (Err (by_type_error x)) (ap (λ c. decided (c >>= last)) begun) (by (declarations d.env.env.tags (program_of d) ds) x e)
+    checked_as texts N ds (outcome ds) (decided (declarations d.env.env.tags (program_of d) ds >>= last)) (Err (by_type_error x)) (ap (λ c. decided (c >>= last)) begun) (by (declarations d.env.env.tags (program_of d) ds) x e)
   where
-    by : (c : Checked Program) (x : TypeError) → Found {B = Unit {0}} (notes_of d.env) (notes_of d.env) (λ _ _. Unit {0}) c (Err x) → IsCheckedSource texts (tags_of ds) (decided (c >>= last)) (Err (by_type_error x))
+    by : (c : Checked Program) (x : TypeError) → Found {B = Unit {0}} (notes_of d.env) (notes_of d.env) (λ _ _. Unit {0}) c (Err x) → IsChecked texts N ds (decided (c >>= last)) (Err (by_type_error x))
     by c operators.Memory p = tt
     by (Fine q) (operators.Rule a b) p = absurd p
     by (Noted n q) (operators.Rule a b) p = absurd p

@@ -10,8 +10,8 @@ use Rattle.c_types_environment.specs.States.{State}
 use Rattle.c_types_expressions.specs.Found.{Found, Stays}
 use Rattle.c_types.specs.declared.declarations.Declarations.{Declarations}
 use Rattle.c_types.specs.States.{IsAligned, IsSound, program_of}
-use Rattle.c_types.specs.Sources.{IsSmall}
-use Rattle.c_types.proofs.Grown.{are_functions_kept, are_globals_kept, functions_kept, globals_kept}
+use Rattle.c_types_source.specs.Sources.{IsSmall}
+use Rattle.c_types_source.proofs.Grown.{are_functions_kept, are_globals_kept, functions_kept, globals_kept}
 
 -- the same declarations in an environment that went on
 abbrev pub going_on : Declarations → State → Declarations

@@ -7,7 +7,7 @@ use Rattle.c_syntax.specs.Nodes.{Nodes, decl_at}
 use Rattle.c_syntax.specs.Stands.{StandAnnots}
 use Rattle.c_syntax.specs.Syntax.{Annots, Decl, Declare}
 use Rattle.c_types_model.specs.Types.{CType}
-use Rattle.c_types_rules.specs.Checked.{Checked, Fine, Noted, Broken, Notes, together}
+use Rattle.c_types_rules.specs.Checked.{Checked, Fine, Noted, Broken, Notes}
 use Rattle.c_types_rules.specs.Environment.{Environment, Meaning, Struct}
 use Rattle.c_types_rules.specs.Expressions.{annotation_types, declared_name}
 use Rattle.c_types_rules.specs.Sources.{Program, at_file, function_or_global}
@@ -25,7 +25,7 @@ use Rattle.c_types.specs.Pieces.{typed}
 use Rattle.c_types.specs.Quiet.{large_noted, quiet}
 use Rattle.c_types.specs.States.{Follows, GoesOn, IsSound, program_of}
 use Rattle.c_types.proofs.Adding.{Adds, Yields, declared_adds, sees_more}
-use Rattle.c_types.proofs.Followed.{at_file_is, going_on, small_before}
+use Rattle.c_types.proofs.Followed.{at_file_is, small_before}
 use Rattle.c_types.proofs.Quieting.{quiet_found}
 use Rattle.c_types.proofs.Wider.{Same, annotations_same, same}
 

@@ -1,4 +1,3 @@
-mod Grown
 mod Followed
 mod Stepping
 mod Quieting
@@ -12,7 +11,6 @@ mod Pushed
 mod Defined
 mod Limited
 mod Ended
-mod Sourced
 mod Naming
 mod FunctionSteps
 mod GlobalSteps

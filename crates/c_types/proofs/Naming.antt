@@ -7,13 +7,13 @@ use Rattle.c_syntax.specs.declared.declaration.Decl.{Decl as DeclNode}
 use Rattle.c_syntax.specs.declared.declaration.Rest.TheVariants as rests
 use Rattle.c_syntax.specs.Nodes.{Nodes, decl_at}
 use Rattle.c_syntax.specs.Syntax.{Annots, Decl, Decls, Parts, Rest, Declare, NoRest, Initial, Body, Members}
-use Rattle.c_syntax.specs.Stands.{StandAnnots, StandDecls, StandsDecl, StandsRest}
+use Rattle.c_syntax.specs.Stands.{StandDecls, StandsDecl, StandsRest}
 use Rattle.c_types_model.specs.Types.{CType}
 use Rattle.c_types_table.specs.declared.ids.TypeId.{TypeId}
 use Rattle.c_types_table.specs.declared.ty.Ty.{Ty}
 use Rattle.c_types_table.specs.declared.ty.Ty.TheVariants as nodes
 use Rattle.c_types_table.specs.Tables.{made, type_at, types_of}
-use Rattle.c_types_rules.specs.Checked.{Checked, ◌>>=◌, ◌>>◌}
+use Rattle.c_types_rules.specs.Checked.{Checked, ◌>>=◌}
 use Rattle.c_types_rules.specs.Environment.{Environment}
 use Rattle.c_types_rules.specs.Expressions.{annotation_types, declared_name, declared_type}
 use Rattle.c_types_rules.specs.Sources.{Program, at_file, declaration, function_or_global, struct_defined}

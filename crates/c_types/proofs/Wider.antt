@@ -3,15 +3,15 @@ use Rattle.std.proofs.Common.{◌≡◌, ℕ, ◌+◌, Bool, true, false, not, i
 use Rattle.std.specs.Option.{option_or}
 use Rattle.c_syntax.specs.declared.declaration.Base.{Base}
 use Rattle.c_syntax.specs.declared.declaration.Base.TheVariants as bases
-use Rattle.c_syntax.specs.Syntax.{Expr, Exprs, Decl, Decls, Annots, Annot, Items, Item, Atom, Parts, Name, Number, Char, Text, Binary, Assign, Cond, Prefix, Postfix, SizeofExpr, SizeofType, Cast, Index, Call, Member, Arrow, NoExprs, MoreExprs, Declare, NoDecls, MoreDecls, NoAnnots, MoreAnnots, Annotate, NoItems, MoreItems, OneFactor, TwoFactors, NameAtom, NumberAtom, ReturnAtom, SizeofAtom, NoParts, Pointer, Array, Params}
+use Rattle.c_syntax.specs.Syntax.{Expr, Exprs, Decl, Decls, Annots, Items, Atom, Parts, Name, Number, Char, Text, Binary, Assign, Cond, Prefix, Postfix, SizeofExpr, SizeofType, Cast, Index, Call, Member, Arrow, NoExprs, MoreExprs, Declare, NoDecls, MoreDecls, NoAnnots, MoreAnnots, Annotate, NoItems, MoreItems, OneFactor, TwoFactors, NameAtom, NumberAtom, ReturnAtom, SizeofAtom, NoParts, Pointer, Array, Params}
 use Rattle.c_types_model.specs.Types.{CType, CTypes, Void, Integer, PointerTo, ArrayOf, StructOf, UndefinedStruct, FunctionOf, NoTypes, MoreTypes}
 use Rattle.c_builtins.specs.declared.builtin.Builtin.{Builtin}
 use Rattle.c_scopes.specs.Scopes.{Scope, meaning_in, meaning_of}
 use Rattle.c_types_rules.specs.Checked.{Checked, Fine, Noted, Broken, Notes, keep, noting, small, unevaluated, ◌>>=◌, ◌>>◌}
 use Rattle.c_types_rules.specs.Constants.{integer_constant}
-use Rattle.c_types_rules.specs.TypedTree.{Callee, Object, Typed, Value, AnObject, AFunction, AValue, Pointed, object_type, value_of, value_type}
+use Rattle.c_types_rules.specs.TypedTree.{Callee, Object, Typed, Value, AnObject, AFunction, AValue, object_type, value_of, value_type}
 use Rattle.c_types_rules.specs.Environment.{Environment, Meaning, Struct, base_type, builtin_of, extents, is_reserved}
-use Rattle.c_types_rules.specs.Expressions.{annotation_type, annotation_types, arguments, arrow_of, atom_type, builtin_called, builtin_in, builtin_unless, called, complete, declarator_type, declared_type, expression, is_small, item_type, item_types, length_of, meant, member, member_of, named, parameter_scope, parameter_type, parameter_types, start_of, unknown_name}
+use Rattle.c_types_rules.specs.Expressions.{annotation_types, arguments, arrow_of, atom_type, builtin_called, builtin_in, builtin_unless, called, complete, declarator_type, declared_type, expression, is_small, item_types, length_of, meant, member, member_of, parameter_scope, parameter_type, parameter_types, start_of, unknown_name}
 
 -- ---- answers
 

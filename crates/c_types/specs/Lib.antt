@@ -1,5 +1,4 @@
 pub mod Errors
-pub mod Sources
 pub mod Quiet
 pub mod Known
 pub mod States

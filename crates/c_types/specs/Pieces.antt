@@ -1,5 +1,5 @@
 -- What parts of declarations make of a program.
-use Rattle.std.specs.Prelude.{ℕ, Bool, true, false, not, nat_le, Option, Some, None, List, ◌∷◌, [], ◌++◌, is_some}
+use Rattle.std.specs.Prelude.{ℕ, Bool, not, nat_le, Option, Some, None, List, ◌∷◌, [], ◌++◌, is_some}
 use Rattle.c_syntax.specs.declared.declaration.Base.{Base}
 use Rattle.c_syntax.specs.declared.declaration.Base.TheVariants as bases
 use Rattle.c_syntax.specs.declared.declaration.Rest.{Rest as After}

@@ -14,7 +14,7 @@ use Rattle.c_types_program.specs.Declarations.{IsFunction, IsGlobal, function_in
 use Rattle.c_types_expressions.specs.Found.{Finds, Found}
 use Rattle.c_types.specs.declared.declarations.Declarations.{Declarations}
 use Rattle.c_types.specs.Quiet.{large_noted, quiet}
-use Rattle.c_types.specs.Sources.{IsSmall}
+use Rattle.c_types_source.specs.Sources.{IsSmall}
 
 -- the program that is declared
 abbrev pub program_of : Declarations → Program

@@ -10,12 +10,11 @@ mod growing;
 mod limits;
 mod members;
 mod signature;
-mod source;
 mod structs;
 mod tags;
 mod texts;
 mod whole;
 
 pub use error::{CheckError, Which};
-pub use source::{TypedSource, sources_stay_typed};
-pub use whole::{check, check_source};
+pub use limits::{GREATEST_FRAME, MOST_FUNCTIONS, MOST_PARAMS};
+pub use whole::check;

@@ -21,13 +21,13 @@ use c_types_program::{Function, Global};
 use c_types_table::TypeId;
 
 /// How many functions a source has at most.
-const MOST_FUNCTIONS: usize = 1_000;
+pub const MOST_FUNCTIONS: usize = 1_000;
 
 /// How many parameters a function has at most.
-const MOST_PARAMS: usize = 8;
+pub const MOST_PARAMS: usize = 8;
 
 /// How many bytes the parameters and locals of a function have at most.
-const GREATEST_FRAME: u64 = 32_768;
+pub const GREATEST_FRAME: u64 = 32_768;
 
 // Whether no function has too many parameters.
 fn few_params(env: &Environment, functions: &[Function]) -> bool

@@ -4,28 +4,22 @@ use Rattle.c_lexer.specs.declared.token.Token.{Token}
 use Rattle.c_lexer.specs.Lexing.{IsTokens}
 use Rattle.c_parser.specs.declared.parsing.Parsed.{Parsed}
 use Rattle.c_parser.specs.Parsed.{IsCounted}
-use Rattle.c_syntax.specs.Nodes.{Nodes}
 use Rattle.c_syntax.specs.Syntax.{Decls}
 use Rattle.c_types_rules.specs.Limits.{Outcome}
 use Rattle.c_types_program.specs.Programs.{IsProgram}
 use Rattle.annot_reader_rules.specs.Cuts.{annotations}
-use Rattle.c_types.specs.declared.source.TypedSource.{TypedSource}
+use Rattle.c_types_source.specs.declared.parts.Parts.{Parts as TypedSource}
 use Rattle.annot_reader.specs.Interfaces.{IsInterface}
-use Rattle.annot_reader.specs.Sources as readable
 use Rattle.front_end.specs.declared.source.CheckedSource.{CheckedSource}
 use Rattle.front_end.specs.Answers.{IsAccepted, IsCode, IsTyped, SaysOf}
 use Rattle.front_end.specs.Sources.{IsSource, too_large}
 use Rattle.front_end.proofs.Refusals.{read}
 
--- the annotations of a typed source can be read
-pub typed_source : (N : Nodes) (ts : List Token) (ds : Decls) (s : TypedSource) → (t : IsTyped N ts ds s) → readable.IsTypedSource N s.env s.functions ds t.program
-typed_source N ts ds s t = record { holds = t.holds; fits = t.fits; typed = t.typed; env = t.is.env; functions = t.is.functions; numbers = t.is.are_functions }
-
-pub accepted : (bytes cut : List ℕ) (N : Nodes) (ds : Decls) (s : TypedSource) (c : CheckedSource) → (source : IsSource bytes ds) → (t : IsTyped N source.tokens ds s) → IsProgram c.program t.program → c.program.texts ≡ s.texts
+pub accepted : (bytes cut : List ℕ) (ds : Decls) (s : TypedSource) (c : CheckedSource) → (source : IsSource bytes ds) → (t : IsTyped source.tokens ds s) → IsProgram c.program t.program → c.program.texts ≡ s.texts
     → IsInterface cut (annotations ds t.program) (Ok c.interface) → too_large ds t.program ≡ None → IsCode c.program c.code → IsAccepted bytes cut c
-accepted bytes cut N ds s c source t program texts reads small code = record {
-  right = record { ds = ds; source = source; right = read cut ds t.program c.interface t.typed reads ∙ small };
-  says = subst (λ (o : Outcome). SaysOf cut source.tokens ds o c) (sym t.typed) (program, texts ∙ t.texts, reads, code);
+accepted bytes cut ds s c source t program texts reads small code = record {
+  right = record { ds = ds; source = source; right = read cut ds t.program c.interface t.is.typed reads ∙ small };
+  says = subst (λ (o : Outcome). SaysOf cut source.tokens ds o c) (sym t.is.typed) (program, texts ∙ t.texts, reads, code);
 }
 
 -- the bytes are a source where their tokens have a tree

@@ -5,6 +5,7 @@ use Rattle.c_lexer.specs.declared.error.LexError.{LexError}
 use Rattle.c_lexer.specs.declared.error.LexError.TheVariants as lexing
 use Rattle.c_lexer.specs.declared.token.Token.{Token}
 use Rattle.c_lexer.specs.Lexing as tokens
+use Rattle.c_syntax.specs.Nodes.{Nodes}
 use Rattle.c_syntax.specs.Syntax.{Decls}
 use Rattle.c_parser.specs.declared.parsing.ParseError.{ParseError}
 use Rattle.c_parser.specs.declared.parsing.ParseError.TheVariants as parsing
@@ -20,9 +21,9 @@ use Rattle.c_types.specs.declared.error.CheckError.{CheckError}
 use Rattle.c_types.specs.declared.error.CheckError.TheVariants as typing
 use Rattle.c_types.specs.declared.error.Which.{Which}
 use Rattle.c_types.specs.declared.error.Which.TheVariants as numbers
-use Rattle.c_types.specs.declared.source.TypedSource.{TypedSource}
-use Rattle.c_types.specs.Answers.{IsCheckedSource, which_in}
-use Rattle.c_types.specs.Sources.{IsTypedAs}
+use Rattle.c_types_source.specs.declared.parts.Parts.{Parts as TypedSource}
+use Rattle.c_types_source.specs.Sources.{IsTypedSource}
+use Rattle.c_types.specs.Answers.{IsChecked, which_in}
 use Rattle.annot_reader.specs.declared.error.InterfaceError.{InterfaceError}
 use Rattle.annot_reader.specs.declared.error.InterfaceError.TheVariants as reading
 use Rattle.annot_reader.specs.Interface.{Interface}
@@ -66,34 +67,34 @@ same_number numbers.Object = refl
 same_number numbers.Globals = refl
 same_number numbers.Frame = refl
 
-broken_types : (bytes cut : List ℕ) (ds : Decls) (texts : List TextLiteral) (tags : List (List ℕ)) (o : Outcome) (error : CheckError)
-    → outcome ds ≡ o → IsSource bytes ds → IsCheckedSource texts tags o (Err error) → IsSourceError bytes cut (by_types error)
-broken_types bytes cut ds texts tags o typing.Memory same source is = tt
-broken_types bytes cut ds texts tags (limits.Rule from rule) (typing.Rule f r) same source is =
+broken_types : (bytes cut : List ℕ) (ds : Decls) (texts : List TextLiteral) (N : Nodes) (o : Outcome) (error : CheckError)
+    → outcome ds ≡ o → IsSource bytes ds → IsChecked texts N ds o (Err error) → IsSourceError bytes cut (by_types error)
+broken_types bytes cut ds texts N o typing.Memory same source is = tt
+broken_types bytes cut ds texts N (limits.Rule from rule) (typing.Rule f r) same source is =
     refused (found (rules.Type r) f) ds source
     (ap (fault_of_types cut ds) same ∙ ap (λ (n : ℕ). Some (found (rules.Type rule) n)) (sym is.0) ∙ ap (λ (n : ℕ). Some (found (rules.Type n) f)) (sym is.1))
-broken_types bytes cut ds texts tags (limits.Rule from rule) (typing.Limit v) same source is = absurd is
-broken_types bytes cut ds texts tags (limits.Limit w) (typing.Limit v) same source is =
+broken_types bytes cut ds texts N (limits.Rule from rule) (typing.Limit v) same source is = absurd is
+broken_types bytes cut ds texts N (limits.Limit w) (typing.Limit v) same source is =
     refused (errors.Limit (Types v)) ds source
     (ap (fault_of_types cut ds) same ∙ ap (λ (n : limits.Which). Some (errors.Limit (Types (which_of n)))) (sym is) ∙ ap (λ (n : Which). Some (errors.Limit (Types n))) (same_number v))
-broken_types bytes cut ds texts tags (limits.Limit w) (typing.Rule f r) same source is = absurd is
-broken_types bytes cut ds texts tags (limits.Typed p) (typing.Rule f r) same source is = absurd is
-broken_types bytes cut ds texts tags (limits.Typed p) (typing.Limit v) same source is = absurd is
+broken_types bytes cut ds texts N (limits.Limit w) (typing.Rule f r) same source is = absurd is
+broken_types bytes cut ds texts N (limits.Typed p) (typing.Rule f r) same source is = absurd is
+broken_types bytes cut ds texts N (limits.Typed p) (typing.Limit v) same source is = absurd is
 
-pub by_typing : (bytes cut : List ℕ) (ds : Decls) (texts : List TextLiteral) (tags : List (List ℕ)) (error : CheckError)
-    → IsSource bytes ds → IsCheckedSource texts tags (outcome ds) (Err error) → IsSourceError bytes cut (by_types error)
-by_typing bytes cut ds texts tags error source is = broken_types bytes cut ds texts tags (outcome ds) error refl source is
+pub by_typing : (bytes cut : List ℕ) (ds : Decls) (texts : List TextLiteral) (N : Nodes) (error : CheckError)
+    → IsSource bytes ds → IsChecked texts N ds (outcome ds) (Err error) → IsSourceError bytes cut (by_types error)
+by_typing bytes cut ds texts N error source is = broken_types bytes cut ds texts N (outcome ds) error refl source is
 
-typed_program : (ds : Decls) (texts : List TextLiteral) (tags : List (List ℕ)) (o : Outcome) (s : TypedSource) → outcome ds ≡ o → IsCheckedSource texts tags o (Ok s)
-    → (p : Program) × (outcome ds ≡ limits.Typed p) × IsTypedAs tags p s × (s.texts ≡ texts)
-typed_program ds texts tags (limits.Typed p) s same is = (p, same, is.0, is.1)
-typed_program ds texts tags (limits.Rule from rule) s same is = absurd is
-typed_program ds texts tags (limits.Limit w) s same is = absurd is
+typed_program : (ds : Decls) (texts : List TextLiteral) (N : Nodes) (o : Outcome) (s : TypedSource) → outcome ds ≡ o → IsChecked texts N ds o (Ok s)
+    → (p : Program) × IsTypedSource ds p s × (s.texts ≡ texts)
+typed_program ds texts N (limits.Typed p) s same is = (p, is.0, is.2)
+typed_program ds texts N (limits.Rule from rule) s same is = absurd is
+typed_program ds texts N (limits.Limit w) s same is = absurd is
 
 -- a source that is typed is so as a program
-pub program_of : (ds : Decls) (texts : List TextLiteral) (tags : List (List ℕ)) (s : TypedSource) → IsCheckedSource texts tags (outcome ds) (Ok s)
-    → (p : Program) × (outcome ds ≡ limits.Typed p) × IsTypedAs tags p s × (s.texts ≡ texts)
-program_of ds texts tags s is = typed_program ds texts tags (outcome ds) s refl is
+pub program_of : (ds : Decls) (texts : List TextLiteral) (N : Nodes) (s : TypedSource) → IsChecked texts N ds (outcome ds) (Ok s)
+    → (p : Program) × IsTypedSource ds p s × (s.texts ≡ texts)
+program_of ds texts N s is = typed_program ds texts N (outcome ds) s refl is
 
 -- ---- annotations
 

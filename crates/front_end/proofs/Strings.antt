@@ -4,15 +4,14 @@ use Rattle.std.specs.List.{filter}
 use Rattle.c_lexer.specs.declared.token.Kind.{Kind}
 use Rattle.c_lexer.specs.declared.token.Kind.TheVariants as kinds
 use Rattle.c_lexer.specs.declared.token.Token.{Token}
-use Rattle.c_syntax.specs.Nodes.{Nodes}
 use Rattle.c_syntax.specs.Syntax.{Decls}
-use Rattle.c_types.specs.declared.source.TypedSource.{TypedSource}
+use Rattle.c_types_source.specs.declared.parts.Parts.{Parts as TypedSource}
 use Rattle.c_types.specs.Texts.{if_text, texts_among}
 use Rattle.front_end.specs.Answers.{IsTyped}
 
 -- a source is typed as with other tokens that have the same strings
-pub typed_by : {N : Nodes} {us ts : List Token} {ds : Decls} {s : TypedSource} → texts_among us ≡ texts_among ts → IsTyped N us ds s → IsTyped N ts ds s
-typed_by same t = record { program = t.program; holds = t.holds; fits = t.fits; typed = t.typed; is = t.is; texts = t.texts ∙ same }
+pub typed_by : {us ts : List Token} {ds : Decls} {s : TypedSource} → texts_among us ≡ texts_among ts → IsTyped us ds s → IsTyped ts ds s
+typed_by same t = record { program = t.program; is = t.is; texts = t.texts ∙ same }
 
 abbrev text_test : Kind → Bool
 text_test (kinds.Text bytes) = true

@@ -1,12 +1,9 @@
 -- What an answer to the bytes of a source and the name of a cut says.
 use Rattle.std.specs.Prelude.{◌≡◌, ℕ, List, Some, Result, Ok, Err}
 use Rattle.c_lexer.specs.declared.token.Token.{Token}
-use Rattle.c_syntax.specs.Nodes.{Nodes}
-use Rattle.c_syntax.specs.Stands.{Holds}
 use Rattle.c_syntax.specs.Syntax.{Decls}
-use Rattle.c_syntax_laws.specs.Numbers.{FitsDecls}
 use Rattle.c_types_rules.specs.Limits.{Outcome, Typed, outcome}
-use Rattle.c_types_rules.specs.Sources.{Program, tags_of}
+use Rattle.c_types_rules.specs.Sources.{Program}
 use Rattle.c_code.specs.Machine.{Flat}
 use Rattle.c_code.specs.Typed.{KeepsTypes}
 use Rattle.c_semantics.specs.Context.{Source}
@@ -17,8 +14,8 @@ use Rattle.c_types_program.specs.declared.text.TextLiteral.{TextLiteral}
 use Rattle.c_lower.specs.Lowered.{IsSourceOf, lowered}
 use Rattle.c_lower.specs.Named.{NamesNoMore}
 use Rattle.annot_reader_rules.specs.Cuts.{annotations}
-use Rattle.c_types.specs.declared.source.TypedSource.{TypedSource}
-use Rattle.c_types.specs.Sources.{IsTypedAs}
+use Rattle.c_types_source.specs.declared.parts.Parts.{Parts as TypedSource}
+use Rattle.c_types_source.specs.Sources.{IsTypedSource}
 use Rattle.c_types.specs.Texts.{texts_among}
 use Rattle.annot_reader.specs.Interface.{Interface}
 use Rattle.annot_reader.specs.Interfaces.{IsInterface}
@@ -27,15 +24,11 @@ use Rattle.front_end.specs.declared.error.SourceError.TheVariants.{Memory}
 use Rattle.front_end.specs.declared.source.CheckedSource.{CheckedSource}
 use Rattle.front_end.specs.Sources.{IsRight, IsWrong, too_large}
 
--- the tree is that of these declarations, which keep all rules and limits of types, and this is what they
--- are, with the strings among
--- the tokens
-pub record IsTyped (N : Nodes) (ts : List Token) (ds : Decls) (s : TypedSource) : Type 0 where
+-- the declarations keep all rules and limits of types, and this is what they are, with the strings among the
+-- tokens
+pub record IsTyped (ts : List Token) (ds : Decls) (s : TypedSource) : Type 0 where
   pub program : Program
-  pub holds : Holds N ds
-  pub fits : FitsDecls ds
-  pub typed : outcome ds ≡ Typed program
-  pub is : IsTypedAs (tags_of ds) program s
+  pub is : IsTypedSource ds program s
   pub texts : s.texts ≡ texts_among ts
 
 -- the flat code of a program: it makes exactly the marks of the source, wherever its objects lie, hands over

@@ -5,7 +5,7 @@ ghost use Rattle.c_syntax.specs.Syntax.{Decls};
 ghost use Rattle.c_types_rules.specs.Limits.{Typed, outcome};
 ghost use Rattle.c_types_rules.specs.Sources.{Program};
 ghost use Rattle.c_types_program.specs.Programs.{IsProgram};
-ghost use Rattle.c_parser.specs.Parsed.{IsCountedTree};
+ghost use Rattle.c_parser_nodes.specs.Counts.{capped, source_nodes};
 ghost use Rattle.front_end.specs.Answers.{IsCode, IsTooLarge};
 ghost use Rattle.front_end.specs.Sources.{too_large};
 
@@ -15,42 +15,41 @@ use c_code_fused::FusedCode;
 use c_lower::lower;
 use c_lower_laws::typed_programs_fit;
 use c_lower_sizes::code_is_small;
-use c_parser::Parsed;
 use c_types_program::TypedProgram;
 use std::alloc::Global;
 
-/// The flat code of a source that has this tree and so many nodes, and is this by its types, fused. `Limit` where it has too
+/// The flat code of a source that has so many nodes and is this by its types, fused. `Limit` where it has too
 /// many nodes, or else too deep an evaluation stack in one of its functions; `Memory` where there is no memory.
 pub(crate) fn code_of(
     alloc: Global,
-    parsed: &Parsed,
+    nodes: usize,
     program: &TypedProgram,
 ) -> Result<FusedCode, SourceError>
-    requires typed { (ds : Decls) × (p : Program) × IsCountedTree parsed.now ds × (outcome ds ≡ Typed p) ×
+    requires typed { (ds : Decls) × (p : Program) × (nodes ≡ capped (source_nodes ds)) × (outcome ds ≡ Typed p) ×
         IsProgram program.now p }
     requires texts { length program.now.texts < 2 ^ 32 }
-    ensures small { (ds : Decls) (p : Program) → IsCountedTree parsed.now ds → outcome ds ≡ Typed p →
+    ensures small { (ds : Decls) (p : Program) → nodes ≡ capped (source_nodes ds) → outcome ds ≡ Typed p →
         IsProgram program.now p → OnOk result (too_large ds p ≡ None) }
     ensures code { IfOk result (IsCode program.now) }
-    ensures refused { (ds : Decls) (p : Program) → IsCountedTree parsed.now ds → outcome ds ≡ Typed p →
+    ensures refused { (ds : Decls) (p : Program) → nodes ≡ capped (source_nodes ds) → outcome ds ≡ Typed p →
         IsProgram program.now p → IfErr result (IsTooLarge ds p) }
 {
-    let code = flat_code_of(alloc, parsed, program)?;
+    let code = flat_code_of(alloc, nodes, program)?;
     Ok(FusedCode::new(alloc, code)?)
 }
 
 // The same as its instructions alone.
-fn flat_code_of(alloc: Global, parsed: &Parsed, program: &TypedProgram) -> Result<Code, SourceError>
-    requires typed { (ds : Decls) × (p : Program) × IsCountedTree parsed.now ds × (outcome ds ≡ Typed p) ×
+fn flat_code_of(alloc: Global, nodes: usize, program: &TypedProgram) -> Result<Code, SourceError>
+    requires typed { (ds : Decls) × (p : Program) × (nodes ≡ capped (source_nodes ds)) × (outcome ds ≡ Typed p) ×
         IsProgram program.now p }
     requires texts { length program.now.texts < 2 ^ 32 }
-    ensures small { (ds : Decls) (p : Program) → IsCountedTree parsed.now ds → outcome ds ≡ Typed p →
+    ensures small { (ds : Decls) (p : Program) → nodes ≡ capped (source_nodes ds) → outcome ds ≡ Typed p →
         IsProgram program.now p → OnOk result (too_large ds p ≡ None) }
     ensures code { IfOk result (IsCode program.now) }
-    ensures refused { (ds : Decls) (p : Program) → IsCountedTree parsed.now ds → outcome ds ≡ Typed p →
+    ensures refused { (ds : Decls) (p : Program) → nodes ≡ capped (source_nodes ds) → outcome ds ≡ Typed p →
         IsProgram program.now p → IfErr result (IsTooLarge ds p) }
 {
     typed_programs_fit();
     code_is_small();
-    Ok(lower(alloc, program, parsed.nodes)?)
+    Ok(lower(alloc, program, nodes)?)
 }

@@ -20,8 +20,9 @@ use c_lexer::{Kind, Token, lex};
 use c_parser::{Parsed, build_counted, postfix};
 use c_syntax::Tree;
 use c_syntax_laws::numbers_fit;
-use c_types::{TypedSource, check_source as check_types, sources_stay_typed};
+use c_types::check;
 use c_types_program::TypedProgram;
+use c_types_source::TypedSource;
 use std::alloc::Global;
 
 /// A source that is accepted: its typed program, the interface of the cut, and its flat code.
@@ -75,14 +76,13 @@ fn tree_of(alloc: Global, tokens: Vec<Token>) -> Result<(Parsed, Vec<Token>), So
 }
 
 // What the source is by its types.
-fn typed(alloc: Global, tokens: &[Token], tree: &Tree) -> Result<TypedSource, SourceError>
-    requires { IsFit tree.now }
-    ensures typed { (ds : Decls) → Holds tree.now ds → FitsDecls ds →
-        IfOk result (IsTyped tree.now tokens.now ds) }
-    ensures refused { (bytes cut : List ℕ) (ds : Decls) → Holds tree.now ds → IsSource bytes ds →
+fn typed(alloc: Global, tokens: &[Token], tree: Tree) -> Result<TypedSource, SourceError>
+    requires { IsFit tree }
+    ensures typed { (ds : Decls) → Holds tree ds → FitsDecls ds → IfOk result (IsTyped tokens.now ds) }
+    ensures refused { (bytes cut : List ℕ) (ds : Decls) → Holds tree ds → FitsDecls ds → IsSource bytes ds →
         IfErr result (IsSourceError bytes cut) }
 {
-    match check_types(alloc, tokens, tree) {
+    match check(alloc, tokens, tree) {
         Ok(source) => Ok(source),
         Err(error) => Err(SourceError::from(error)),
     }
@@ -92,31 +92,15 @@ fn typed(alloc: Global, tokens: &[Token], tree: &Tree) -> Result<TypedSource, So
 fn with_interface(
     alloc: Global,
     source: TypedSource,
-    tree: &Tree,
     cut: &[u8],
 ) -> Result<(TypedProgram, Iface), SourceError>
-    requires { (ts : List Lexed) × (ds : Decls) × IsTyped tree.now ts ds source }
-    ensures { (bytes : List ℕ) (ds : Decls) → (s : IsSource bytes ds) →
-        (t : IsTyped tree.now s.tokens ds source) → IsRead bytes cut.now ds t.program source.texts result }
+    ensures { (bytes : List ℕ) (ds : Decls) → (s : IsSource bytes ds) → (t : IsTyped s.tokens ds source) →
+        IsRead bytes cut.now ds t.program source.texts result }
 {
-    let TypedSource {
-        env,
-        functions,
-        globals,
-        texts,
-    } = source;
-    let (env, interface) = match interface_of(alloc, env, functions.as_slice(), tree, cut) {
-        Ok(found) => found,
-        Err(error) => return Err(SourceError::from(error)),
-    };
-    sources_stay_typed();
-    let source = TypedSource {
-        env,
-        functions,
-        globals,
-        texts,
-    };
-    Ok((source.into_program(), interface))
+    match interface_of(alloc, source, cut) {
+        Ok((source, interface)) => Ok((source.into_program(), interface)),
+        Err(error) => Err(SourceError::from(error)),
+    }
 }
 
 /// The source that these bytes are, at most 1 MiB, with the interface of the cut and its flat code.
@@ -132,10 +116,11 @@ pub fn check_source(alloc: Global, bytes: &[u8], cut: &[u8]) -> Result<CheckedSo
     let tokens = tokens_of(alloc, bytes)?;
     let (parsed, strings) = tree_of(alloc, tokens)?;
     numbers_fit();
-    let source = typed(alloc, &strings, &parsed.tree)?;
+    let Parsed { tree, nodes } = parsed;
+    let source = typed(alloc, &strings, tree)?;
     drop(strings);
-    let (program, interface) = with_interface(alloc, source, &parsed.tree, cut)?;
-    let code = code_of(alloc, &parsed, &program)?;
+    let (program, interface) = with_interface(alloc, source, cut)?;
+    let code = code_of(alloc, nodes, &program)?;
     Ok(CheckedSource {
         program,
         interface,

@@ -3,7 +3,9 @@
 ghost use Rattle.std.specs.Prelude.{◌≡◌, ◌++◌, IfOk, OnOk, codes, decimal};
 ghost use Rattle.r2_cli.specs.Source.{limit_number, limit_word, no_cut_words, rule_words, source_words};
 
-use c_types::Which;
+use c_lower::{MOST_NODES, MOST_VALUES};
+use c_types::{GREATEST_FRAME, MOST_FUNCTIONS, MOST_PARAMS, Which};
+use c_types_model::{GREATEST_OBJECT, MOST_MEMBERS};
 use front_end::{SourceFault, SourceLimit, SourceRule};
 use r2_base::put_dec;
 use std::alloc::{AllocError, Global};
@@ -76,18 +78,18 @@ pub fn limit_word(limit: SourceLimit) -> &'static str
     }
 }
 
-/// Its number.
+/// Its number, as it is tested.
 pub fn limit_number(limit: SourceLimit) -> usize
     ensures { result ≡ limit_number limit }
 {
     match limit {
-        SourceLimit::Types(Which::Functions) => 1_000,
-        SourceLimit::Types(Which::Params) => 8,
-        SourceLimit::Types(Which::Members) => 64,
-        SourceLimit::Types(Which::Object) => 1_048_576,
-        SourceLimit::Types(Which::Globals) => 1_048_576,
-        SourceLimit::Types(Which::Frame) => 32_768,
-        SourceLimit::Nodes => 131_072,
-        SourceLimit::Values => 64,
+        SourceLimit::Types(Which::Functions) => MOST_FUNCTIONS,
+        SourceLimit::Types(Which::Params) => MOST_PARAMS,
+        SourceLimit::Types(Which::Members) => MOST_MEMBERS,
+        SourceLimit::Types(Which::Object) => GREATEST_OBJECT as usize,
+        SourceLimit::Types(Which::Globals) => GREATEST_OBJECT as usize,
+        SourceLimit::Types(Which::Frame) => GREATEST_FRAME as usize,
+        SourceLimit::Nodes => MOST_NODES,
+        SourceLimit::Values => MOST_VALUES as usize,
     }
 }

@@ -1,6 +1,5 @@
-use Rattle.std.proofs.Common.{refl, sym, subst}
+use Rattle.std.proofs.Common.{sym, subst}
 use Rattle.c_syntax.specs.Stands.{StandAnnots}
-use Rattle.c_types_expressions.specs.Found.{Finds}
 use Rattle.c_types_expressions.specs.Walks.{AreAnnots}
 use Rattle.c_types_expressions.proofs.Kept.{stay}
 use Rattle.c_types.specs.Known.{IsKnown}

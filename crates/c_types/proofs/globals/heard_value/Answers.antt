@@ -1,6 +1,5 @@
 use Rattle.std.proofs.Common.{◌≡◌, ◌<◌, List, Err, Ok, length, sym, ap, ◌∙◌, subst}
 use Rattle.std.proofs.lemmas.Result.{err_from_is_err_and}
-use Rattle.std.specs.Option.{option_map}
 use Rattle.c_types_table.specs.Tables.{type_at}
 use Rattle.c_types_rules.specs.Checked.{heard}
 use Rattle.c_types_rules.specs.Sources.{global_value}

@@ -15,15 +15,15 @@ lower-requires c =
     record {
       fit = c.typed_programs_fit.ensures t.0 t.1 d t.3 t.4;
       texts = c.requires.texts;
-      small = λ few. code_small t.0 t.1 d c.args.parsed.now.nodes t.2.1 (c.code_is_small.ensures t.0 t.1 t.3) t.4 few;
+      small = λ few. code_small t.0 t.1 d c.args.nodes t.2 (c.code_is_small.ensures t.0 t.1 t.3) t.4 few;
     }
 
 pub returns-in_err-lower-clause-refused : goal.returns-in_err-lower-clause-refused
 returns-in_err-lower-clause-refused c = λ ds p tree typed is.
     let q = err_from_is_err_and c.from_residual.result c.from_residual.ensures.1 in
     subst (λ (r : Result Flat SourceError). IfErr r (IsTooLarge ds p)) (sym (q.1 ∙ ap Err q.2))
-    (large ds p (functions_in c.args.program.now) c.args.parsed.now.nodes tree.1 (ap (λ (q : Program). q.functions) is) c.in_err-lower.field-0.0 c.in_err-lower.ensures.long c.in_err-lower.ensures.wide)
+    (large ds p (functions_in c.args.program.now) c.args.nodes tree (ap (λ (q : Program). q.functions) is) c.in_err-lower.field-0.0 c.in_err-lower.ensures.long c.in_err-lower.ensures.wide)
 
 pub returns-clause-small : goal.returns-clause-small
 returns-clause-small c = λ ds p tree typed is.
-    small ds p (functions_in c.args.program.now) c.args.parsed.now.nodes tree.1 (ap (λ (q : Program). q.functions) is) c.in_ok-lower.ensures.few
+    small ds p (functions_in c.args.program.now) c.args.nodes tree (ap (λ (q : Program). q.functions) is) c.in_ok-lower.ensures.few

@@ -1,5 +1,5 @@
 -- Typed sources, and the programs that they are.
-use Rattle.std.proofs.Common.{◌≡◌, ℕ, suc, ◌≤◌, false, List, [], ◌∷◌, ◌++◌, length, map, Ok, Err, refl, sym, ap, ◌∙◌, subst, arith, append_assoc}
+use Rattle.std.proofs.Common.{◌≡◌, ℕ, suc, ◌≤◌, List, [], ◌∷◌, ◌++◌, length, map, refl, sym, ap, ◌∙◌, subst, arith, append_assoc}
 use Rattle.std.specs.List.{All}
 use Rattle.std.proofs.lemmas.List.Elements.{All-head, All-tail}
 use Rattle.c_types_model.specs.Layouts.{capped, capped_extent}
@@ -10,24 +10,15 @@ use Rattle.c_types_table.specs.Tables.{type_at, types_of}
 use Rattle.c_types_structs.specs.Members.{Definitions, MemberList, members_at, read_members}
 use Rattle.c_types_rules.specs.Environment.{Struct, extents}
 use Rattle.c_types_rules.specs.Sources.{Program}
-use Rattle.c_types_rules.specs.Limits as limits
-use Rattle.c_types_rules.specs.Limits.{Outcome}
 use Rattle.c_types_nodes.specs.Tables.{Table}
-use Rattle.c_types_program.specs.declared.text.TextLiteral.{TextLiteral}
-use Rattle.c_types_program.specs.Declarations.{Declared, IsFunction, IsGlobal, declared, function_in, global_in, struct_in, structs_from}
+use Rattle.c_types_program.specs.Declarations.{IsFunction, IsGlobal, declared, function_in, global_in, struct_in, structs_from}
 use Rattle.c_types_program.specs.Programs.{IsProgram}
 use Rattle.c_types_environment.specs.Reading.{members_by, struct_with, structs_by}
-use Rattle.c_types_environment.specs.States.{State}
-use Rattle.c_types_expressions.specs.Found.{Stays}
-use Rattle.c_types.specs.declared.declarations.Declarations.{Declarations}
-use Rattle.c_types.specs.declared.error.CheckError.{CheckError}
-use Rattle.c_types.specs.declared.error.CheckError.TheVariants as errors
-use Rattle.c_types.specs.declared.source.TypedSource.{TypedSource}
-use Rattle.c_types.specs.Answers.{IsChecked, IsCheckedSource}
-use Rattle.c_types.specs.States.{IsSound, program_of}
-use Rattle.c_types.specs.Sources.{IsSmall, IsTypedAs}
-use Rattle.c_types.proofs.Followed.{at_file_is}
-use Rattle.c_types.proofs.Grown.{are_functions_kept, are_globals_kept, functions_kept, globals_kept}
+use Rattle.c_syntax.specs.Stands.{Holds}
+use Rattle.c_syntax.specs.Syntax.{Decls}
+use Rattle.c_types_source.specs.declared.parts.Parts.{Parts}
+use Rattle.c_types_source.specs.Sources.{GoesOn, IsRight, IsSmall, IsTypedAs, IsTypedSource}
+use Rattle.c_types_source.proofs.Grown.{are_functions_kept, are_globals_kept, functions_kept, globals_kept}
 
 -- ---- structs as they are stored
 
@@ -70,7 +61,7 @@ stored_so types prefix (ms ∷ rest) before =
 -- ---- programs
 
 -- the typed program is that of the source
-pub is_program : (tags : List (List ℕ)) (p : Program) (s : TypedSource) (table : Table) (structs : Definitions) → IsTypedAs tags p s → table ≡ s.env.table
+pub is_program : (tags : List (List ℕ)) (p : Program) (s : Parts) (table : Table) (structs : Definitions) → IsTypedAs tags p s → table ≡ s.env.table
     → structs_by (types_of s.env.table.types) [] structs.members ≡ s.env.env.structs → structs.extents ≡ map capped_extent (extents s.env.env)
     → IsProgram (declared table structs s.functions s.globals s.texts) p
 is_program tags p s table structs h same read sizes =
@@ -87,46 +78,25 @@ is_program tags p s table structs h same read sizes =
 
 -- ---- sources
 
--- a source is typed as the program that it declares
-pub typed_here : (d : Declarations) (s : TypedSource) → IsSound d → d.env.found_large ≡ false → s ≡ record { env = d.env; functions = d.functions.items; globals = d.globals.items; texts = s.texts } → IsTypedAs d.env.env.tags (program_of d) s
-typed_here d s h e same =
-    subst (IsTypedAs d.env.env.tags (program_of d)) (sym same)
-    (record { env = sym (at_file_is d h); functions = refl; globals = refl; are_functions = h.functions; are_globals = h.globals; small = h.small e })
-
--- it stays typed while its table grows
-pub stays_typed : (s : TypedSource) (e : State) (tags : List (List ℕ)) (p : Program) → IsTypedAs tags p s → Stays s.env e → IsTypedAs tags p (record s { env = e })
-stays_typed s e tags p h k = record {
+-- they stay typed while their table grows
+pub stays_typed : (s t : Parts) (tags : List (List ℕ)) (p : Program) → IsTypedAs tags p s → GoesOn s t → IsTypedAs tags p t
+stays_typed s t tags p h k = record {
   env = k.env ∙ h.env;
-  functions = functions_kept s.env.table e.table k.numbers s.functions h.are_functions ∙ h.functions;
-  globals = globals_kept s.env.table e.table k.numbers s.globals h.are_globals ∙ h.globals;
-  are_functions = are_functions_kept s.env.table e.table k.numbers s.functions h.are_functions;
-  are_globals = are_globals_kept s.env.table e.table k.numbers s.globals h.are_globals;
+  functions = ap (map (function_in t.env.table)) k.functions ∙ (functions_kept s.env.table t.env.table k.numbers s.functions h.are_functions ∙ h.functions);
+  globals = ap (map (global_in t.env.table)) k.globals ∙ (globals_kept s.env.table t.env.table k.numbers s.globals h.are_globals ∙ h.globals);
+  are_functions = subst (All (IsFunction t.env.table)) (sym k.functions) (are_functions_kept s.env.table t.env.table k.numbers s.functions h.are_functions);
+  are_globals = subst (All (IsGlobal t.env.table)) (sym k.globals) (are_globals_kept s.env.table t.env.table k.numbers s.globals h.are_globals);
   small = h.small;
 }
 
--- ---- answers
+-- and stay those of the same source
+pub goes_on : (s t : Parts) (ds : Decls) (p : Program) → IsTypedSource ds p s → GoesOn s t → IsTypedSource ds p t
+goes_on s t ds p h k = record {
+  holds = subst (λ N. Holds N ds) (sym k.tree) h.holds;
+  fits = h.fits;
+  typed = h.typed;
+  is = stays_typed s t _ p h.is k;
+}
 
--- where a source is typed, all numbers are those of its table
-pub record IsInside (s : TypedSource) : Type 0 where
-  pub functions : All (IsFunction s.env.table) s.functions
-  pub globals : All (IsGlobal s.env.table) s.globals
-
-pub inside_of : (texts : List TextLiteral) (tags : List (List ℕ)) (o : Outcome) (s : TypedSource) → IsCheckedSource texts tags o (Ok s) → IsInside s
-inside_of texts tags (limits.Typed p) s h = record { functions = h.0.are_functions; globals = h.0.are_globals }
-inside_of texts tags (limits.Rule from rule) s h = absurd h
-inside_of texts tags (limits.Limit w) s h = absurd h
-
--- the answer of a source is that of its program
-pub program_checked : (texts : List TextLiteral) (tags : List (List ℕ)) (o : Outcome) (s : TypedSource) (q : Declared) → ((p : Program) → IsTypedAs tags p s → IsProgram q p) → q.texts ≡ s.texts → IsCheckedSource texts tags o (Ok s) → IsChecked texts o (Ok q)
-program_checked texts tags (limits.Typed p) s q is same h = (is p h.0, same ∙ h.1)
-program_checked texts tags (limits.Rule from rule) s q is same h = absurd h
-program_checked texts tags (limits.Limit w) s q is same h = absurd h
-
-pub error_checked : (texts : List TextLiteral) (tags : List (List ℕ)) (o : Outcome) (e : CheckError) → IsCheckedSource texts tags o (Err e) → IsChecked texts o (Err e)
-error_checked texts tags o errors.Memory h = tt
-error_checked texts tags (limits.Typed p) (errors.Rule f r) h = absurd h
-error_checked texts tags (limits.Typed p) (errors.Limit v) h = absurd h
-error_checked texts tags (limits.Rule from rule) (errors.Rule f r) h = h
-error_checked texts tags (limits.Rule from rule) (errors.Limit v) h = absurd h
-error_checked texts tags (limits.Limit w) (errors.Rule f r) h = absurd h
-error_checked texts tags (limits.Limit w) (errors.Limit v) h = h
+pub stays_right : (s t : Parts) → IsRight s → GoesOn s t → IsRight t
+stays_right s t (ds, p, h) k = (ds, p, goes_on s t ds p h k)
