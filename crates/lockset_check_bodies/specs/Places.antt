@@ -1,5 +1,5 @@
 -- A walk over statements: where it stands, and what it leaves.
-use Rattle.std.specs.Prelude.{◌≡◌, ℕ, Bool, true, false, List, [], ◌∷◌, ◌++◌, Option, Some, None}
+use Rattle.std.specs.Prelude.{◌≡◌, ℕ, Bool, true, false, ◌||◌, List, [], ◌∷◌, ◌++◌, Option, Some, None}
 use Rattle.c_types_rules.specs.TypedTree.{MaybeValue, Statement, Statements}
 use Rattle.lockset_check_rules.specs.declared.finding.LockFinding.{LockFinding}
 use Rattle.lockset_check_rules.specs.Mutexes.{Locks}
@@ -7,7 +7,7 @@ use Rattle.lockset_check_rules.specs.Guards.{Guarded}
 use Rattle.lockset_check_rules.specs.After.{statement_after, statements_after}
 use Rattle.lockset_check_rules.specs.Statements.{Loop, Within, loop_differs_at, loop_differs_in, part_found, return_differs, statement_found, statements_found}
 use Rattle.lockset_check_held.specs.HeldSets.{HeldSets, forgetting, going_back, joining, restarting}
-use Rattle.lockset_check_values.specs.Walks.{Walked, finding}
+use Rattle.lockset_check_values.specs.Walks.{Walked, finding, with_sets}
 
 -- the innermost loop, which begins at this offset, if there is one
 abbrev loop_of : (from : Option ℕ) → List Locks → Option Loop
@@ -80,3 +80,6 @@ abbrev pub ended : (first second : Bool) → HeldSets → HeldSets
 ended true true h = joining h
 ended true false h = going_back h
 ended false second h = forgetting h
+
+abbrev pub WaysEnded : (first second goes : Bool) → Walked → Walked → Type 0
+WaysEnded first second goes w v = (goes ≡ (first || second)) × (v ≡ with_sets (ended first second w.sets) w)

@@ -138,7 +138,7 @@ fn one_way(
     walker.value(walk, condition)?;
     walk.keep()?;
     let goes = walk_statement(walker, walk, then, within)?;
-    end_way(walk, goes);
+    end_way(walk, goes)?;
     Ok(true)
 }
 
@@ -166,7 +166,7 @@ fn two_ways(
     let first = walk_statement(walker, walk, then, within)?;
     walk.turn()?;
     let second = walk_statement(walker, walk, other, within)?;
-    Ok(end_ways(walk, first, second))
+    end_ways(walk, first, second)
 }
 
 // A condition or last part of a loop that begins at this offset.
@@ -225,7 +225,7 @@ fn while_loop(
     walk.enter()?;
     part(walker, walk, from, Some(condition))?;
     round(walker, walk, from, body)?;
-    walk.leave();
+    walk.leave()?;
     Ok(true)
 }
 
@@ -247,7 +247,7 @@ fn do_loop(
     walk.enter()?;
     round(walker, walk, from, body)?;
     part(walker, walk, from, Some(condition))?;
-    walk.leave();
+    walk.leave()?;
     Ok(true)
 }
 
@@ -303,6 +303,6 @@ fn for_loop(
     part(walker, walk, from, condition)?;
     round(walker, walk, from, body)?;
     part(walker, walk, from, last)?;
-    walk.leave();
+    walk.leave()?;
     Ok(true)
 }

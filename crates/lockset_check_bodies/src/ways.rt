@@ -1,7 +1,7 @@
 //! Ways out of loops and functions.
 
-ghost use Rattle.std.specs.Prelude.{◌≡◌, ◌||◌, OnOk};
-ghost use Rattle.lockset_check_bodies.specs.Places.{ended, loop_checked, start_checked, way_ended};
+ghost use Rattle.std.specs.Prelude.{◌≡◌, IfOk, OnOk};
+ghost use Rattle.lockset_check_bodies.specs.Places.{WaysEnded, loop_checked, start_checked, way_ended};
 ghost use Rattle.lockset_check_values.specs.Walks.{with_sets};
 
 use lockset_check_rules::LockFinding;
@@ -35,29 +35,27 @@ pub(crate) fn check_start(walk: &mut Walk, from: u32) -> Result<(), AllocError>
 }
 
 /// The end of a way that is left out otherwise, which goes on or doesn't.
-pub(crate) fn end_way(walk: &mut Walk, goes: bool)
-    ensures { walk.new ≡ with_sets (way_ended goes walk.old.sets) walk.old }
+pub(crate) fn end_way(walk: &mut Walk, goes: bool) -> Result<(), AllocError>
+    ensures { OnOk result (walk.new ≡ with_sets (way_ended goes walk.old.sets) walk.old) }
 {
     if goes {
-        walk.join();
-    } else {
-        walk.go_back();
+        return walk.join();
     }
+    walk.go_back()
 }
 
 /// The end of the second of two ways, each of which goes on or doesn't. Gives whether one does.
-pub(crate) fn end_ways(walk: &mut Walk, first: bool, second: bool) -> bool
-    ensures walk { walk.new ≡ with_sets (ended first second walk.old.sets) walk.old }
-    ensures goes { result ≡ (first || second) }
+pub(crate) fn end_ways(walk: &mut Walk, first: bool, second: bool) -> Result<bool, AllocError>
+    ensures { IfOk result (λ goes. WaysEnded first second goes walk.old walk.new) }
 {
     if !first {
-        walk.forget();
-        return second;
+        walk.forget()?;
+        return Ok(second);
     }
     if !second {
-        walk.go_back();
-        return true;
+        walk.go_back()?;
+        return Ok(true);
     }
-    walk.join();
-    true
+    walk.join()?;
+    Ok(true)
 }

@@ -8,14 +8,14 @@ use Rattle.std.proofs.lemmas.Nat.{and_le_l}
 use Rattle.std.proofs.lemmas.Nat.Bits.{bit_at-lt, bit_at-zero, bit_at_and, bit_at_clear_other, bit_at_clear_same, bit_at_set_other, bit_at_set_same, same_from_bits_below, shr_and_one}
 use mathlib.Core.Logic.{⊎_elim, ◌≢◌}
 use Rattle.lockset_check_held.proofs.Places.{which}
-use Rattle.lockset_check_held.specs.Rows.{is_on, AreAlike, Includes, IsShared, TurnsOff, TurnsOn}
+use Rattle.lockset_check_held.specs.Rows.{is_on, Includes, TurnsOff, TurnsOn}
 
 -- the same word, the same places
 same_word : (row other : List ℕ) (p : ℕ) → get_or row (p / 64) 0 ≡ get_or other (p / 64) 0 → is_on row p ≡ is_on other p
 unfolding is_on
 same_word row other p h = ap (λ (w : ℕ). nat_eq (bit_at w (p % 64)) 1) h
 
-pub alike : (row other : List ℕ) → ((i : ℕ) → get_or row i 0 ≡ get_or other i 0) → AreAlike row other
+pub alike : (row other : List ℕ) → ((i : ℕ) → get_or row i 0 ≡ get_or other i 0) → (p : ℕ) → is_on row p ≡ is_on other p
 alike row other h p = same_word row other p (h (p / 64))
 
 pub tested : (row : List ℕ) (w p : ℕ) → w ≡ get_or row (p / 64) 0 → nat_eq (bit_and (w / 2 ^ (p % 64)) 1) 1 ≡ is_on row p
@@ -31,21 +31,6 @@ one_bit (suc zero) (suc zero) a b h = refl
 one_bit (suc zero) (suc (suc y)) a b h = absurd (omega arith)
 one_bit (suc (suc x)) y a b h = absurd (omega arith)
 
-same_bit : (row other : List ℕ) → AreAlike row other → (i b : ℕ) → b < 64 → bit_at (get_or row i 0) b ≡ bit_at (get_or other i 0) b
-unfolding is_on
-same_bit row other h i b lt =
-    let p : ℕ = i * 64 + b in
-    let word : p / 64 ≡ i = omega arith in
-    let bit : p % 64 ≡ b = omega arith in
-    let here : nat_eq (bit_at (get_or row i 0) b) 1 ≡ nat_eq (bit_at (get_or other i 0) b) 1 =
-    ((λ t. nat_eq (bit_at (get_or row (sym word t) 0) (sym bit t)) 1) ∙ (h p ∙ (λ t. nat_eq (bit_at (get_or other (word t) 0) (bit t)) 1))) in
-    one_bit (bit_at (get_or row i 0) b) (bit_at (get_or other i 0) b) (bit_at-lt (get_or row i 0) b) (bit_at-lt (get_or other i 0) b) here
-
--- rows that are alike have the same words
-pub same_words : (row other : List ℕ) (i x y : ℕ) → AreAlike row other → x ≡ get_or row i 0 → y ≡ get_or other i 0 → x < 2 ^ 64 → y < 2 ^ 64 → x ≡ y
-same_words row other i x y h e f a b =
-    same_from_bits_below 64 x y a b (λ k lt. (λ t. bit_at (e t) k) ∙ (same_bit row other h i k lt ∙ (λ t. bit_at (sym f t) k)))
-
 both : (x y : ℕ) → x < 2 → y < 2 → nat_eq (min x y) 1 ≡ (nat_eq x 1 && nat_eq y 1)
 both zero zero a b = refl
 both zero (suc zero) a b = refl
@@ -54,16 +39,6 @@ both (suc zero) zero a b = refl
 both (suc zero) (suc zero) a b = refl
 both (suc zero) (suc (suc y)) a b = absurd (omega arith)
 both (suc (suc x)) y a b = absurd (omega arith)
-
-pub shared_bits : (row other new : List ℕ) → ((i : ℕ) → get_or new i 0 ≡ bit_and (get_or row i 0) (get_or other i 0)) → IsShared row other new
-unfolding is_on
-shared_bits row other new h p =
-    let w = get_or row (p / 64) 0 in
-    let v = get_or other (p / 64) 0 in
-    let b = p % 64 in
-    ap (λ (z : ℕ). nat_eq (bit_at z b) 1) (h (p / 64))
-    ∙ (ap (λ (z : ℕ). nat_eq z 1) (bit_at_and w v b)
-    ∙ both (bit_at w b) (bit_at v b) (bit_at-lt w b) (bit_at-lt v b))
 
 -- ---- one word of a row is another
 
@@ -107,59 +82,6 @@ zero_more [] zero = refl
 zero_more [] (suc i) = refl
 zero_more (w ∷ ws) zero = refl
 zero_more (w ∷ ws) (suc i) = zero_more ws i
-
--- the first words are those that both rows share, the others still those of one
-pub record HasShared (row other new : List ℕ) (i : ℕ) : Type 0 where
-  pub long : length new ≡ length row
-  pub first : (j : ℕ) → j < i → get_or new j 0 ≡ bit_and (get_or row j 0) (get_or other j 0)
-  pub rest : (j : ℕ) → i ≤ j → get_or new j 0 ≡ get_or row j 0
-
-pub none_shared : (row other : List ℕ) → HasShared row other row 0
-none_shared row other = record { long = refl; first = λ j lt. absurd (omega arith); rest = λ j le. refl }
-
-pub one_shared : (row other new : List ℕ) (i w v : ℕ) → HasShared row other new i → i < length new → w ≡ get_or new i 0 → v ≡ get_or other i 0
-    → HasShared row other (set new i (bit_and w v)) (i + 1)
-one_shared row other new i w v h lt e f = record {
-  long = search (rules) ∙ h.long;
-  first = λ j below. ⊎_elim
-      (λ (same : j ≡ i).
-      ap (λ (k : ℕ). get_or (set new i (bit_and w v)) k 0) same
-      ∙ (get_or-set_same new i (bit_and w v) 0 lt
-      ∙ ((λ t. bit_and ((e ∙ h.rest i (omega arith)) t) (f t))
-      ∙ ap (λ (k : ℕ). bit_and (get_or row k 0) (get_or other k 0)) (sym same))))
-      (λ apart. get_or-set_other new i j (bit_and w v) 0 apart ∙ h.first j (omega (arith, apart)))
-      (cases_eq j i);
-  rest = λ j from. get_or-set_other new i j (bit_and w v) 0 (λ (same : j ≡ i). omega arith) ∙ h.rest j (omega arith);
-}
-
-nothing : (x y : ℕ) → x ≡ 0 → bit_and x y ≡ 0
-nothing x y e = let le = and_le_l x y in omega arith
-
-pub all_shared : (row other new : List ℕ) (i : ℕ) → HasShared row other new i → length new ≤ i → IsShared row other new
-all_shared row other new i h le = shared_bits row other new (λ j. ⊎_elim (λ lt. h.first j lt)
-    (λ from.
-    let long = h.long in
-    let none : get_or row j 0 ≡ 0 = get_or_past row j 0 (omega arith) in
-    get_or_past new j 0 (omega arith) ∙ sym (nothing (get_or row j 0) (get_or other j 0) none))
-    (which j i))
-
-pub AreSame : (row other : List ℕ) (i : ℕ) → Type 0
-AreSame row other i = (j : ℕ) → j < i → get_or row j 0 ≡ get_or other j 0
-
-pub none_differ : (row other : List ℕ) → AreSame row other 0
-unfolding AreSame
-none_differ row other j lt = absurd (omega arith)
-
-pub one_same : (row other : List ℕ) (i x y : ℕ) → AreSame row other i → x ≡ get_or row i 0 → y ≡ get_or other i 0 → x ≡ y → AreSame row other (i + 1)
-unfolding AreSame
-one_same row other i x y h e f same j lt = ⊎_elim
-    (λ (here : j ≡ i). ap (λ (k : ℕ). get_or row k 0) here ∙ (sym e ∙ (same ∙ (f ∙ ap (λ (k : ℕ). get_or other k 0) (sym here)))))
-    (λ apart. h j (omega (arith, apart)))
-    (cases_eq j i)
-
-pub all_same : (row other : List ℕ) (i : ℕ) → AreSame row other i → length row ≤ i → length other ≤ i → AreAlike row other
-unfolding AreSame
-all_same row other i h a b = alike row other (λ j. ⊎_elim (λ lt. h j lt) (λ from. get_or_past row j 0 (omega arith) ∙ sym (get_or_past other j 0 (omega arith))) (which j i))
 
 pub past_off : (row : List ℕ) (place : ℕ) → length row ≤ place / 64 → TurnsOff place row row
 unfolding is_on

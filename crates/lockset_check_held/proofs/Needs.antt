@@ -4,11 +4,13 @@ use Rattle.std.specs.Prelude.{get_or, slice_get}
 use Rattle.std.specs.List.{list_all}
 use Rattle.std.specs.Ordering.{int_eq}
 use Rattle.lockset_check_rules.specs.Mutexes.{Locks, are_held, is_held}
-use Rattle.lockset_check_held.specs.HeldSets.{HeldSets, need_at, needing, starting}
+use Rattle.lockset_check_held.specs.Apart.{sets_by}
+use Rattle.lockset_check_held.specs.HeldSets.{need_at, needing, starting}
 use Rattle.lockset_check_held.specs.Rows.{AreRows, AreWithin, Includes, IsTable, IsWithin, Learns, is_on, place_in, row_at, set_of, sets_of}
+use Rattle.lockset_check_held.proofs.Apart.{apart_nothing}
 use Rattle.lockset_check_held.proofs.Members.{is_itself, same_number}
 use Rattle.lockset_check_held.proofs.Places.{which}
-use Rattle.lockset_check_held.proofs.Tables.{all_within_more, held_none, held_some, no_places, nothing_within, sets_stay, used, within_more}
+use Rattle.lockset_check_held.proofs.Tables.{all_within_more, held_none, held_some, no_places, nothing_within, set_ascends, sets_stay, used, within_more}
 use mathlib.Core.Logic.{⊎_elim}
 
 -- ---- the set of a place
@@ -100,66 +102,42 @@ needs_held known held needs place r t w all others =
 
 -- ---- steps of a walk
 
-module _ (old new : List ℤ) (held start : List ℕ) (loops kept needs : List (List ℕ)) (w : AreRows old held start loops kept needs) (l : Learns old new) (t : IsTable new) where
-  pub known_rows : AreRows new held start loops kept needs
-  known_rows = (
-    t,
-    within_more old new held l w.1,
-    within_more old new start l w.2,
-    all_within_more old new loops l w.3,
-    all_within_more old new kept l w.4,
-    all_within_more old new needs l w.5,
-  )
+module _ (old new : List ℤ) (held : List ℕ) (needs : List (List ℕ)) (w : AreRows old held needs) (l : Learns old new) (t : IsTable new) where
+  pub known_rows : AreRows new held needs
+  known_rows = (t, within_more old new held l w.1, all_within_more old new needs l w.2)
 
-  pub known_sets : ◌≡◌ {A = HeldSets} (record { held = set_of new held; start = set_of new start; loops = sets_of new loops; kept = sets_of new kept; needs = sets_of new needs })
-      (record { held = set_of old held; start = set_of old start; loops = sets_of old loops; kept = sets_of old kept; needs = sets_of old needs })
-  known_sets = λ j. record {
-    held = l.1 held w.1 j;
-    start = l.1 start w.2 j;
-    loops = sets_stay old new loops l w.3 j;
-    kept = sets_stay old new kept l w.4 j;
-    needs = sets_stay old new needs l w.5 j;
-  }
+  pub needed_rows : (row : List ℕ) → IsWithin (length new) row → AreRows new held (needs ++ row ∷ [])
+  needed_rows row h = let k = known_rows in (k.0, k.1, more_within (length new) needs row k.2 h)
 
-  pub needed_rows : (row : List ℕ) → IsWithin (length new) row → AreRows new held start loops kept (needs ++ row ∷ [])
-  needed_rows row h = let k = known_rows in (k.0, k.1, k.2, k.3, k.4, more_within (length new) needs row k.5 h)
+  module _ (start : List ℤ) (loops kept : List (List ℤ)) where
+    pub needed_sets : (row : List ℕ) (s : Locks) → set_of new row ≡ s
+        → sets_by (set_of new held) start loops kept (sets_of new (needs ++ row ∷ []))
+        ≡ needing s (sets_by (set_of old held) start loops kept (sets_of old needs))
+    needed_sets row s e = λ j. sets_by (l.1 held w.1 j) start loops kept
+        ((more_sets new needs row ∙ (λ i. sets_stay old new needs l w.2 i ++ e i ∷ [])) j)
 
-  pub needed_sets : (row : List ℕ) (s : Locks) → set_of new row ≡ s
-      → record { held = set_of new held; start = set_of new start; loops = sets_of new loops; kept = sets_of new kept; needs = sets_of new (needs ++ row ∷ []) }
-      ≡ needing s (record { held = set_of old held; start = set_of old start; loops = sets_of old loops; kept = sets_of old kept; needs = sets_of old needs })
-  needed_sets row s e = λ j. record {
-    held = l.1 held w.1 j;
-    start = l.1 start w.2 j;
-    loops = sets_stay old new loops l w.3 j;
-    kept = sets_stay old new kept l w.4 j;
-    needs = (more_sets new needs row ∙ (λ i. sets_stay old new needs l w.5 i ++ e i ∷ [])) j;
-  }
+module _ (known : List ℤ) (held : List ℕ) (needs : List (List ℕ)) (place : ℕ) (row : List ℕ) (e : row ≡ row_at needs place) where
+  pub again_rows : AreRows known held needs → AreRows known held (needs ++ row ∷ [])
+  again_rows w = (w.0, w.1, more_within (length known) needs row w.2 (subst (IsWithin (length known)) (sym e) (within_at (length known) needs place w.2)))
 
-module _ (known : List ℤ) (held start : List ℕ) (loops kept needs : List (List ℕ)) (place : ℕ) (row : List ℕ) (e : row ≡ row_at needs place) where
-  pub again_rows : AreRows known held start loops kept needs → AreRows known held start loops kept (needs ++ row ∷ [])
-  again_rows w = (w.0, w.1, w.2, w.3, w.4, more_within (length known) needs row w.5 (subst (IsWithin (length known)) (sym e) (within_at (length known) needs place w.5)))
+  pub started_rows : AreRows known held needs → AreRows known row needs
+  started_rows w = (w.0, subst (IsWithin (length known)) (sym e) (within_at (length known) needs place w.2), w.2)
 
-  pub again_sets : record { held = set_of known held; start = set_of known start; loops = sets_of known loops; kept = sets_of known kept; needs = sets_of known (needs ++ row ∷ []) }
-      ≡ needing (need_at (sets_of known needs) place)
-      (record { held = set_of known held; start = set_of known start; loops = sets_of known loops; kept = sets_of known kept; needs = sets_of known needs })
-  again_sets =
-      let is : set_of known row ≡ need_at (sets_of known needs) place = ap (set_of known) e ∙ set_at known needs place in
-      λ j. record {
-        held = set_of known held;
-        start = set_of known start;
-        loops = sets_of known loops;
-        kept = sets_of known kept;
-        needs = (more_sets known needs row ∙ ap (λ (s : Locks). sets_of known needs ++ s ∷ []) is) j;
-      }
+  row_is : set_of known row ≡ need_at (sets_of known needs) place
+  row_is = ap (set_of known) e ∙ set_at known needs place
 
-  pub started_rows : AreRows known held start loops kept needs → AreRows known row row [] [] needs
-  started_rows w =
-      let h : IsWithin (length known) row = subst (IsWithin (length known)) (sym e) (within_at (length known) needs place w.5) in
-      (w.0, h, h, tt, tt, w.5)
+  module _ (start : List ℤ) (loops kept : List (List ℤ)) where
+    pub again_sets : sets_by (set_of known held) start loops kept (sets_of known (needs ++ row ∷ []))
+        ≡ needing (need_at (sets_of known needs) place) (sets_by (set_of known held) start loops kept (sets_of known needs))
+    again_sets = λ j. sets_by (set_of known held) start loops kept
+        ((more_sets known needs row ∙ ap (λ (s : Locks). sets_of known needs ++ s ∷ []) row_is) j)
 
-  pub started_sets : record { held = set_of known row; start = set_of known row; loops = []; kept = []; needs = sets_of known needs }
-      ≡ starting (need_at (sets_of known needs) place)
-      (record { held = set_of known held; start = set_of known start; loops = sets_of known loops; kept = sets_of known kept; needs = sets_of known needs })
-  started_sets =
-      let is : set_of known row ≡ need_at (sets_of known needs) place = ap (set_of known) e ∙ set_at known needs place in
-      λ j. record { held = is j; start = is j; loops = []; kept = []; needs = sets_of known needs }
+    pub started_sets : sets_by (set_of known row) [] [] [] (sets_of known needs)
+        ≡ starting (need_at (sets_of known needs) place) (sets_by (set_of known held) start loops kept (sets_of known needs))
+    started_sets = λ j. record {
+      held = row_is j;
+      start = (apart_nothing (set_of known row) (set_ascends known row) ∙ row_is) j;
+      loops = [];
+      kept = [];
+      needs = sets_of known needs;
+    }

@@ -12,11 +12,11 @@ use Rattle.std.proofs.lemmas.List.Quantifiers.{position-Some}
 use Rattle.std.proofs.lemmas.Option.{get_or_from_slice_get, slice_get_within}
 use Rattle.indexmap.specs.IndexSet.{insert_key}
 use mathlib.Core.Logic.{⊎_elim, ◌≢◌}
-use Rattle.lockset_check_rules.specs.Mutexes.{Locks, is_held, locks_of, shared, with_lock, without_lock}
+use Rattle.lockset_check_rules.specs.Mutexes.{Locks, is_held, locks_of, with_lock, without_lock}
 use Rattle.lockset_check_held.specs.Ascending.{Ascends}
-use Rattle.lockset_check_held.specs.Rows.{AreAlike, AreWithin, IsShared, IsTable, IsWithin, Learns, TurnsOff, TurnsOn, is_on, picked, place_in, row_at, set_of, sets_of}
-use Rattle.lockset_check_held.proofs.Members.{held_shared, held_with, held_without, is_itself, same_members, same_number}
-use Rattle.lockset_check_held.proofs.Places.{nothing_ascends, shared_ascends, which, with_ascends, without_ascends}
+use Rattle.lockset_check_held.specs.Rows.{AreWithin, IsTable, IsWithin, Learns, TurnsOff, TurnsOn, is_on, picked, place_in, row_at, set_of, sets_of}
+use Rattle.lockset_check_held.proofs.Members.{held_with, held_without, is_itself, same_members, same_number}
+use Rattle.lockset_check_held.proofs.Places.{nothing_ascends, which, with_ascends, without_ascends}
 use Rattle.lockset_check_held.proofs.Starts.{held_with_locks, with_locks_ascends}
 
 -- whether a place that was found passes a test
@@ -151,7 +151,7 @@ held_set m known row t =
     let ks = picked known (λ p. is_on row p) in
     held_with_locks m ks [] ∙ (or_none (is_held m ks) ∙ held_picked m known (λ p. is_on row p) t)
 
-set_ascends : (known : List ℤ) (row : List ℕ) → Ascends (set_of known row)
+pub set_ascends : (known : List ℤ) (row : List ℕ) → Ascends (set_of known row)
 set_ascends known row = with_locks_ascends (picked known (λ p. is_on row p)) [] nothing_ascends
 
 pub held_some : (m : ℤ) (known : List ℤ) (row : List ℕ) (p : ℕ) → IsTable known → place_in m known ≡ Some p → is_on row p ≡ is_held m (set_of known row)
@@ -182,7 +182,7 @@ more_picked : (known : List ℤ) (m : ℤ) (test : ℕ → Bool) → test (lengt
 more_picked [] m test off = ap (λ (b : Bool). cond b (m ∷ []) []) off
 more_picked (k ∷ ks) m test off = ap (λ (l : List ℤ). cond (test 0) (k ∷ l) l) (more_picked ks m (λ p. test (suc p)) off)
 
-any_turned : (m : ℤ) (ks : List ℤ) → list_any (int_eq m) ks ≡ is_held m ks
+pub any_turned : (m : ℤ) (ks : List ℤ) → list_any (int_eq m) ks ≡ is_held m ks
 any_turned m [] = refl
 any_turned m (k ∷ ks) = λ j. turned m k j || any_turned m ks j
 
@@ -295,46 +295,11 @@ module _ (known : List ℤ) (t : IsTable known) where
           ∙ sym (ap (λ (b : Bool). not b && on_at (λ q. is_on row q) (place_in n known)) f)
       by n false f = sym (ap (λ (b : Bool). not b && on_at (λ q. is_on row q) (place_in n known)) f)
 
-  pub both_have : (row other new : List ℕ) → IsShared row other new → set_of known new ≡ shared (set_of known row) (set_of known other)
-  both_have row other new h =
-      let s = set_of known row in
-      let u = set_of known other in
-      stands new (shared s u) (shared_ascends s u (shared s u) (set_ascends known row) refl)
-      (λ n. by (place_in n known)
-      ∙ sym (held_shared n s u ∙ (λ j. held_set n known other t j && held_set n known row t j)))
-    where
-      swap : (a b : Bool) → (a && b) ≡ (b && a)
-      swap true true = refl
-      swap true false = refl
-      swap false true = refl
-      swap false false = refl
-
-      by : (o : Option ℕ) → on_at (λ q. is_on new q) o ≡ (on_at (λ q. is_on other q) o && on_at (λ q. is_on row q) o)
-      by None = refl
-      by (Some q) = h q ∙ swap (is_on row q) (is_on other q)
-
-  pub alike_sets : (row other : List ℕ) → AreAlike row other → set_of known row ≡ set_of known other
-  alike_sets row other h = stands row (set_of known other) (set_ascends known other) (λ n. by (place_in n known) ∙ sym (held_set n known other t))
-    where
-      by : (o : Option ℕ) → on_at (λ q. is_on row q) o ≡ on_at (λ q. is_on other q) o
-      by None = refl
-      by (Some q) = h q
-
-  -- rows of the same set are alike
-  pub alike_rows : (row other : List ℕ) → IsWithin (length known) row → IsWithin (length known) other → set_of known row ≡ set_of known other → AreAlike row other
-  alike_rows row other a b h p = ⊎_elim (λ lt. here (used known t p lt)) (λ le. a p le ∙ sym (b p le)) (which p (length known))
-    where
-      here : (m : ℤ) × (place_in m known ≡ Some p) → is_on row p ≡ is_on other p
-      here u = held_some u.0 known row p t u.1 ∙ (ap (λ s. is_held u.0 s) h ∙ sym (held_some u.0 known other p t u.1))
-
 pub within_on : (count : ℕ) (p : ℕ) (old new : List ℕ) → p < count → ((q : ℕ) → q ≢ p → is_on new q ≡ is_on old q) → IsWithin count old → IsWithin count new
 within_on count p old new lt h w q le = h q (λ (e : q ≡ p). omega arith) ∙ w q le
 
 pub within_off : (count : ℕ) (p : ℕ) (old new : List ℕ) → TurnsOff p old new → IsWithin count old → IsWithin count new
 within_off count p old new h w q le = ⊎_elim (λ (e : q ≡ p). ap (is_on new) e ∙ h.0) (λ apart. h.1 q apart ∙ w q le) (cases_eq q p)
-
-pub within_shared : (count : ℕ) (row other new : List ℕ) → IsShared row other new → IsWithin count row → IsWithin count new
-within_shared count row other new h w q le = h q ∙ ap (λ (b : Bool). b && is_on other q) (w q le)
 
 pub within_more : (old new : List ℤ) (row : List ℕ) → Learns old new → IsWithin (length old) row → IsWithin (length new) row
 within_more old new row h w q le = let long = h.0 in w q (omega arith)
@@ -355,3 +320,7 @@ module _ (old new : List ℤ) (t : IsTable new) (l : Learns old new) (m : ℤ) (
 
   pub within_here : (next : List ℕ) → ((q : ℕ) → q ≢ p → is_on next q ≡ is_on row q) → IsWithin (length new) next
   within_here next h = within_on (length new) p row next (bounded new m p e) h (λ q le. let long = l.0 in w q (omega arith))
+
+  -- whether it was one more
+  pub not_yet : (b : Bool) → b ≡ is_on row p → not b ≡ not (is_held m (set_of old row))
+  not_yet b h = ap not (h ∙ (held_some m new row p t e ∙ ap (is_held m) (l.1 row w)))

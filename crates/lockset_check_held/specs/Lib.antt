@@ -1,3 +1,4 @@
+pub mod Apart
 pub mod Ascending
 pub mod HeldSets
 pub mod Rows

@@ -19,17 +19,9 @@ TurnsOn place old new = (is_on new place ≡ true) × ((p : ℕ) → p ≢ place
 abbrev pub TurnsOff : (place : ℕ) (old new : List ℕ) → Type 0
 TurnsOff place old new = (is_on new place ≡ false) × ((p : ℕ) → p ≢ place → is_on new p ≡ is_on old p)
 
--- a row has the places that two rows have
-abbrev pub IsShared : (row other new : List ℕ) → Type 0
-IsShared row other new = (p : ℕ) → is_on new p ≡ (is_on row p && is_on other p)
-
 -- a row has all places of another
 abbrev pub Includes : (row other : List ℕ) → Type 0
 Includes row other = (p : ℕ) → is_on other p ≡ true → is_on row p ≡ true
-
--- two rows have the same places
-abbrev pub AreAlike : (row other : List ℕ) → Type 0
-AreAlike row other = (p : ℕ) → is_on row p ≡ is_on other p
 
 -- a row has only places below a number
 abbrev pub IsWithin : (count : ℕ) (row : List ℕ) → Type 0
@@ -61,11 +53,10 @@ abbrev pub IsTable : List ℤ → Type 0
 IsTable [] = Unit {0}
 IsTable (k ∷ ks) = (is_held k ks ≡ false) × IsTable ks
 
--- the rows of a walk, those of its loops, those that are kept and those that functions may need
-abbrev pub AreRows : List ℤ → (held start : List ℕ) → (loops kept needs : List (List ℕ)) → Type 0
-AreRows known held start loops kept needs =
-    IsTable known × IsWithin (length known) held × IsWithin (length known) start
-    × AreWithin (length known) loops × AreWithin (length known) kept × AreWithin (length known) needs
+-- the rows of a walk: of what is held, and of the sets that functions may need
+abbrev pub AreRows : List ℤ → (held : List ℕ) → (needs : List (List ℕ)) → Type 0
+AreRows known held needs =
+    IsTable known × IsWithin (length known) held × AreWithin (length known) needs
 
 -- a row that was looked for; without one, no places
 abbrev pub row_or_none : Option (List ℕ) → List ℕ
@@ -75,11 +66,6 @@ row_or_none None = []
 -- the row of a place; past the last one, no places
 abbrev pub row_at : List (List ℕ) → (place : ℕ) → List ℕ
 row_at rows place = row_or_none (slice_get rows place)
-
--- the first row, if there is one
-abbrev pub first_row : List (List ℕ) → Option (List ℕ)
-first_row [] = None
-first_row (row ∷ rows) = Some row
 
 -- more is known, and each row stands for the set that it stood for
 abbrev pub Learns : (old new : List ℤ) → Type 0

@@ -1,12 +1,14 @@
 //! What a walk keeps in mind of mutexes.
 
-ghost use Rattle.std.specs.Prelude.{◌≡◌, OnOk};
+ghost use Rattle.std.specs.Prelude.{◌≡◌, is_some, OnOk};
 ghost use Rattle.lockset_check_rules.specs.Mutexes.{are_held, is_held, locks_of, same, with_lock, without_lock};
-ghost use Rattle.lockset_check_held.specs.HeldSets.{at_first, entering, forgetting, going_back, is_as_at_loop, joining, keeping, leaving, need_at, needing, restarting, starting, turning};
+ghost use Rattle.lockset_check_held.specs.Apart.{all_turned, with_turned, without_locks};
+ghost use Rattle.lockset_check_held.specs.HeldSets.{at_first, entering, forgetting, going_back, head, is_as_at_loop, joining, keeping, leaving, need_at, needing, restarting, starting, turning};
 
+use crate::changed::Changed;
 use crate::known;
 use crate::row::{Row, copy_at, has_all_at};
-use crate::stack::Stack;
+use crate::since::Since;
 use indexmap::IndexSet;
 use std::alloc::{AllocError, Global};
 use std::marker::Model;
@@ -18,32 +20,26 @@ pub struct Held {
     alloc: Global,
     known: IndexSet<i128>,
     held: Row,
-    start: Row,
-    loops: Stack,
-    kept: Stack,
+    since: Since,
     needs: Vec<Row>,
 }
 
 impl Model for Held {
+    ghost use Rattle.lockset_check_held.specs.Apart.{sets_by};
     ghost use Rattle.lockset_check_held.specs.HeldSets.{HeldSets};
     ghost use Rattle.lockset_check_held.specs.Rows.{AreRows, set_of, sets_of};
 
     ghost Value = { HeldSets };
 
-    ghost view = { λ h. record {
-      held = set_of h.known.keys h.held;
-      start = set_of h.known.keys h.start;
-      loops = sets_of h.known.keys h.loops;
-      kept = sets_of h.known.keys h.kept;
-      needs = sets_of h.known.keys h.needs.items;
-    } };
+    ghost view = { λ h. sets_by (set_of h.known.keys h.held) h.since.start h.since.loops h.since.kept
+        (sets_of h.known.keys h.needs.items) };
 
-    ghost invariant = { λ h. AreRows h.known.keys h.held h.start h.loops h.kept h.needs.items };
+    ghost invariant = { λ h. AreRows h.known.keys h.held h.needs.items };
 }
 
 impl Held {
     /// Before the first function.
-    #[tactic(auto, using(crate::proofs::Tables::no_table, crate::proofs::Tables::nothing_within))]
+    #[tactic(auto, using(crate::proofs::Tables::no_table, crate::proofs::Tables::nothing_within, crate::proofs::Sets::nothing_yet))]
     pub fn new(alloc: Global) -> Held
         ensures { result ≡ at_first }
     {
@@ -51,9 +47,7 @@ impl Held {
             alloc,
             known: IndexSet::new(alloc),
             held: Row::new(alloc),
-            start: Row::new(alloc),
-            loops: Stack::new(alloc),
-            kept: Stack::new(alloc),
+            since: Since::new(alloc),
             needs: Vec::new(alloc),
         }
     }
@@ -83,11 +77,8 @@ impl Held {
     pub fn start(&mut self, place: usize) -> Result<(), AllocError>
         ensures { OnOk result (self.new ≡ starting (need_at self.old.needs place) self.old) }
     {
-        let held = copy_at(self.alloc, self.needs.as_slice(), place)?;
-        self.start = held.copy()?;
-        self.held = held;
-        self.loops = Stack::new(self.alloc);
-        self.kept = Stack::new(self.alloc);
+        self.held = copy_at(self.alloc, self.needs.as_slice(), place)?;
+        self.since = Since::new(self.alloc);
         Ok(())
     }
 
@@ -106,115 +97,145 @@ impl Held {
     }
 
     /// The mutex is taken.
-    #[tactic(auto, using(crate::proofs::Sets::taken_sets))]
     pub fn add(&mut self, mutex: i128) -> Result<(), AllocError>
         ensures { OnOk result (self.new ≡ record self.old { held = with_lock mutex self.old.held }) }
     {
-        known::add(&mut self.known, &mut self.held, mutex)
+        let more = known::add(&mut self.known, &mut self.held, mutex)?;
+        if !more {
+            return Ok(());
+        }
+        self.since.turn(mutex)?;
+        Ok(())
     }
 
-    /// The mutex is given back.
-    #[tactic(auto, using(crate::proofs::Sets::given_back, crate::proofs::Sets::not_given_back, crate::proofs::Tables::within_off))]
-    pub fn remove(&mut self, mutex: i128)
-        ensures { self.new ≡ record self.old { held = without_lock mutex self.old.held } }
+    /// The mutex is given back. `AllocError` where there is no memory to keep in mind that it changed.
+    pub fn remove(&mut self, mutex: i128) -> Result<(), AllocError>
+        ensures { OnOk result (self.new ≡ record self.old { held = without_lock mutex self.old.held }) }
     {
-        if let Some(place) = known::place_of(&self.known, mutex) {
-            self.held.remove(place);
+        let less = known::remove(&self.known, &mut self.held, mutex);
+        if !less {
+            return Ok(());
         }
+        self.since.turn(mutex)?;
+        Ok(())
+    }
+
+    // The mutex is taken, or given back if it is held.
+    fn turn_one(&mut self, mutex: i128) -> Result<(), AllocError>
+        ensures { OnOk result (self.new ≡ record self.old { held = with_turned mutex self.old.held }) }
+    {
+        if self.has(mutex) {
+            return self.remove(mutex);
+        }
+        self.add(mutex)
+    }
+
+    // The same of each of these.
+    fn turn_all(&mut self, mutexes: &[i128]) -> Result<(), AllocError>
+        ensures { OnOk result (self.new ≡ record self.old { held = all_turned mutexes.now self.old.held }) }
+    {
+        for i in 0..mutexes.len() {
+            self.turn_one(mutexes[i])?;
+        }
+        Ok(())
+    }
+
+    // These mutexes are given back.
+    fn remove_all(&mut self, mutexes: &[i128]) -> Result<(), AllocError>
+        ensures { OnOk result (self.new ≡ record self.old { held = without_locks mutexes.now self.old.held }) }
+    {
+        for i in 0..mutexes.len() {
+            self.remove(mutexes[i])?;
+        }
+        Ok(())
     }
 
     /// A way begins: what is held is kept.
     pub fn keep(&mut self) -> Result<(), AllocError>
         ensures { OnOk result (self.new ≡ keeping self.old) }
     {
-        let held = self.held.copy()?;
-        self.kept.push(held)
+        self.since.kept.push(Changed::new(self.alloc))
     }
 
     /// The way ends, and another begins where it began; what is held at its end is kept.
-    #[tactic(auto, using(crate::proofs::Sets::turned, crate::proofs::Sets::first_within, crate::proofs::Sets::rest_within))]
     pub fn turn(&mut self) -> Result<(), AllocError>
         ensures { OnOk result (self.new ≡ turning self.old) }
     {
-        let end = self.held.copy()?;
-        if let Some(first) = self.kept.pop() {
-            self.held = first;
-        }
-        self.kept.push(end)
+        let first = self.since.kept.pop(self.alloc)?;
+        self.turn_all(first.as_slice())?;
+        self.since.kept.push(first)
     }
 
-    /// The way ends, and goes on with what it shares with what was kept.
-    #[tactic(auto, using(crate::proofs::Sets::joined, crate::proofs::Sets::first_within, crate::proofs::Sets::rest_within, crate::proofs::Tables::within_shared))]
-    pub fn join(&mut self)
-        ensures { self.new ≡ joining self.old }
+    /// The way ends, and goes on with what it shares with what was kept: without what was taken on it. `AllocError` where there is no
+    /// memory to keep in mind what changed; so for the other ends of ways and loops.
+    pub fn join(&mut self) -> Result<(), AllocError>
+        ensures { OnOk result (self.new ≡ joining self.old) }
     {
-        if let Some(mut kept) = self.kept.pop() {
-            kept.share(&self.held);
-            self.held = kept;
-        }
+        let first = self.since.kept.pop(self.alloc)?;
+        self.remove_all(first.as_slice())
     }
 
     /// The way ends, and what was kept is held.
-    #[tactic(auto, using(crate::proofs::Sets::gone_back, crate::proofs::Sets::first_within, crate::proofs::Sets::rest_within))]
-    pub fn go_back(&mut self)
-        ensures { self.new ≡ going_back self.old }
+    pub fn go_back(&mut self) -> Result<(), AllocError>
+        ensures { OnOk result (self.new ≡ going_back self.old) }
     {
-        if let Some(kept) = self.kept.pop() {
-            self.held = kept;
-        }
+        let first = self.since.kept.pop(self.alloc)?;
+        self.turn_all(first.as_slice())
     }
 
     /// The way ends, and what was kept is forgotten.
-    #[tactic(auto, using(crate::proofs::Sets::rest_sets, crate::proofs::Sets::rest_within))]
-    pub fn forget(&mut self)
-        ensures { self.new ≡ forgetting self.old }
+    pub fn forget(&mut self) -> Result<(), AllocError>
+        ensures { OnOk result (self.new ≡ forgetting self.old) }
     {
-        self.kept.pop();
+        self.since.kept.pop(self.alloc)?;
+        Ok(())
     }
 
     /// A loop starts.
     pub fn enter(&mut self) -> Result<(), AllocError>
         ensures { OnOk result (self.new ≡ entering self.old) }
     {
-        let held = self.held.copy()?;
-        self.loops.push(held)
+        self.since.loops.push(Changed::new(self.alloc))
     }
 
     /// A part of the innermost loop begins with what is held at the loop's start.
+    #[tactic(auto, using(crate::proofs::Sets::restarted, crate::proofs::Sets::nothing_to_restart))]
     pub fn restart(&mut self) -> Result<(), AllocError>
         ensures { OnOk result (self.new ≡ restarting self.old) }
     {
-        if let Some(start) = self.loops.top() {
-            self.held = start.copy()?;
+        if !self.is_in_loop() {
+            return Ok(());
         }
-        Ok(())
+        self.leave()?;
+        self.enter()
     }
 
     /// The innermost loop ends, and what is held at its start is held.
-    pub fn leave(&mut self)
-        ensures { self.new ≡ leaving self.old }
+    pub fn leave(&mut self) -> Result<(), AllocError>
+        ensures { OnOk result (self.new ≡ leaving self.old) }
     {
-        if let Some(start) = self.loops.pop() {
-            self.held = start;
-        }
+        let first = self.since.loops.pop(self.alloc)?;
+        self.turn_all(first.as_slice())
+    }
+
+    // Whether the walk is in a loop.
+    fn is_in_loop(&self) -> bool
+        ensures { result ≡ is_some (head self.now.loops) }
+    {
+        self.since.loops.has_any()
     }
 
     /// Whether the same is held as at the start of the innermost loop.
-    #[tactic(auto, using(crate::proofs::Sets::compared, crate::proofs::Sets::first_within, crate::proofs::Sets::first_set, crate::proofs::Sets::no_set))]
     pub fn is_as_at_loop(&self) -> bool
         ensures { result ≡ is_as_at_loop self.now }
     {
-        match self.loops.top() {
-            Some(start) => self.held.is_same(start),
-            None => true,
-        }
+        self.since.loops.is_same_at_first()
     }
 
     /// Whether the same is held as at the start of the function.
-    #[tactic(auto, using(crate::proofs::Sets::compared))]
     pub fn is_as_at_start(&self) -> bool
         ensures { result ≡ same self.now.held self.now.start }
     {
-        self.held.is_same(&self.start)
+        self.since.start.is_empty()
     }
 }

@@ -1,7 +1,7 @@
 //! The mutexes that are known, and their places in rows.
 
-ghost use Rattle.std.specs.Prelude.{◌≡◌, length, IfOk, OnOk, Some};
-ghost use Rattle.lockset_check_rules.specs.Mutexes.{is_held, locks_of, with_lock, with_locks};
+ghost use Rattle.std.specs.Prelude.{◌≡◌, length, not, IfOk, OnOk, Some};
+ghost use Rattle.lockset_check_rules.specs.Mutexes.{is_held, locks_of, with_lock, with_locks, without_lock};
 ghost use Rattle.lockset_check_held.specs.Rows.{IsTable, IsWithin, Learns, place_in, set_of};
 
 use crate::row::Row;
@@ -38,18 +38,40 @@ pub fn has(known: &IndexSet<i128>, mutex: i128, row: &Row) -> bool
     }
 }
 
-/// One mutex more in a row, known from now on.
-#[tactic(auto, using(crate::proofs::Tables::added_here, crate::proofs::Tables::within_here))]
-pub fn add(known: &mut IndexSet<i128>, row: &mut Row, mutex: i128) -> Result<(), AllocError>
+/// One mutex more in a row, known from now on. Gives whether the row didn't have it.
+#[tactic(auto, using(crate::proofs::Tables::added_here, crate::proofs::Tables::within_here, crate::proofs::Tables::not_yet))]
+pub fn add(known: &mut IndexSet<i128>, row: &mut Row, mutex: i128) -> Result<bool, AllocError>
     requires known { IsTable known.old.keys }
     requires row { IsWithin (length known.old.keys) row.old }
+    ensures more { IfOk result (λ more. more ≡ not (is_held mutex (set_of known.old.keys row.old))) }
     ensures done { OnOk result (set_of known.new.keys row.new ≡ with_lock mutex (set_of known.old.keys row.old)) }
     ensures known { IsTable known.new.keys }
     ensures row { IsWithin (length known.new.keys) row.new }
     ensures learns { Learns known.old.keys known.new.keys }
 {
     let place = learn(known, mutex)?;
-    row.add(place)
+    let more = !row.has(place);
+    row.add(place)?;
+    Ok(more)
+}
+
+/// A row without a mutex. Gives whether the row had it.
+#[tactic(auto, using(crate::proofs::Tables::removed, crate::proofs::Tables::not_removed, crate::proofs::Tables::within_off, crate::proofs::Tables::held_some, crate::proofs::Tables::held_none))]
+pub fn remove(known: &IndexSet<i128>, row: &mut Row, mutex: i128) -> bool
+    requires known { IsTable known.now.keys }
+    requires row { IsWithin (length known.now.keys) row.old }
+    ensures less { result ≡ is_held mutex (set_of known.now.keys row.old) }
+    ensures done { set_of known.now.keys row.new ≡ without_lock mutex (set_of known.now.keys row.old) }
+    ensures row { IsWithin (length known.now.keys) row.new }
+{
+    match place_of(known, mutex) {
+        Some(place) => {
+            let less = row.has(place);
+            row.remove(place);
+            less
+        }
+        None => false,
+    }
 }
 
 // These mutexes more in a row, known from now on.

@@ -1,9 +1,11 @@
 //! The mutexes that are held at the place of a source that a walk has come to.
 #![tactic(auto)]
 
+mod changed;
 mod held;
 mod known;
 mod row;
+mod since;
 mod stack;
 
 pub use held::Held;

@@ -1,7 +1,7 @@
 //! Rows of bits.
 
 ghost use Rattle.std.specs.Prelude.{◌≡◌, ℕ, ◌≤◌, false, true, get_or, length, IfOk, OnOk, [], bit_and};
-ghost use Rattle.lockset_check_held.specs.Rows.{is_on, row_at, TurnsOff, TurnsOn, Includes, IsShared, AreAlike};
+ghost use Rattle.lockset_check_held.specs.Rows.{is_on, row_at, TurnsOff, TurnsOn, Includes};
 ghost use mathlib.Core.Logic.{◌≢◌};
 
 use std::alloc::{AllocError, Global};
@@ -29,16 +29,6 @@ fn lengthen(words: &mut Vec<u64>, count: usize) -> Result<(), AllocError>
     Ok(())
 }
 
-// The bits that others have too.
-#[tactic(auto, using(crate::proofs::Bits::none_shared, crate::proofs::Bits::one_shared, crate::proofs::Bits::all_shared))]
-fn share_words(words: &mut Vec<u64>, others: &[u64])
-    ensures { IsShared words.old.items others.now words.new.items }
-{
-    for i in 0..words.len() {
-        words[i] &= word_at(others, i);
-    }
-}
-
 // Whether all bits of others are among these.
 #[tactic(auto, using(crate::proofs::Bits::none_left_out, crate::proofs::Bits::one_included, crate::proofs::Bits::all_included, crate::proofs::Bits::left_out))]
 fn are_all(words: &[u64], others: &[u64]) -> bool
@@ -48,20 +38,6 @@ fn are_all(words: &[u64], others: &[u64]) -> bool
     for i in 0..others.len() {
         let other = word_at(others, i);
         if word_at(words, i) & other != other {
-            return false;
-        }
-    }
-    true
-}
-
-// Whether both have the same bits.
-#[tactic(auto, using(crate::proofs::Bits::none_differ, crate::proofs::Bits::one_same, crate::proofs::Bits::all_same, crate::proofs::Bits::same_words))]
-fn are_same(words: &[u64], others: &[u64]) -> bool
-    ensures same { result ≡ true → AreAlike words.now others.now }
-    ensures others { result ≡ false → ¬ (AreAlike words.now others.now) }
-{
-    for i in 0..words.len().max(others.len()) {
-        if word_at(words, i) != word_at(others, i) {
             return false;
         }
     }
@@ -124,27 +100,12 @@ impl Row {
         }
     }
 
-    /// Those that are in the other row too.
-    pub(crate) fn share(&mut self, other: &Row)
-        ensures { IsShared self.old other.now self.new }
-    {
-        share_words(&mut self.words, other.words.as_slice());
-    }
-
     /// Whether all places of another row are among them.
     pub(crate) fn has_all(&self, other: &Row) -> bool
         ensures all { result ≡ true → Includes self.now other.now }
         ensures others { result ≡ false → ¬ (Includes self.now other.now) }
     {
         are_all(self.words.as_slice(), other.words.as_slice())
-    }
-
-    /// Whether both rows have the same places.
-    pub(crate) fn is_same(&self, other: &Row) -> bool
-        ensures same { result ≡ true → AreAlike self.now other.now }
-        ensures others { result ≡ false → ¬ (AreAlike self.now other.now) }
-    {
-        are_same(self.words.as_slice(), other.words.as_slice())
     }
 
     /// The same row.

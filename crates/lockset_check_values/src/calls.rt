@@ -104,7 +104,7 @@ impl Walker<'_, '_> {
         match self.mutex(arguments) {
             Some(mutex) => {
                 let is_held = walk.has(mutex);
-                walk.remove(mutex);
+                walk.remove(mutex)?;
                 if is_held {
                     return Ok(());
                 }

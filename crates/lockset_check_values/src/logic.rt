@@ -30,8 +30,7 @@ impl Walker<'_, '_> {
         self.value(walk, first)?;
         walk.keep()?;
         self.value(walk, second)?;
-        walk.join();
-        Ok(())
+        walk.join()
     }
 
     // One of two values (C11 6.5.15, 4).
@@ -57,7 +56,6 @@ impl Walker<'_, '_> {
         self.value(walk, then)?;
         walk.turn()?;
         self.value(walk, other)?;
-        walk.join();
-        Ok(())
+        walk.join()
     }
 }

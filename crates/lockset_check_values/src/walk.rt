@@ -115,12 +115,12 @@ impl Walk {
     }
 
     /// The mutex is given back.
-    pub fn remove(&mut self, mutex: i128)
-        ensures { self.new ≡ with_sets
-            (record self.old.sets { held = without_lock mutex self.old.sets.held }) self.old }
+    pub fn remove(&mut self, mutex: i128) -> Result<(), AllocError>
+        ensures { OnOk result (self.new ≡ with_sets
+            (record self.old.sets { held = without_lock mutex self.old.sets.held }) self.old) }
     {
         self.sure = None;
-        self.sets.remove(mutex);
+        self.sets.remove(mutex)
     }
 
     /// A way begins: what is held is kept.
@@ -140,27 +140,27 @@ impl Walk {
     }
 
     /// The way ends, and goes on with what it shares with what was kept.
-    pub fn join(&mut self)
-        ensures { self.new ≡ with_sets (joining self.old.sets) self.old }
+    pub fn join(&mut self) -> Result<(), AllocError>
+        ensures { OnOk result (self.new ≡ with_sets (joining self.old.sets) self.old) }
     {
         self.sure = None;
-        self.sets.join();
+        self.sets.join()
     }
 
     /// The way ends, and what was kept is held.
-    pub fn go_back(&mut self)
-        ensures { self.new ≡ with_sets (going_back self.old.sets) self.old }
+    pub fn go_back(&mut self) -> Result<(), AllocError>
+        ensures { OnOk result (self.new ≡ with_sets (going_back self.old.sets) self.old) }
     {
         self.sure = None;
-        self.sets.go_back();
+        self.sets.go_back()
     }
 
     /// The way ends, and what was kept is forgotten.
-    pub fn forget(&mut self)
-        ensures { self.new ≡ with_sets (forgetting self.old.sets) self.old }
+    pub fn forget(&mut self) -> Result<(), AllocError>
+        ensures { OnOk result (self.new ≡ with_sets (forgetting self.old.sets) self.old) }
     {
         self.sure = None;
-        self.sets.forget();
+        self.sets.forget()
     }
 
     /// A loop starts.
@@ -180,11 +180,11 @@ impl Walk {
     }
 
     /// The innermost loop ends, and what is held at its start is held.
-    pub fn leave(&mut self)
-        ensures { self.new ≡ with_sets (leaving self.old.sets) self.old }
+    pub fn leave(&mut self) -> Result<(), AllocError>
+        ensures { OnOk result (self.new ≡ with_sets (leaving self.old.sets) self.old) }
     {
         self.sure = None;
-        self.sets.leave();
+        self.sets.leave()
     }
 
     /// Whether the same is held as at the start of the innermost loop.

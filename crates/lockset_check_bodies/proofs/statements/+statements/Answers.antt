@@ -14,7 +14,7 @@ use Rattle.lockset_check_rules.specs.Statements.{statement_found, statements_fou
 use Rattle.lockset_check_held.specs.HeldSets.{keeping}
 use Rattle.lockset_check_values.specs.Setting.{guarded}
 use Rattle.lockset_check_values.specs.Walks.{Walked, with_sets}
-use Rattle.lockset_check_bodies.specs.Places.{Passed, StatementWalked, StatementsWalked, in_part, in_round, within}
+use Rattle.lockset_check_bodies.specs.Places.{Passed, StatementWalked, StatementsWalked, WaysEnded, in_part, in_round, within}
 use Rattle.lockset_check_bodies.proofs.Lists.{one_lighter, one_more, statement_among}
 use Rattle.lockset_check_bodies.proofs.Passing.{ended_part, first_part, first_stopped, first_went, kept_at, looped, next_part, nothing_passed, one_joined, round_ended, round_stopped, still, still_in_part, stops_there, then_passed, there, turned, turned_at, two_joined}
 use Rattle.lockset_check_bodies.proofs.Weights.{statement_weight, statements_weight}
@@ -30,7 +30,7 @@ while_loop-returns t c =
     let at = there c.args.from w in
     let first = first_part c.args.from w condition c.enter.new.self c.part.new.walk c.in_ok-enter.ensures c.in_ok-part.ensures in
     let both = next_part c.args.from w (condition at w.sets.held) body c.part.new.walk c.round.new.walk first c.in_ok-round.ensures in
-    looped c.args.from w (condition at w.sets.held ++ body at w.sets.held) c.round.new.walk c.leave.new.self both c.leave.ensures
+    looped c.args.from w (condition at w.sets.held ++ body at w.sets.held) c.round.new.walk c.leave.new.self both c.in_ok-leave.ensures
 
 pub do_loop-returns : goal.do_loop-returns
 do_loop-returns t c =
@@ -42,7 +42,7 @@ do_loop-returns t c =
     let at = there c.args.from w in
     let first = first_part c.args.from w body c.enter.new.self c.round.new.walk c.in_ok-enter.ensures c.in_ok-round.ensures in
     let both = next_part c.args.from w (body at w.sets.held) condition c.round.new.walk c.part.new.walk first c.in_ok-part.ensures in
-    looped c.args.from w (body at w.sets.held ++ condition at w.sets.held) c.part.new.walk c.leave.new.self both c.leave.ensures
+    looped c.args.from w (body at w.sets.held ++ condition at w.sets.held) c.part.new.walk c.leave.new.self both c.in_ok-leave.ensures
 
 pub for_loop-returns : goal.for_loop-returns
 for_loop-returns t c =
@@ -60,7 +60,7 @@ for_loop-returns t c =
     let both = next_part c.args.from w a body c.part.new.walk c.round.new.walk first c.in_ok-round.ensures in
     let all = next_part c.args.from w (a ++ b) last c.round.new.walk c.part-2.new.walk both c.in_ok-part-2.ensures in
     subst (λ (fs : List LockFinding). Passed (Some w.sets.held) fs true w c.leave.new.self) (append_assoc a b z)
-    (looped c.args.from w ((a ++ b) ++ z) c.part-2.new.walk c.leave.new.self all c.leave.ensures)
+    (looped c.args.from w ((a ++ b) ++ z) c.part-2.new.walk c.leave.new.self all c.in_ok-leave.ensures)
 
 pub one_way-returns : goal.one_way-returns
 one_way-returns t c =
@@ -74,7 +74,7 @@ one_way-returns t c =
     let at : c.keep.new.self ≡ kept_at s fs w = c.in_ok-keep.ensures ∙ ap (λ (x : Walked). with_sets (keeping x.sets) x) c.in_ok-value.ensures in
     let p : Passed (statement_after a s) (statement_found r (within w.sets c.args.within) a s) c.in_ok-goes.goes (kept_at s fs w) c.walk_statement.new.walk =
     subst (λ (x : Walked). StatementWalked r c.args.within a c.in_ok-goes.goes x c.walk_statement.new.walk) at c.in_ok-goes.ensures in
-    one_joined s fs (statement_found r (within w.sets c.args.within) a s) w c.walk_statement.new.walk c.end_way.new.walk (statement_after a s) c.in_ok-goes.goes p c.end_way.ensures
+    one_joined s fs (statement_found r (within w.sets c.args.within) a s) w c.walk_statement.new.walk c.end_way.new.walk (statement_after a s) c.in_ok-goes.goes p c.in_ok-end_way.ensures
 
 pub two_ways-returns : goal.two_ways-returns
 two_ways-returns t c =
@@ -95,8 +95,12 @@ two_ways-returns t c =
     turned s fs gs w c.walk_statement.new.walk c.turn.new.self (statement_after a s) c.in_ok-first.first p c.in_ok-turn.ensures in
     let q : Passed (statement_after b s) hs c.in_ok-second.second (turned_at s c.walk_statement.new.walk.sets.held w c.walk_statement.new.walk) c.walk_statement-2.new.walk =
     subst (λ (x : Walked). StatementWalked r c.args.within b c.in_ok-second.second x c.walk_statement-2.new.walk) again c.in_ok-second.ensures in
-    subst (λ (goes : Bool). Passed (joined (statement_after a s) (statement_after b s)) (fs ++ (gs ++ hs)) goes w c.end_ways.new.walk) (sym c.end_ways.ensures.goes)
-    (two_joined s fs gs hs w c.walk_statement.new.walk c.walk_statement-2.new.walk c.end_ways.new.walk (statement_after a s) (statement_after b s) c.in_ok-first.first c.in_ok-second.second p q c.end_ways.ensures.walk)
+    let after = joined (statement_after a s) (statement_after b s) in
+    IfOk-weaker c.end_ways.result (λ (goes : Bool). WaysEnded c.in_ok-first.first c.in_ok-second.second goes c.walk_statement-2.new.walk c.end_ways.new.walk)
+    (λ (goes : Bool). Passed after (fs ++ (gs ++ hs)) goes w c.end_ways.new.walk)
+    (λ goes e. subst (λ (on : Bool). Passed after (fs ++ (gs ++ hs)) on w c.end_ways.new.walk) (sym e.0)
+    (two_joined s fs gs hs w c.walk_statement.new.walk c.walk_statement-2.new.walk c.end_ways.new.walk (statement_after a s) (statement_after b s) c.in_ok-first.first c.in_ok-second.second p q e.1))
+    c.end_ways.ensures
 
 pub walk_statement-walk_statements-requires : goal.walk_statement-walk_statements-requires
 walk_statement-walk_statements-requires t c =

@@ -9,5 +9,5 @@ invariant_of-self-2 c =
     let row = c.in_ok-row.row in
     let is : row ≡ row_at h.needs.items c.args.place = c.in_ok-row.ensures ∙ ap (λ (rows : List (List ℕ)). row_at rows c.args.place) c.as_slice.ensures.value in
     let more : c.push.new.self.items ≡ h.needs.items ++ row ∷ [] = search rules in
-    subst (λ (rows : List (List ℕ)). AreRows h.known.keys h.held h.start h.loops h.kept rows) (sym more)
-    (again_rows h.known.keys h.held h.start h.loops h.kept h.needs.items c.args.place row is c.self.invariant)
+    subst (λ (rows : List (List ℕ)). AreRows h.known.keys h.held rows) (sym more)
+    (again_rows h.known.keys h.held h.needs.items c.args.place row is c.self.invariant)
