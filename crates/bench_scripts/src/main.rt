@@ -3,7 +3,9 @@
 #![tactic(auto)]
 
 use std::alloc::{AllocError, Global};
-use std::{env, fs, io};
+use std::fs::File;
+use std::io::Read;
+use std::{env, io};
 use sys_script_lines::{External, Externals, ScriptError, read_lines};
 
 /// How many bytes a file may have.
@@ -24,7 +26,7 @@ fn line(alloc: Global, bytes: &[u8]) -> Result<String, AllocError> {
     externals.add(b"read", read)?;
     match read_lines(alloc, bytes, &externals) {
         Ok(file) => {
-            let turns = file.schedule.as_slice().len();
+            let turns = file.schedule.len();
             let answers = file.answers.len();
             format!(in alloc; "turns {turns} answers {answers}")
         }
@@ -35,7 +37,9 @@ fn line(alloc: Global, bytes: &[u8]) -> Result<String, AllocError> {
 
 fn main(rt: HostRuntime) -> io::Result<()> {
     for name in env::args(&rt)?.skip(1) {
-        let bytes = fs::read(&rt, name.as_str())?;
+        let mut bytes = Vec::with_capacity(rt.alloc(), MOST_BYTES + 1)?;
+        let file = File::open(&rt, name.as_str())?;
+        file.take(MOST_BYTES as u64 + 1).read_to_end(&mut bytes)?;
         let line = line(rt.alloc(), &bytes)?;
         println!(rt; "{line}")?;
     }

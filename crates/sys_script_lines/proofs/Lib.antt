@@ -6,4 +6,5 @@ pub mod Hex
 pub mod Digits
 pub mod Names
 pub mod Steps
+pub mod NearTurns
 mod Ranges

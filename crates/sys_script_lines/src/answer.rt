@@ -16,6 +16,7 @@ use std::alloc::Global;
 use system_side::AnswersSoFar;
 
 /// The result that the text spells, as a 64-bit two's complement pattern.
+#[inline(always)]
 fn result_of(external: External, text: &[u8]) -> Option<u64>
     ensures { result ≡ result_in external text.now }
 {
@@ -29,6 +30,7 @@ fn result_of(external: External, text: &[u8]) -> Option<u64>
 }
 
 /// Ends the answer whose pieces these are so far.
+#[inline(always)]
 fn end_answer(answers: &mut AnswersSoFar, external: External, number: &[u8]) -> Result<(), Wrong>
     ensures { Says (λ _. answers.new.ended) result
         (with_answer answers.old.ended (answer_by external number.now answers.old.begun)) }
@@ -44,6 +46,7 @@ fn end_answer(answers: &mut AnswersSoFar, external: External, number: &[u8]) -> 
 }
 
 /// Adds the answer of a function whose words after its name these are.
+#[inline(always)]
 fn answer_of(
     alloc: Global,
     answers: &mut AnswersSoFar,
@@ -66,6 +69,7 @@ fn answer_of(
 }
 
 /// Adds the answer whose words these are: the function's name, its result, and its pieces.
+#[inline(always)]
 pub(crate) fn answer<'a>(
     alloc: Global,
     finder: &mut Finder<'a>,

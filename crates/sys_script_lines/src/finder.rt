@@ -46,6 +46,7 @@ impl<'a> Finder<'a> {
     }
 
     /// The function whose name is the first of the words, and what follows the blank after it; `None` where there is no blank.
+    #[inline(always)]
     pub(crate) fn cut(&mut self, words: &'a [u8]) -> Option<(Option<External>, &'a [u8])>
         ensures found { IfSome result (λ x. IsNamed self.old.externals.now words.now x.0 x.1.now) }
         ensures last { IfNone result (parts 32 words.now ≡ words.now ∷ []) }
@@ -54,6 +55,16 @@ impl<'a> Finder<'a> {
         if let Some(rest) = after_name(words, self.name) {
             return Some((self.found, rest));
         }
+        self.cut_other(words)
+    }
+
+    // The same by a search.
+    #[inline(never)]
+    fn cut_other(&mut self, words: &'a [u8]) -> Option<(Option<External>, &'a [u8])>
+        ensures found { IfSome result (λ x. IsNamed self.old.externals.now words.now x.0 x.1.now) }
+        ensures last { IfNone result (parts 32 words.now ≡ words.now ∷ []) }
+        ensures same { self.new.externals.now ≡ self.old.externals.now }
+    {
         let (name, rest) = cut(words, b' ')?;
         *self = Finder::new(self.externals, name);
         Some((self.found, rest))

@@ -34,6 +34,7 @@ fn hex_byte(high: u8, low: u8) -> Option<u8>
 }
 
 /// The bytes that the digits spell, each by two of them.
+#[inline(never)]
 fn hex_bytes(alloc: Global, digits: &[u8]) -> Result<Vec<u8>, Wrong>
     ensures { Says (λ v. v.items) result (hex_bytes digits.now) }
 {
@@ -65,6 +66,7 @@ fn piece(alloc: Global, word: &[u8]) -> Result<Vec<u8>, Wrong>
 }
 
 /// Adds the piece that a word is to those of an answer.
+#[inline(always)]
 fn add_piece(alloc: Global, answers: &mut AnswersSoFar, word: &[u8]) -> Result<(), Wrong>
     ensures added { Says (λ _. answers.new.begun) result (with_piece answers.old.begun (piece word.now)) }
     ensures same { answers.new.ended ≡ answers.old.ended }

@@ -86,10 +86,11 @@ impl Said {
         ensures { Says (λ _. self.new) result (option_and_then (heard self.old) (schedule_line text.now)) }
     {
         let turns = turns(alloc, text)?;
-        set(&mut self.schedule, Schedule::from(turns))
+        set(&mut self.schedule, turns)
     }
 
     // Takes a line that says what a function answers.
+    #[inline(always)]
     fn hear_answer<'a>(
         &mut self,
         alloc: Global,
@@ -104,6 +105,7 @@ impl Said {
     }
 
     // Takes a line that begins with this word, where this follows after a blank.
+    #[inline(never)]
     fn hear_by<'a>(
         &mut self,
         alloc: Global,
@@ -199,7 +201,7 @@ fn set<T: Drop>(place: &mut Option<T>, value: T) -> Result<(), Wrong>
 fn first_thread(alloc: Global) -> Result<Schedule, AllocError>
     ensures { IfOk result (λ schedule. schedule ≡ (0, 1) ∷ []) }
 {
-    let mut turns = Vec::new(alloc);
-    turns.push((0, 1))?;
-    Ok(Schedule::from(turns))
+    let mut schedule = Schedule::with_capacity(alloc, 1)?;
+    schedule.push(0, 1)?;
+    Ok(schedule)
 }

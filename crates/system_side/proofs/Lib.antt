@@ -2,4 +2,5 @@ mod Bits
 mod Rounds
 mod Places
 mod Flat
+mod Kept
 mod State

@@ -27,3 +27,9 @@ pub record IsKept (items : List (ℕ × ℕ)) (lasts : List ℕ) : Type 0 where
   pub some : 0 < length items
   pub counts : All (λ item. 0 < item.1) items
   pub lasts_are : lasts ≡ lasts_from 0 items
+
+-- turns whose steps are kept as far as the last turn of more than one
+abbrev pub turns_of : (threads steps : List ℕ) → List (ℕ × ℕ)
+turns_of [] steps = []
+turns_of (t ∷ threads) [] = (t, 1) ∷ turns_of threads []
+turns_of (t ∷ threads) (n ∷ steps) = (t, n) ∷ turns_of threads steps

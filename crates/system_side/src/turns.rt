@@ -33,8 +33,8 @@ impl Turns {
         requires counts { All (λ item. 0 < item.1) schedule.now }
         ensures { IfOk result (λ turns. turns ≡ schedule.now) }
     {
-        let lasts = last_steps(alloc, schedule.as_slice())?;
-        let items = schedule.as_slice().to_vec(alloc)?;
+        let items = schedule.to_vec(alloc)?;
+        let lasts = last_steps(alloc, &items)?;
         Ok(Turns { items, lasts })
     }
 

@@ -98,7 +98,8 @@ fn put_answer(alloc: Global, to: &mut String, answer: Answer<'_>) -> Result<(), 
 /// What a file says: its budget, its chunk, its turns, and its answers.
 fn shown(alloc: Global, file: &SysFile) -> Result<String, AllocError> {
     let mut text = format!(in alloc; "{} {}", file.budget, file.chunk)?;
-    for (thread, steps) in file.schedule.as_slice() {
+    for place in 0..file.schedule.len() {
+        let (thread, steps) = file.schedule.get(place);
         let turn = format!(in alloc; " {thread}*{steps}")?;
         text.push_str(turn.as_str())?;
     }

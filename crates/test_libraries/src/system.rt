@@ -36,7 +36,7 @@ fn file(alloc: Global, turns: &[(u8, u32)], functions: &[u16]) -> Result<SysFile
     Ok(SysFile {
         budget: 0,
         chunk: 1,
-        schedule: Schedule::from(Vec::from_slice(alloc, turns)?),
+        schedule: Schedule::from_slice(alloc, turns)?,
         answers: answers.finish(),
     })
 }
@@ -51,12 +51,11 @@ fn may_step(system: &System, thread: u8) -> bool
     }
 }
 
-/// Whether the file has a schedule that can be asked.
-fn has_schedule(file: &SysFile) -> bool
-    ensures some { result ≡ true → 0 < length file.now.schedule }
-    ensures counts { result ≡ true → All (λ item. 0 < item.1) file.now.schedule }
+/// Whether a schedule of these turns can be asked.
+fn can_be_asked(turns: &[(u8, u32)]) -> bool
+    ensures some { result ≡ true → 0 < length turns.now }
+    ensures counts { result ≡ true → All (λ item. 0 < item.1) turns.now }
 {
-    let turns = file.schedule.as_slice();
     !turns.is_empty() && turns.iter().all(|turn| turn.1 > 0)
 }
 
@@ -91,7 +90,7 @@ fn first_difference(
     calls: &[(Call, Option<i32>)],
 ) -> Result<Option<usize>, AllocError> {
     let file = file(alloc, turns, functions)?;
-    if !has_schedule(&file) {
+    if !can_be_asked(turns) {
         return Ok(Some(calls.len()));
     }
     let mut system = System::new(alloc, &file)?;

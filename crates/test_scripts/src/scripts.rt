@@ -47,11 +47,12 @@ fn said_by(alloc: Global, file: &SysFile) -> Result<Output, AllocError> {
     text.put("\nchunk ");
     text.put_number(u64::from(file.chunk));
     text.put("\n");
-    for turn in file.schedule.as_slice() {
+    for place in 0..file.schedule.len() {
+        let (thread, steps) = file.schedule.get(place);
         text.put("turn ");
-        text.put_number(u64::from(turn.0));
+        text.put_number(u64::from(thread));
         text.put(" ");
-        text.put_number(u64::from(turn.1));
+        text.put_number(u64::from(steps));
         text.put("\n");
     }
     for place in 0..file.answers.len() {
