@@ -12,7 +12,7 @@ use Rattle.race_watch_pages.specs.declared.pages.Pages.{Pages}
 use Rattle.race_watch.specs.declared.bytes.Bytes.{Bytes}
 use Rattle.race_watch.specs.declared.tables.Tables.{Tables}
 use Rattle.race_watch.specs.Cells.{cell_of, base_of, IsPart}
-use Rattle.race_watch.specs.Tables.{at, at_cell, listed, listed_cell, cells_of, AreTables}
+use Rattle.race_watch.specs.Tables.{at, at_cell, listed, listed_cell, cells_of, AreTables, IsPut}
 
 -- a epoch is that of a cell
 pub at_some : (t : Tables) (w : Bool) (u x c : ℕ) → cell_of x ≡ Some c → u < t.threads → at t w u x ≡ kept t.epochs (base_of u w + c)
@@ -245,6 +245,27 @@ listed_is t w u x h = go (cell_of x) refl
     go (Some c) e = some c (nat_lt u t.threads) e refl
 
 pub filled_by : (old : Tables) (new : Pages) (mid : ℕ → ℕ) (b : Bytes) (t epoch : ℕ) (k : Bool) (r : ℕ) → IsPart b → t < old.threads → r ≡ base_of t k → ((c : ℕ) → kept new c ≡ cond (nat_le (r + b.cell) c && nat_lt c (r + b.cell + (b.to - b.from))) epoch (mid c)) → ((c : ℕ) → mid c ≡ kept old.epochs c)
-    → (w : Bool) (u x : ℕ) → at (record { threads = old.threads; epochs = new }) w u x ≡ cond (eqb t u && (alike w k && (nat_le b.from x && nat_lt x b.to))) epoch (at old w u x)
+    → (w : Bool) (u x : ℕ) → at (record { threads = old.threads; used = old.used; epochs = new }) w u x ≡ cond (eqb t u && (alike w k && (nat_le b.from x && nat_lt x b.to))) epoch (at old w u x)
 filled_by old new mid b t epoch k r p lt is fill same =
-    filled_at old (record { threads = old.threads; epochs = new }) b t epoch k p lt refl (λ c. fill c ∙ ap (λ n. cond (nat_le (n + b.cell) c && nat_lt c (n + b.cell + (b.to - b.from))) epoch (mid c)) is ∙ ap (cond (nat_le (base_of t k + b.cell) c && nat_lt c (base_of t k + b.cell + (b.to - b.from))) epoch) (same c))
+    filled_at old (record { threads = old.threads; used = old.used; epochs = new }) b t epoch k p lt refl (λ c. fill c ∙ ap (λ n. cond (nat_le (n + b.cell) c && nat_lt c (n + b.cell + (b.to - b.from))) epoch (mid c)) is ∙ ap (cond (nat_le (base_of t k + b.cell) c && nat_lt c (base_of t k + b.cell + (b.to - b.from))) epoch) (same c))
+
+-- ---- threads that made no access
+
+at_same : (old new : Tables) → new.threads ≡ old.threads → ((c : ℕ) → kept new.epochs c ≡ kept old.epochs c) → (w : Bool) (u x : ℕ) → at new w u x ≡ at old w u x
+at_same old new threads same w u x = go (cell_of x)
+  where
+    go : (o : Option ℕ) → at_cell new w u o ≡ at_cell old w u o
+    go None = refl
+    go (Some c) = ap (λ n. cond (nat_lt u n) (kept new.epochs (base_of u w + c)) 0) threads ∙ ap (λ n. cond (nat_lt u old.threads) n 0) (same (base_of u w + c))
+
+-- more threads may be used
+pub still_unused : (old new : Tables) → AreTables old → new.threads ≡ old.threads → old.used ≤ new.used → ((c : ℕ) → kept new.epochs c ≡ kept old.epochs c) → (w : Bool) (u x : ℕ) → new.used ≤ u → at new w u x ≡ 0
+still_unused old new h threads more same w u x le = at_same old new threads same w u x ∙ h.unused w u x (omega (arith, le, more))
+
+-- one thread is used now
+pub put_unused : (old new : Tables) (t epoch : ℕ) (b : Bytes) (write : Bool) → AreTables old → old.used ≤ new.used → t < new.used → IsPut b t write epoch (at old) (at new) → (w : Bool) (u x : ℕ) → new.used ≤ u → at new w u x ≡ 0
+put_unused old new t epoch b write h more lt put w u x le = put w u x ∙ go (eqb t u) refl
+  where
+    go : (a : Bool) → eqb t u ≡ a → cond (a && ((w || write) && (nat_le b.from x && nat_lt x b.to))) epoch (at old w u x) ≡ 0
+    go true e = absurd (omega (arith, lt, le, eqb-true t u e))
+    go false e = h.unused w u x (omega (arith, le, more))

@@ -1,5 +1,5 @@
 -- The first of what was found in some places is that of all.
-use Rattle.std.proofs.Common.{◌≡◌, ℕ, ◌<◌, ◌≤◌, Bool, true, false, ◌&&◌, ◌||◌, cond, eqb, ltb, List, Option, Some, None, ◌⊎◌, inl, inr, ⊎_elim, refl, subst, arith}
+use Rattle.std.proofs.Common.{◌≡◌, ℕ, ◌+◌, ◌^◌, ◌<◌, ◌≤◌, Bool, true, false, ◌&&◌, ◌||◌, cond, eqb, ltb, List, Option, Some, None, ◌⊎◌, inl, inr, ⊎_elim, refl, subst, arith}
 use Rattle.marks.specs.declared.range.Range.{Range}
 use Rattle.marks.specs.Ranges.{IsInRange}
 use Rattle.race_watch.specs.declared.bytes.Bytes.{Bytes}
@@ -19,6 +19,20 @@ first_part R r area b (Some f) p small h =
       holds = (h.holds, omega (arith, h.low, p.above), omega (arith, h.high, p.under));
       least = λ x u i q. let l = p.all x i q.1 q.2 in h.least x u l.0 l.1 q.0;
     }
+
+-- bytes of one area are all of a range
+pub first_whole : (R : ℕ → ℕ → Type 0) (r : Range) (b : Bytes) (result : Option (ℕ × ℕ)) → b.from ≡ r.addr → b.to ≡ r.addr + r.len → ((x u : ℕ) → R x u → InArea x) → IsFirstFrom b.from b.to R result → IsFirst r R result
+first_whole R r b None from to areas n = λ x u i q. n x u (omega (arith, from, i.0)) (omega (arith, to, i.1)) q
+first_whole R r b (Some p) from to areas h = record {
+  in_range = (omega (arith, from, h.low), omega (arith, to, h.high), small (areas p.0 p.1 h.holds));
+  holds = h.holds;
+  least = λ x u i q. h.least x u (omega (arith, from, i.0)) (omega (arith, to, i.1)) q;
+}
+  where
+    small : InArea p.0 → p.0 < 2 ^ 64
+    small (in_globals low high) = omega (arith, high)
+    small (in_stacks low high) = omega (arith, high)
+    small (in_pool low high) = omega (arith, high)
 
 pub pick_globals : (R : ℕ → ℕ → Type 0) (r : Range) (p : ℕ × ℕ) → ((x u : ℕ) → R x u → InArea x) → IsFirst r (λ x u. R x u × (0x10000000 ≤ x) × (x < 0x10100000)) (Some p) → IsFirst r R (Some p)
 pick_globals R r p areas h = record { in_range = h.in_range; holds = h.holds.0; least = λ x u i q. go x u i q (areas x u q) }

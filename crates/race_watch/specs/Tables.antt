@@ -31,10 +31,12 @@ listed epochs touched u x = listed_cell epochs touched u (cell_of x)
 unfoldable pub cells_of : Tables → List ℕ
 cells_of t = map (kept t.epochs) (range_with_len 0 (256 * size t.epochs))
 
--- there is room for each thread
+-- there is room for each thread, and only those that are used made accesses
 pub record AreTables (t : Tables) : Type 0 where
   pub size : size t.epochs ≡ t.threads * 0x8000
   pub few : t.threads ≤ 32
+  pub used : t.used ≤ t.threads
+  pub unused : (w : Bool) (u x : ℕ) → t.used ≤ u → at t w u x ≡ 0
 
 -- the access isn't known to follow u's last one of the byte that counts
 pub record HasEpoch (a : Tested) (epochs : Bool → ℕ → ℕ → ℕ) (x u : ℕ) : Type 0 where

@@ -16,6 +16,7 @@ use memory_map::Range;
 
 /// Whether the thread is seen to have accessed each byte of the range since its last event, in a way that counts for
 /// this one.
+#[inline(always)]
 pub fn is_settled(tables: &Tables, thread: u8, range: Range, write: bool, epoch: u32) -> bool
     requires tables { AreTables tables.now }
     requires thread { thread < tables.now.threads }

@@ -65,6 +65,7 @@ pub fn common(range: Range, area: Bytes) -> Option<Bytes>
 }
 
 /// The bytes of a range all of which lie in one area.
+#[inline(always)]
 pub fn whole(range: Range) -> Option<Bytes>
     ensures { IfSome result (λ b. IsPart b × (b.from ≡ range.addr) × (b.to ≡ range.addr + range.len)) }
 {

@@ -7,7 +7,7 @@ ghost use Rattle.race_watch.specs.Cells.{IsPart, EachIn, base_of, cell_of};
 ghost use Rattle.race_watch.specs.declared.bytes.TheConstants.{GLOBALS, STACKS, POOL};
 ghost use Rattle.race_watch.specs.Tables.{at, cells_of, AreTables, AreBlankTables, HasEpoch, HasEpochIn, NoneUnknown, IsPut, IsFirst, IsFirstFrom, IsFirstThread};
 
-use crate::bytes::{Bytes, GLOBALS, POOL, STACKS, common};
+use crate::bytes::{Bytes, GLOBALS, POOL, STACKS, common, whole};
 use crate::error::WatchError;
 use crate::first::Tested;
 use race_watch_pages::Pages;
@@ -17,10 +17,13 @@ use std::alloc::{AllocError, Global};
 #[derive(Drop)]
 pub struct Tables {
     pub threads: u8,
+    /// Threads from this number on made no access.
+    pub used: u8,
     pub epochs: Pages,
 }
 
 /// The first cell of a thread's writes, or of its accesses.
+#[inline(always)]
 fn base(thread: u8, touched: bool) -> u32
     requires { thread < 32 }
     ensures { result ≡ base_of thread touched }
@@ -36,10 +39,15 @@ impl Tables {
         ensures { IfOk result (AreBlankTables threads) }
     {
         let epochs = Pages::new(alloc, u32::from(threads) * 0x8000)?;
-        Ok(Tables { threads, epochs })
+        Ok(Tables {
+            threads,
+            used: 0,
+            epochs,
+        })
     }
 
     /// Whether each of the bytes is seen to have this epoch.
+    #[inline(always)]
     pub fn is_all(&self, thread: u8, touched: bool, part: Bytes, epoch: u32) -> bool
         requires tables { AreTables self.now }
         requires thread { thread < self.now.threads }
@@ -59,7 +67,7 @@ impl Tables {
         ensures { IsTrue result → NoneUnknown tested.now (at self.now) part }
     {
         let len = (part.to - part.from) as u32;
-        for thread in 0..self.threads {
+        for thread in 0..self.used {
             if thread != tested.thread {
                 let from = base(thread, tested.write) + part.cell;
                 if !self
@@ -81,7 +89,7 @@ impl Tables {
         ensures { (x : ℕ) → cell_of x ≡ Some cell →
             IsFirstThread (λ u. HasEpoch tested.now (at self.now) x u) result }
     {
-        for thread in 0..self.threads {
+        for thread in 0..self.used {
             let epoch = self.epochs.get(base(thread, tested.write) + cell);
             if thread != tested.thread && tested.known[thread as usize] < epoch {
                 return Some(thread);
@@ -129,6 +137,18 @@ impl Tables {
         requires known { self.now.threads ≤ length tested.now.known.now }
         ensures { IsFirst tested.now.range (HasEpoch tested.now (at self.now)) result }
     {
+        match whole(tested.range) {
+            Some(part) => self.first_in(tested, part),
+            None => self.first_apart(tested),
+        }
+    }
+
+    /// The same of a range that doesn't lie in one area.
+    fn first_apart(&self, tested: &Tested) -> Option<(u64, u8)>
+        requires tables { AreTables self.now }
+        requires known { self.now.threads ≤ length tested.now.known.now }
+        ensures { IsFirst tested.now.range (HasEpoch tested.now (at self.now)) result }
+    {
         if let Some(found) = self.first_of(tested, GLOBALS) {
             return Some(found);
         }
@@ -155,6 +175,7 @@ impl Tables {
         ensures unchanged { OnErr result (cells_of self.new ≡ cells_of self.old) }
         ensures put { OnOk result (IsPut part thread write epoch (at self.old) (at self.new)) }
     {
+        self.used = self.used.max(thread + 1);
         let len = (part.to - part.from) as u32;
         let touched = base(thread, true) + part.cell;
         if self.epochs.make(touched, touched + len).is_err() {

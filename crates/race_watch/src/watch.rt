@@ -102,6 +102,7 @@ impl Watch {
     ///
     /// `Race` exactly where it races with an earlier one; `Memory` where there is no memory. Both leave the watch as it
     /// was.
+    #[inline(always)]
     pub fn access(&mut self, thread: u8, range: Range, write: bool) -> Result<(), WatchError>
         requires { thread < length self.old.rows }
         ensures answers { AnswersBy self.old thread range write result }
@@ -113,6 +114,19 @@ impl Watch {
         if self.has(thread, range, write) {
             return Ok(());
         }
+        self.access_anew(thread, range, write)
+    }
+
+    // An access that is tested and kept.
+    #[inline(never)]
+    fn access_anew(&mut self, thread: u8, range: Range, write: bool) -> Result<(), WatchError>
+        requires { thread < length self.old.rows }
+        ensures answers { AnswersBy self.old thread range write result }
+        ensures told { OnOk result (WasTold (Accessed thread range write) self.old self.new) }
+        ensures unchanged { OnErr result (self.new ≡ self.old) }
+        ensures events { self.new.events ≡ self.old.events }
+        ensures threads { length self.new.rows ≡ length self.old.rows }
+    {
         if let Err(race) = self.test(thread, range, write) {
             return Err(race);
         }
@@ -128,6 +142,7 @@ impl Watch {
 
     /// Whether the watch is seen to take the access and to stay as it is: the thread accessed each byte of the range since its
     /// last event, in a way that counts for this access too.
+    #[inline(always)]
     pub fn has(&self, thread: u8, range: Range, write: bool) -> bool
         requires { thread < length self.now.rows }
         ensures free { IsTrue result → AnswersBy self.now thread range write (Ok tt) }

@@ -34,6 +34,7 @@ impl Pages {
     }
 
     /// Where a page stands, if it is there.
+    #[inline(always)]
     fn find(&self, page: u32) -> Option<usize>
         requires { page < size self.now }
         ensures { MatchOption result ((c : ℕ) → c / 256 ≡ page →
@@ -73,6 +74,7 @@ impl Pages {
     }
 
     /// Whether the cells of one page are seen to have this number.
+    #[inline(always)]
     fn is_part_all(&self, from: u32, to: u32, value: u32) -> bool
         requires order { from < to }
         requires page { to ≤ from / 256 * 256 + 256 }
@@ -106,7 +108,22 @@ impl Pages {
     }
 
     /// Whether each cell, from the first to before the last, has this number; `false` may be answered for a page that isn't there.
+    #[inline(always)]
     pub fn is_all(&self, from: u32, to: u32, value: u32) -> bool
+        requires order { from ≤ to }
+        requires within { to ≤ 256 * size self.now }
+        requires small { to ≤ 4000000000 }
+        ensures { IsTrue result → (c : ℕ) → from ≤ c → c < to → kept self.now c ≡ value }
+    {
+        if from < to && to - from <= 256 - from % 256 {
+            return self.is_part_all(from, to, value);
+        }
+        self.are_parts_all(from, to, value)
+    }
+
+    // The same of the cells of several pages.
+    #[inline(never)]
+    fn are_parts_all(&self, from: u32, to: u32, value: u32) -> bool
         requires order { from ≤ to }
         requires within { to ≤ 256 * size self.now }
         requires small { to ≤ 4000000000 }

@@ -1,6 +1,6 @@
 //! Some cells of one page.
 
-ghost use Rattle.std.specs.Prelude.{◌≡◌, ℕ, ◌<◌, ◌≤◌, ◌&&◌, nat_le, nat_lt, if◌then◌else◌, slice_index, length, IsTrue};
+ghost use Rattle.std.specs.Prelude.{◌≡◌, ℕ, ◌+◌, ◌<◌, ◌≤◌, ◌&&◌, nat_le, nat_lt, if◌then◌else◌, slice_index, length, IsTrue};
 
 /// Whether no number from the first place to before the last is above the bound.
 pub fn are_at_most(values: &[u32; 256], from: usize, to: usize, bound: u32) -> bool
@@ -17,7 +17,34 @@ pub fn are_at_most(values: &[u32; 256], from: usize, to: usize, bound: u32) -> b
 }
 
 /// Whether each number from the first place to before the last is this one.
+#[inline(always)]
 pub fn are_all(values: &[u32; 256], from: usize, to: usize, value: u32) -> bool
+    requires order { from ≤ to }
+    requires within { to ≤ 256 }
+    ensures { IsTrue result → (k : ℕ) → from ≤ k → k < to → slice_index values.now k ≡ value }
+{
+    match to - from {
+        4 => are_four(values, from, value),
+        8 => are_four(values, from, value) & are_four(values, from + 4, value),
+        _ => are_many(values, from, to, value),
+    }
+}
+
+// The same of four numbers, without a branch for each.
+#[inline(always)]
+fn are_four(values: &[u32; 256], from: usize, value: u32) -> bool
+    requires { from + 4 ≤ 256 }
+    ensures { IsTrue result → (k : ℕ) → from ≤ k → k < from + 4 → slice_index values.now k ≡ value }
+{
+    (values[from] == value)
+        & (values[from + 1] == value)
+        & (values[from + 2] == value)
+        & (values[from + 3] == value)
+}
+
+// The same of any count.
+#[inline(never)]
+fn are_many(values: &[u32; 256], from: usize, to: usize, value: u32) -> bool
     requires order { from ≤ to }
     requires within { to ≤ 256 }
     ensures { IsTrue result → (k : ℕ) → from ≤ k → k < to → slice_index values.now k ≡ value }

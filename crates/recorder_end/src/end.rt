@@ -53,6 +53,7 @@ fn recorded(state: RunState, ending: Ending) -> Result<Recorded, AllocError>
         output,
         system_output,
         steps: _,
+        known: _,
     } = state;
     let Finished { log, threads } = book.finish()?;
     let run = Run {

@@ -63,6 +63,7 @@ with_system w s system r stands = record {
     functions = r.around.functions;
     prepared = r.around.prepared;
   };
+  known = r.known;
 }
 
 abbrev number_in : ℕ → Option ℕ → ℕ

@@ -95,6 +95,7 @@ fn complete(
         output: Vec::new(alloc),
         system_output: Vec::new(alloc),
         steps: 0,
+        known: None,
     })
 }
 

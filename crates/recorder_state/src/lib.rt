@@ -3,6 +3,7 @@
 
 mod begin;
 mod inputs;
+mod known;
 mod next;
 mod prepared;
 mod state;
@@ -12,6 +13,7 @@ mod turn;
 
 pub use begin::main_of;
 pub use inputs::Inputs;
+pub use known::Known;
 pub use prepared::PreparedBelow;
 pub use state::RunState;
 pub use stop::Stop;

@@ -1,8 +1,9 @@
 //! What comes next.
 
-ghost use Rattle.std.specs.Prelude.{◌≡◌, ◌<◌, IfSome, None};
+ghost use Rattle.std.specs.Prelude.{◌≡◌, ◌<◌, length, IfSome, None};
 ghost use Rattle.system_side.specs.Schedule.{wish_at};
 ghost use Rattle.recorder_system.specs.Stands.{ready_in};
+ghost use Rattle.recorder_threads.specs.Threads.{IsNextOf};
 ghost use Rattle.recorder_state.specs.Inputs.{world_of};
 ghost use Rattle.recorder_state.specs.Stands.{IsReached};
 ghost use Rattle.recorder_state.specs.Turns.{IsTried, IsTrying, IsTurn, asked_func};
@@ -54,7 +55,7 @@ impl RunState {
         ensures fewer { result ≡ None →
             ready_in self.new.system.threads < ready_in self.old.system.threads }
     {
-        match self.threads.want(inputs.code, inputs.placed, thread) {
+        match self.next_of(inputs, thread) {
             Next::Wants { side, want } => {
                 if let Some(func) = asked(want) {
                     if self.system.waits(thread, func, self.threads.args(thread)) {
@@ -65,6 +66,20 @@ impl RunState {
             }
             Next::Ended { .. } => unreachable!("a thread that is tried goes on"),
         }
+    }
+
+    // What the code of a thread comes to.
+    fn next_of(&self, inputs: Inputs<'_>, thread: u8) -> Next
+        requires reached { IsReached (world_of inputs) self.now }
+        requires started { thread < length self.now.threads }
+        ensures { IsNextOf (world_of inputs.entry).laid self.now.threads thread result }
+    {
+        if let Some(known) = self.known {
+            if known.thread == thread {
+                return known.next;
+            }
+        }
+        self.threads.want(inputs.code, inputs.placed, thread)
     }
 }
 

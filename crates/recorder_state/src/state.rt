@@ -6,6 +6,7 @@ ghost use Rattle.recorder_state.specs.Inputs.{world_of};
 ghost use Rattle.recorder_state.specs.Stands.{IsReached};
 
 use crate::inputs::Inputs;
+use crate::known::Known;
 use crate::prepared::PreparedBelow;
 use recorder_book::Book;
 use recorder_memory::Memory;
@@ -31,4 +32,6 @@ pub struct RunState {
     pub system_output: Vec<u8>,
     /// How many steps were made.
     pub steps: u64,
+    /// What the code of the thread that made the last step comes to, so that nobody need look again.
+    pub known: Option<Known>,
 }

@@ -4,16 +4,18 @@ ghost use Rattle.std.specs.Prelude.{◌≡◌, ◌+◌, ◌∷◌, OnOk};
 ghost use Rattle.marks.specs.Wants.{Value};
 ghost use Rattle.c_machine.specs.Wants.{told};
 ghost use Rattle.recorder_threads.specs.Answers.{IsNoCall, IsPlain};
-ghost use Rattle.recorder_threads.specs.Threads.{AreThreadsOf};
+ghost use Rattle.recorder_threads.specs.Threads.{AreThreadsOf, IsNextOf};
+ghost use Rattle.whole_runs.specs.World.{World};
 ghost use Rattle.recorder_state.specs.Inputs.{world_of};
 ghost use Rattle.recorder_state.specs.Plain.{IsPlainStep, IsResult, IsResultStep, IsReturnStep, IsStepTold, starts_thread};
-ghost use Rattle.recorder_state.specs.Stands.{IsReached};
+ghost use Rattle.recorder_state.specs.Stands.{IsGoneOn, IsReached, KeepsSystem};
 
 use crate::inputs::Inputs;
+use crate::known::Known;
 use crate::state::RunState;
 use c_code::Side;
 use c_machine::Answer;
-use recorder_threads::Threads;
+use recorder_threads::{Next, Threads};
 use std::alloc::{AllocError, Global};
 
 // The number of `r2_spawn`.
@@ -27,11 +29,32 @@ impl RunState {
         ensures reached { IsReached (world_of inputs.entry) self.new }
         ensures steps { self.new.steps ≡ self.old.steps + 1 }
     {
-        tell(&mut self.threads, inputs, thread, answer);
+        let next = self.go_on_to(inputs, thread, side, answer);
+        self.keep(thread, next);
+    }
+
+    /// The same, and what the code of the thread comes to then, which isn't kept.
+    #[inline(always)]
+    pub fn go_on_to(&mut self, inputs: Inputs<'_>, thread: u8, side: Side, answer: Answer) -> Next
+        requires { IsPlainStep (world_of inputs) self.old thread side (told answer) }
+        ensures gone_on { IsGoneOn (world_of inputs.entry) self.new thread result }
+        ensures steps { self.new.steps ≡ self.old.steps + 1 }
+        ensures system { KeepsSystem result self.old.system self.new.system }
+    {
+        let next = tell(&mut self.threads, inputs, thread, answer);
         if let Side::Replay = side {
             self.stamps.step(thread);
         }
-        self.end_step(inputs, thread);
+        self.end_step_at(inputs, thread, next);
+        next
+    }
+
+    /// Keeps what the code of the thread comes to.
+    pub fn keep(&mut self, thread: u8, next: Next)
+        ensures reached { (w : World) → IsGoneOn w self.old thread next → IsReached w self.new }
+        ensures steps { self.new.steps ≡ self.old.steps }
+    {
+        self.known = Some(Known { thread, next });
     }
 
     /// Goes on after a step in which the thread's call of a builtin or external comes to this value: all but threads and system were told
@@ -76,23 +99,39 @@ impl RunState {
         ensures reached { IsReached (world_of inputs.entry) self.new }
         ensures steps { self.new.steps ≡ self.old.steps + 1 }
     {
-        if let Some(value) = self.threads.result(inputs.code, inputs.placed, thread) {
-            self.system.end(thread, value);
+        let next = self.threads.want(inputs.code, inputs.placed, thread);
+        self.end_step_at(inputs, thread, next);
+        self.keep(thread, next);
+    }
+
+    // The same where the code of the thread has come to this, which isn't kept.
+    #[inline(always)]
+    fn end_step_at(&mut self, inputs: Inputs<'_>, thread: u8, next: Next)
+        requires told { IsStepTold (world_of inputs) self.old thread }
+        requires next { IsNextOf (world_of inputs).laid self.old.threads thread next }
+        ensures gone_on { IsGoneOn (world_of inputs.entry) self.new thread next }
+        ensures steps { self.new.steps ≡ self.old.steps + 1 }
+        ensures system { KeepsSystem next self.old.system self.new.system }
+    {
+        if let Next::Ended { result } = next {
+            self.system.end(thread, result);
         }
+        self.known = None;
         self.steps += 1;
     }
 }
 
-// Tells the thread of a mark that gives its code this answer.
-fn tell(threads: &mut Threads, inputs: Inputs<'_>, thread: u8, answer: Answer)
+// Tells the thread of a mark that gives its code this answer: what that comes to then.
+#[inline(always)]
+fn tell(threads: &mut Threads, inputs: Inputs<'_>, thread: u8, answer: Answer) -> Next
     requires { IsPlain (world_of inputs).laid threads.old thread IsNoCall (told answer) }
-    ensures { (a : IsPlain (world_of inputs.entry).laid threads.old thread IsNoCall (told answer)) →
+    ensures stand { (a : IsPlain (world_of inputs.entry).laid threads.old thread IsNoCall (told answer)) →
         AreThreadsOf a.next.world (a.next.mark ∷ a.next.past) threads.new }
+    ensures next { IsNextOf (world_of inputs.entry).laid threads.new thread result }
 {
     match answer {
-        Answer::Go => threads.go(inputs.code, inputs.placed, thread),
-        Answer::Value(value) => threads.give(inputs.code, inputs.placed, thread, value),
-        Answer::Frame(frame) => threads.enter(inputs.code, inputs.placed, thread, frame),
+        Answer::Frame(frame) => threads.next_in_frame(inputs.code, inputs.placed, thread, frame),
+        answer => threads.next_after(inputs.code, inputs.placed, thread, answer),
     }
 }
 

@@ -14,6 +14,9 @@ use Rattle.c_code.specs.MarkLists.{Split, reply, settled, state}
 use Rattle.c_code.specs.Valid.{start_sig}
 use Rattle.c_machine.specs.Moves.{IsInside, ThreadState, is_below, rested}
 use Rattle.c_machine.specs.Follows.{Report, Crosses, Feeds, GoesUp, MayTell, after_report, back_report, go_report, report}
+use Rattle.c_machine.specs.Wants.{told as as_told}
+use Rattle.c_machine.specs.declared.wants.Answer.{Answer as Told}
+use Rattle.c_machine.specs.declared.wants.Answer.TheVariants as answers
 use Rattle.c_machine.proofs.Answering.{goes}
 use Rattle.whole_runs.specs.World.{World}
 use Rattle.whole_runs.specs.Sides.{own}
@@ -51,6 +54,12 @@ go_feeds (CallsBack f args bytes) h = refl
 go_feeds (UpReturns f v) h = refl
 go_feeds (Steps i f args) h = refl
 go_feeds (Fails kind) h = refl
+
+-- an answer that is no frame is fed
+pub told_feeds : (x : Told) (c : Config) (w : Want) → ((at : ℕ) → x ≢ answers.Frame at) → IsNoCall w → report c w (as_told x) ≡ Feeds (as_told x)
+told_feeds answers.Go c w isnt h = go_feeds w h
+told_feeds (answers.Value v) c w isnt h = refl
+told_feeds (answers.Frame at) c w isnt h = absurd (isnt at refl)
 
 pub call_crosses : (w : Want) → IsCall w → go_report w ≡ Crosses
 call_crosses (Calls i f args) h = refl

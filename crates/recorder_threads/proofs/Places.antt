@@ -1,10 +1,11 @@
 -- Where the threads of a run rest.
 use Rattle.std.proofs.Common.{◌≡◌, ℕ, ◌<◌, List, length, get_or, refl, sym, ap, ◌∙◌, subst, arith}
-use Rattle.std.proofs.lemmas.List.{get_or_read}
+use Rattle.std.proofs.Math.ListN.{set}
+use Rattle.std.proofs.lemmas.List.{get_or_read, get_or-set_same, length-set}
 use Rattle.std.proofs.lemmas.List.Elements.{All-get_or}
 use Rattle.std.proofs.lemmas.List.FromFn.{get_or-map-range_with_len, length-map-range_with_len}
 use Rattle.marks.specs.Marks.{Mark}
-use Rattle.c_code.specs.Machine.{Laid}
+use Rattle.c_code.specs.Machine.{Laid, Config}
 use Rattle.c_code.specs.MarkLists.{Split, step}
 use Rattle.c_code.proofs.Prefixes.{state_settled}
 use Rattle.c_machine.specs.Makes.{IsCut}
@@ -16,7 +17,7 @@ use Rattle.whole_runs.specs.Outcomes.{started}
 use Rattle.whole_runs.specs.Threads.{beginning, comes}
 use Rattle.whole_runs_seen.proofs.Threads.{begins_so}
 use Rattle.recorder_threads.specs.declared.wants.Next.{Next as ToldNext}
-use Rattle.recorder_threads.specs.Threads.{AreInside, AreThreadsOf, args_at, nowhere, place_of, thread_at, thread_of}
+use Rattle.recorder_threads.specs.Threads.{AreInside, AreThreadsOf, IsNextOf, args_at, nowhere, place_of, thread_at, thread_of}
 use Rattle.recorder_threads.specs.Wants.{IsNextTold}
 use Rattle.recorder_threads.specs.Telling.{RestsAt}
 use Rattle.recorder_threads.proofs.Crossing.{state_cut}
@@ -52,3 +53,9 @@ told_is w past l threads t x n el are lt ex told =
     let here : RestsAt w.laid (place_of w past t) x = subst (RestsAt w.laid (place_of w past t)) (sym (ex ∙ thread_is w past threads are t lt)) (rests w past t) in
     let shown : IsNextTold w.laid (args_of x.config) n (step Split w.laid (place_of w past t)) = subst (λ k. IsNextTold k (args_of x.config) n (step Split k (place_of w past t))) (sym el) (told (subst (λ k. RestsAt k (place_of w past t) x) el here)) in
     subst (λ (y : ThreadState). IsNextTold w.laid (args_of y.config) n (comes w past t)) ex shown
+
+-- so it is of a thread that is put in the place of another
+pub next_of_set : (l : Laid) (threads : List ThreadState) (t : ℕ) (z : ThreadState) (n : ToldNext) → t < length threads
+    → ((c : Config) → RestsAt l c z → IsNextTold l (args_of z.config) n (step Split l c)) → IsNextOf l (set threads t z) t n
+next_of_set l threads t z n lt told w past el are =
+    told_is w past l (set threads t z) t z n el are (omega (arith, lt, length-set threads t z)) (sym (get_or-set_same threads t z nowhere lt)) (told (place_of w past t))

@@ -11,7 +11,9 @@ use Rattle.c_machine.specs.Readers.{args_of}
 use Rattle.whole_runs.specs.World.{World}
 use Rattle.whole_runs.specs.Sides.{own}
 use Rattle.whole_runs.specs.Outcomes.{started}
-use Rattle.whole_runs.specs.Threads.{beginning}
+use Rattle.whole_runs.specs.Threads.{beginning, comes}
+use Rattle.recorder_threads.specs.declared.wants.Next.{Next}
+use Rattle.recorder_threads.specs.Wants.{IsNextTold}
 
 -- as many activations on a side as there may be frames, and one more: nothing is tested before an Up, so
 -- that a function may be called back for whose frame there is no room
@@ -64,3 +66,8 @@ pub record IsBegun (l : Laid) (number address argument : ℕ) (t : ThreadState) 
     config = Starting (callee l start_sig address) (argument ∷ []);
   }
   pub inside : IsInside l t.config
+
+-- in each run that the threads are of, the code of this one comes to what is told so
+abbrev pub IsNextOf : Laid → List ThreadState → (thread : ℕ) → Next → Type 0
+IsNextOf l threads t n = (w : World) (past : List Mark) → w.laid ≡ l → AreThreadsOf w past threads →
+    IsNextTold w.laid (args_at threads t) n (comes w past t)

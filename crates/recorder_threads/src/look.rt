@@ -5,17 +5,17 @@ ghost use Rattle.c_code.specs.Machine.{Config, action, func_of};
 ghost use Rattle.c_code.specs.MarkLists.{Split, step};
 ghost use Rattle.c_code.specs.Valid.{IsValid};
 ghost use Rattle.c_machine.specs.declared.wants.Want.TheVariants.{Call as ShownCall};
-ghost use Rattle.c_machine.specs.Moves.{IsInside};
+ghost use Rattle.c_machine.specs.Moves.{IsInside, MayFeed, after_answer};
 ghost use Rattle.c_machine.specs.Positions.{laid};
 ghost use Rattle.c_machine.specs.Readers.{args_of};
-ghost use Rattle.c_machine.specs.Wants.{shown};
+ghost use Rattle.c_machine.specs.Wants.{shown, told};
 ghost use Rattle.recorder_threads.specs.Wants.{IsNextTold};
 ghost use Rattle.recorder_threads.specs.Telling.{RestsAt, body_frame as frame_is, entered_as, told_call as call_is, told_crossing as crossing_is, told_mark as mark_is};
 
 use crate::wants::{Next, Want};
 use c_code::{Placed, Side};
 use c_code_fused::FusedCode;
-use c_machine::{Thread, Want as Shown};
+use c_machine::{Answer, Thread, Want as Shown};
 
 // What it comes to.
 pub(crate) fn next_of(thread: &Thread, code: &FusedCode, placed: &Placed) -> Next
@@ -24,14 +24,48 @@ pub(crate) fn next_of(thread: &Thread, code: &FusedCode, placed: &Placed) -> Nex
         IsNextTold (laid code.now placed.now) (args_of thread.now.config) result
         (step Split (laid code.now placed.now) c) }
 {
+    next_where(thread, code, placed, thread.next(code, placed))
+}
+
+// The thread is told of its mark: what it comes to then. All marks go this way, so that the machine stands here alone.
+#[inline(never)]
+pub(crate) fn next_after(
+    thread: &mut Thread,
+    code: &FusedCode,
+    placed: &Placed,
+    answer: Answer,
+) -> Next
+    requires inside { IsInside (laid code.now placed.now) thread.old.config }
+    requires may { MayFeed (laid code.now placed.now) thread.old.config (told answer) }
+    ensures fed { thread.new ≡ after_answer (laid code.now placed.now) thread.old (told answer) }
+    ensures inside { IsInside (laid code.now placed.now) thread.new.config }
+    ensures next { (c : Config) → RestsAt (laid code.now placed.now) c thread.new →
+        IsNextTold (laid code.now placed.now) (args_of thread.new.config) result
+        (step Split (laid code.now placed.now) c) }
+{
+    let want = thread.feed_next(code, placed, answer);
+    next_where(thread, code, placed, want)
+}
+
+// What it comes to where it shows this.
+#[inline(always)]
+fn next_where(thread: &Thread, code: &FusedCode, placed: &Placed, want: Shown) -> Next
+    requires inside { IsInside (laid code.now placed.now) thread.now.config }
+    requires shown { shown (laid code.now placed.now) (action (laid code.now placed.now) thread.now.config)
+        ≡ Some want }
+    ensures { (c : Config) → RestsAt (laid code.now placed.now) c thread.now →
+        IsNextTold (laid code.now placed.now) (args_of thread.now.config) result
+        (step Split (laid code.now placed.now) c) }
+{
     check(code);
-    match thread.next(code, placed) {
+    match want {
         Shown::Call { func } => call_of(thread, code, placed, func),
         want => told_mark(thread.side(), thread.indirect(), want),
     }
 }
 
 // The same at a call of this function.
+#[inline(never)]
 fn call_of(thread: &Thread, code: &FusedCode, placed: &Placed, func: u16) -> Next
     requires { shown (laid code.now placed.now) (action (laid code.now placed.now) thread.now.config) ≡
         Some (ShownCall func) }
@@ -49,6 +83,7 @@ fn call_of(thread: &Thread, code: &FusedCode, placed: &Placed, func: u16) -> Nex
 }
 
 // What is known of all code.
+#[inline(always)]
 fn check(code: &FusedCode)
     ensures { IsValid code.now }
 {
@@ -69,6 +104,7 @@ fn body_frame(code: &FusedCode, func: u16) -> Option<u64>
 }
 
 // A mark that a thread shows, of code on this side; its function is called through an address or not.
+#[inline(always)]
 fn told_mark(side: Side, indirect: bool, want: Shown) -> Next
     ensures { result ≡ mark_is side indirect want }
 {

@@ -1,15 +1,23 @@
 //! What the threads of a run are told.
 
-ghost use Rattle.std.specs.Prelude.{◌≡◌, ◌∷◌, IfOk, OnOk, OnErr};
+ghost use Rattle.std.specs.Prelude.{◌≡◌, ◌≢◌, ℕ, ◌∷◌, IfOk, OnOk, OnErr};
 ghost use Rattle.memory_map.specs.declared.placed.Placed.{Placed as Places};
 ghost use Rattle.marks.specs.Wants.{Go, Value, Frame};
 ghost use Rattle.c_machine.specs.Positions.{laid};
 ghost use Rattle.c_machine.specs.Follows.{MayTell, after_report, frame_report};
+ghost use Rattle.c_code.specs.Machine.{Config};
+ghost use Rattle.c_code.specs.MarkLists.{Split, step};
 ghost use Rattle.c_machine.specs.Moves.{IsInside};
-ghost use Rattle.recorder_threads.specs.Threads.{AreThreadsOf, IsBegun};
+ghost use Rattle.c_machine.specs.Readers.{args_of};
+ghost use Rattle.c_machine.specs.Wants.{told};
+ghost use Rattle.recorder_threads.specs.Threads.{AreThreadsOf, IsBegun, IsNextOf};
+ghost use Rattle.recorder_threads.specs.Wants.{IsNextTold};
+ghost use Rattle.recorder_threads.specs.Telling.{RestsAt};
 ghost use Rattle.recorder_threads.specs.Answers.{IsCall, IsCalledBack, IsNoCall, IsPlain, IsStart};
 
+use crate::look::next_after;
 use crate::threads::{MOST_OPEN, Threads};
+use crate::wants::Next;
 use c_code::Placed;
 use c_code_fused::FusedCode;
 use c_machine::{Answer, Thread, Want as Shown, start_of};
@@ -23,7 +31,7 @@ impl Threads {
         ensures { (a : IsPlain (laid code.now placed.now) self.old thread IsNoCall Go) →
             AreThreadsOf a.next.world (a.next.mark ∷ a.next.past) self.new }
     {
-        self.threads[thread as usize].feed(code, placed, Answer::Go);
+        let _next = next_after(&mut self.threads[thread as usize], code, placed, Answer::Go);
     }
 
     /// The event of the call of the interface was made that the code of the thread makes above the cut.
@@ -42,16 +50,43 @@ impl Threads {
         ensures { (a : IsPlain (laid code.now placed.now) self.old thread IsNoCall (Value value)) →
             AreThreadsOf a.next.world (a.next.mark ∷ a.next.past) self.new }
     {
-        self.threads[thread as usize].feed(code, placed, Answer::Value(value));
+        let answer = Answer::Value(value);
+        let _next = next_after(&mut self.threads[thread as usize], code, placed, answer);
     }
 
-    /// The function that the code of the thread enters, or calls through an address, has its frame at this address.
-    pub fn enter(&mut self, code: &FusedCode, placed: &Placed, thread: u8, frame: u64)
-        requires { IsPlain (laid code.now placed.now) self.old thread IsNoCall (Frame frame) }
-        ensures { (a : IsPlain (laid code.now placed.now) self.old thread IsNoCall (Frame frame)) →
+    /// The mark of the thread gave its code this answer, which is no frame: what that comes to then.
+    #[inline(always)]
+    pub fn next_after(
+        &mut self,
+        code: &FusedCode,
+        placed: &Placed,
+        thread: u8,
+        answer: Answer,
+    ) -> Next
+        requires plain { IsPlain (laid code.now placed.now) self.old thread IsNoCall (told answer) }
+        requires no_frame { (frame : ℕ) → answer ≢ Answer.Frame frame }
+        ensures stand { (a : IsPlain (laid code.now placed.now) self.old thread IsNoCall (told answer)) →
             AreThreadsOf a.next.world (a.next.mark ∷ a.next.past) self.new }
+        ensures next { IsNextOf (laid code.now placed.now) self.new thread result }
     {
-        enter(&mut self.threads[thread as usize], code, placed, frame);
+        next_after(&mut self.threads[thread as usize], code, placed, answer)
+    }
+
+    /// The function that the code of the thread enters, or calls through an address, has its frame at this address: what the code comes
+    /// to then.
+    pub fn next_in_frame(
+        &mut self,
+        code: &FusedCode,
+        placed: &Placed,
+        thread: u8,
+        frame: u64,
+    ) -> Next
+        requires { IsPlain (laid code.now placed.now) self.old thread IsNoCall (Frame frame) }
+        ensures stand { (a : IsPlain (laid code.now placed.now) self.old thread IsNoCall (Frame frame)) →
+            AreThreadsOf a.next.world (a.next.mark ∷ a.next.past) self.new }
+        ensures next { IsNextOf (laid code.now placed.now) self.new thread result }
+    {
+        enter(&mut self.threads[thread as usize], code, placed, frame)
     }
 
     /// The Up of the function that the code of the thread calls through an address was made.
@@ -84,7 +119,8 @@ impl Threads {
         let number = self.threads.len();
         let begun = begun(alloc, code, number as u8, address, argument)?;
         self.threads.push(begun)?;
-        self.threads[thread as usize].feed(code, placed, Answer::Value(number as u64));
+        let answer = Answer::Value(number as u64);
+        let _next = next_after(&mut self.threads[thread as usize], code, placed, answer);
         Ok(())
     }
 }
@@ -104,16 +140,19 @@ fn begun(
     Ok(thread)
 }
 
-// The function that is to be entered has its frame there; at a call it begins first.
-fn enter(thread: &mut Thread, code: &FusedCode, placed: &Placed, frame: u64)
+// The function that is to be entered has its frame there; at a call it begins first. What the code comes to then.
+fn enter(thread: &mut Thread, code: &FusedCode, placed: &Placed, frame: u64) -> Next
     requires inside { IsInside (laid code.now placed.now) thread.old.config }
     requires may { MayTell (laid code.now placed.now) thread.old (frame_report thread.old.config frame) }
     ensures entered { thread.new ≡ after_report (laid code.now placed.now) thread.old
         (frame_report thread.old.config frame) }
     ensures inside { IsInside (laid code.now placed.now) thread.new.config }
+    ensures next { (c : Config) → RestsAt (laid code.now placed.now) c thread.new →
+        IsNextTold (laid code.now placed.now) (args_of thread.new.config) result
+        (step Split (laid code.now placed.now) c) }
 {
     if let Shown::Call { .. } = thread.next(code, placed) {
         thread.run(code, placed);
     }
-    thread.feed(code, placed, Answer::Frame(frame));
+    next_after(thread, code, placed, Answer::Frame(frame))
 }

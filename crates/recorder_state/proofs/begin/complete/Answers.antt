@@ -31,4 +31,5 @@ returns c =
         functions = c.requires.functions;
         prepared = c.new-3.ensures;
       };
+      known = tt;
     }

@@ -16,15 +16,15 @@ index_mut-requires c =
     let lt = below l items c.args.thread IsNoCall (Value c.args.value) a.next in
     omega (arith, lt, c.self.inside.threads.ok)
 
-pub feed-requires-clause-inside : goal.feed-requires-clause-inside
-feed-requires-clause-inside c =
+pub next_after-next-requires-clause-inside : goal.next_after-next-requires-clause-inside
+next_after-next-requires-clause-inside c =
     let l = laid c.args.code.now c.args.placed.now in
     let items = c.self.inside.threads.items in
     let a = subst (λ ts. IsPlain l ts c.args.thread IsNoCall (Value c.args.value)) (sym c.self.view_is) c.requires in
     inside l items c.args.thread IsNoCall (Value c.args.value) a.next c.index_mut.result.now c.index_mut.ensures.value
 
-pub feed-requires-clause-may : goal.feed-requires-clause-may
-feed-requires-clause-may c =
+pub next_after-next-requires-clause-may : goal.next_after-next-requires-clause-may
+next_after-next-requires-clause-may c =
     let l = laid c.args.code.now c.args.placed.now in
     let items = c.self.inside.threads.items in
     let a = subst (λ ts. IsPlain l ts c.args.thread IsNoCall (Value c.args.value)) (sym c.self.view_is) c.requires in
@@ -36,6 +36,6 @@ returns c =
     let items = c.self.inside.threads.items in
     let t = c.args.thread in
     let v = c.args.value in
-    let z = c.feed.new.self in
+    let z = c.next_after-next.new.thread in
     subst (λ ts. (a : IsPlain l ts t IsNoCall (Value v)) → AreThreadsOf a.next.world (a.next.mark ∷ a.next.past) (set items t z)) c.self.view_is
-    (λ a. plain_stands l items t IsNoCall (Value v) a c.index_mut.result.now c.index_mut.ensures.value (Feeds (Value v)) refl z c.feed.ensures.fed c.feed.ensures.inside)
+    (λ a. plain_stands l items t IsNoCall (Value v) a c.index_mut.result.now c.index_mut.ensures.value (Feeds (Value v)) refl z c.next_after-next.ensures.fed c.next_after-next.ensures.inside)

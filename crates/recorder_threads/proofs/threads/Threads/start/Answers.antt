@@ -27,8 +27,8 @@ index_mut-requires c =
     let long : length c.push.new.self.items ≡ length items + 1 = ap length c.in_ok-push.ensures.items ∙ length-append items (c.in_ok-begun.begun ∷ []) in
     omega (arith, lt, long, c.push.new.self.ok)
 
-pub feed-requires-clause-inside : goal.feed-requires-clause-inside
-feed-requires-clause-inside c =
+pub next_after-next-requires-clause-inside : goal.next_after-next-requires-clause-inside
+next_after-next-requires-clause-inside c =
     let l = laid c.args.code.now c.args.placed.now in
     let items = c.self.inside.threads.items in
     let t = c.args.thread in
@@ -37,8 +37,8 @@ feed-requires-clause-inside c =
     let ey : y ≡ get_or (items ++ c.in_ok-begun.begun ∷ []) t y = subst (λ xs. y ≡ get_or xs t y) c.in_ok-push.ensures.items c.index_mut.ensures.value in
     inside l items t IsNoCall (Value (length items)) a.next y (old_element l items t c.args.address c.args.argument a c.in_ok-begun.begun y ey)
 
-pub feed-requires-clause-may : goal.feed-requires-clause-may
-feed-requires-clause-may c =
+pub next_after-next-requires-clause-may : goal.next_after-next-requires-clause-may
+next_after-next-requires-clause-may c =
     let l = laid c.args.code.now c.args.placed.now in
     let items = c.self.inside.threads.items in
     let t = c.args.thread in
@@ -54,11 +54,11 @@ returns-clause-started c =
     let items = c.self.inside.threads.items in
     let t = c.args.thread in
     let y = c.index_mut.result.now in
-    let z = c.feed.new.self in
+    let z = c.next_after-next.new.thread in
     let q = c.in_ok-begun.begun in
     let ey : y ≡ get_or (items ++ q ∷ []) t y = subst (λ xs. y ≡ get_or xs t y) c.in_ok-push.ensures.items c.index_mut.ensures.value in
     let number : c.len-number.result ≡ length items = omega (arith, c.len-number.ensures, c.self.inside.threads.ok) in
     let begun : IsBegun l (length items) c.args.address c.args.argument q = subst (λ n. IsBegun l n c.args.address c.args.argument q) number (c.in_ok-begun.ensures c.args.placed.now) in
-    let fed : z ≡ after_answer l y (Value (length items)) = c.feed.ensures.fed ∙ ap (λ n. after_answer l y (Value n)) number in
+    let fed : z ≡ after_answer l y (Value (length items)) = c.next_after-next.ensures.fed ∙ ap (λ n. after_answer l y (Value n)) number in
     subst (λ ts. (a : IsStart l ts t c.args.address c.args.argument) → AreThreadsOf a.next.world (a.next.mark ∷ a.next.past) (set c.push.new.self.items t z)) c.self.view_is
-    (λ a. subst (λ xs. AreThreadsOf a.next.world (a.next.mark ∷ a.next.past) (set xs t z)) (sym c.in_ok-push.ensures.items) (start_stands l items t c.args.address c.args.argument a q begun y ey z fed c.feed.ensures.inside))
+    (λ a. subst (λ xs. AreThreadsOf a.next.world (a.next.mark ∷ a.next.past) (set xs t z)) (sym c.in_ok-push.ensures.items) (start_stands l items t c.args.address c.args.argument a q begun y ey z fed c.next_after-next.ensures.inside))

@@ -1,12 +1,13 @@
-use Rattle.std.proofs.Common.{◌∷◌, sym, subst, refl, arith}
+use Rattle.std.proofs.Common.{◌≡◌, ◌<◌, ◌∷◌, length, sym, subst, refl, arith}
 use Rattle.std.proofs.Math.ListN.{set}
 use Rattle.c_machine.specs.Positions.{laid}
 use Rattle.c_machine.specs.Follows.{frame_report}
 use Rattle.marks.specs.Wants.{Frame}
-use Rattle.recorder_threads.specs.Threads.{AreThreadsOf}
+use Rattle.recorder_threads.specs.Threads.{AreThreadsOf, IsNextOf}
 use Rattle.recorder_threads.specs.Answers.{IsNoCall, IsPlain}
 use Rattle.recorder_threads.proofs.Answering.{below, inside, may, plain_stands}
-use Rattle.recorder_threads.proofs.threads.Threads.enter.Goals as goal
+use Rattle.recorder_threads.proofs.Places.{next_of_set}
+use Rattle.recorder_threads.proofs.threads.Threads.next_in_frame.Goals as goal
 
 pub index_mut-requires : goal.index_mut-requires
 index_mut-requires c =
@@ -31,8 +32,8 @@ enter-requires-clause-may c =
     let y = c.index_mut.result.now in
     may l items c.args.thread IsNoCall (Frame c.args.frame) a.next y c.index_mut.ensures.value (frame_report y.config c.args.frame) refl
 
-pub returns : goal.returns
-returns c =
+pub returns-clause-stand : goal.returns-clause-stand
+returns-clause-stand c =
     let l = laid c.args.code.now c.args.placed.now in
     let items = c.self.inside.threads.items in
     let t = c.args.thread in
@@ -40,3 +41,12 @@ returns c =
     let z = c.enter.new.thread in
     subst (λ ts. (a : IsPlain l ts t IsNoCall (Frame c.args.frame)) → AreThreadsOf a.next.world (a.next.mark ∷ a.next.past) (set items t z)) c.self.view_is
     (λ a. plain_stands l items t IsNoCall (Frame c.args.frame) a y c.index_mut.ensures.value (frame_report y.config c.args.frame) refl z c.enter.ensures.entered c.enter.ensures.inside)
+
+pub returns-clause-next : goal.returns-clause-next
+returns-clause-next c =
+    let l = laid c.args.code.now c.args.placed.now in
+    let items = c.self.inside.threads.items in
+    let t = c.args.thread in
+    let z = c.enter.new.thread in
+    let a = subst (λ ts. IsPlain l ts t IsNoCall (Frame c.args.frame)) (sym c.self.view_is) c.requires in
+    next_of_set l items t z c.enter.result (below l items t IsNoCall (Frame c.args.frame) a.next) c.enter.ensures.next

@@ -5,7 +5,7 @@ use Rattle.race_watch.specs.State.{WatchState}
 use Rattle.race_watch.specs.Stands.{Stands, AnswersBy}
 use Rattle.race_watch.proofs.Happens.{index_fits}
 use Rattle.race_watch.proofs.Raced.{answers_by, stands_by, reached_by, each_ok}
-use Rattle.race_watch.proofs.watch.Watch.access.Goals as goal
+use Rattle.race_watch.proofs.watch.Watch.access_anew.Goals as goal
 
 pub note-requires-clause-place : goal.note-requires-clause-place
 note-requires-clause-place c =
