@@ -1,0 +1,10 @@
+use Rattle.std.proofs.Common.{◌≡◌, ◌≤◌, ◌+◌, take}
+use Rattle.whole_runs.specs.Outcomes.{started as started_in}
+use Rattle.reference_recorder_marks.specs.Marks.{past}
+use Rattle.reference_recorder_outcomes.proofs.counts.started.Given as goal
+
+abbrev pub invariant-loop-mark : goal.invariant-loop-mark
+invariant-loop-mark l = record {
+  is : l.count ≡ started_in (past (take l.mark-index l.marks));
+  few : l.count ≤ l.mark-index + 1;
+}
