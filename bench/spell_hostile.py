@@ -112,6 +112,14 @@ def held_mutexes_and_ways_out(size):
     return held_by_callers(range((size - 14 * ways) // 15), "if(c)return 0;" * ways)
 
 
+def held_mutexes_given_back_in_ways(size):
+    """Mutexes that a function's callers hold, of which the innermost of many ways, one in the other, gives all back."""
+    depth = 90
+    count = (size - 20 * depth) // 31
+    body = "if(c){" * depth + "".join(f"r2_unlock({mutex});" for mutex in range(count)) + "}else{c=1;}" * depth
+    return held_by_callers(range(count), body)
+
+
 def held_mutexes_and_calls(size):
     """Mutexes that a function's callers hold, and calls in it of the function itself."""
     calls = min(2 * EMPTY_BRANCHES, size // 30)
@@ -236,6 +244,7 @@ KINDS = [
     more_held_mutexes_than_branches,
     held_mutexes_given_back,
     held_mutexes_and_ways_out,
+    held_mutexes_given_back_in_ways,
     held_mutexes_and_calls,
     held_mutexes_given_back_and_calls,
     mutexes_taken_in_descending_order,
