@@ -1,0 +1,6 @@
+mod CutLists
+mod CutStand
+mod CutWords
+mod CutSteps
+mod CutNext
+mod CutLeft

@@ -1,0 +1,3 @@
+pub mod CutNames
+pub mod CutNodes
+pub mod CutPuts
