@@ -1,0 +1,4 @@
+pub mod Cells
+pub mod Folds
+pub mod Rights
+pub mod Room

@@ -1,0 +1,58 @@
+//! Places in a pool.
+
+ghost use Rattle.std.specs.Prelude.{◌≡◌, ◌↔◌, ◌⊎◌, ◌+◌, ◌%◌, ◌≤◌, ◌<◌, ◌^◌, IsTrue};
+ghost use Rattle.replay_runs.specs.Pool.{Fits, IsPlace, MeetsNone};
+
+use marks::Range;
+
+/// The bytes of a pool.
+const POOL_SIZE: u64 = 0x10_0000;
+
+/// Blocks begin at multiples of it.
+const ALIGNMENT: u64 = 16;
+
+/// The least place in the pool that begins at `pool` for a block of so many bytes, which meets none of these blocks; 0 where there is
+/// none.
+pub fn place_in(pool: u64, blocks: &[Range], size: u64) -> u64
+    requires aligned { pool % 16 ≡ 0 }
+    requires low { pool < 2 ^ 32 }
+    ensures { IsPlace pool blocks.now size result }
+{
+    for step in 0..POOL_SIZE / ALIGNMENT {
+        let at = pool + step * ALIGNMENT;
+        if fits(pool, blocks, size, at) {
+            return at;
+        }
+    }
+    0
+}
+
+// Whether a block fits at this place, which is one of the pool.
+fn fits(pool: u64, blocks: &[Range], size: u64, at: u64) -> bool
+    requires aligned { at % 16 ≡ 0 }
+    requires low { pool ≤ at }
+    requires pool { pool < 2 ^ 32 }
+    ensures { IsTrue result ↔ Fits pool blocks.now size at }
+{
+    let end = u128::from(at) + u128::from(size);
+    size >= 1 && end <= u128::from(pool + POOL_SIZE) && meets_none(blocks, at, size)
+}
+
+fn meets_none(blocks: &[Range], at: u64, size: u64) -> bool
+    ensures { IsTrue result ↔ MeetsNone blocks.now at size }
+{
+    for block in blocks {
+        if !is_apart(*block, at, size) {
+            return false;
+        }
+    }
+    true
+}
+
+fn is_apart(block: Range, at: u64, size: u64) -> bool
+    ensures { IsTrue result ↔ ((block.addr + block.len ≤ at) ⊎ (at + size ≤ block.addr)) }
+{
+    let block_end = u128::from(block.addr) + u128::from(block.len);
+    let end = u128::from(at) + u128::from(size);
+    block_end <= u128::from(at) || end <= u128::from(block.addr)
+}
