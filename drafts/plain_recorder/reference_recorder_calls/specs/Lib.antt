@@ -1,2 +1,0 @@
-pub mod Mine
-pub mod Said

@@ -1,6 +1,0 @@
-use Rattle.std.proofs.Common.{◌≡◌, ◌++◌, drop, take}
-use Rattle.replay_runs.specs.Pool.{without}
-use Rattle.reference_recorder_memory.proofs.pool.place_of.Given as goal
-
-abbrev pub invariant-loop-place : goal.invariant-loop-place
-invariant-loop-place l = without l.at l.blocks ≡ take l.place l.blocks ++ without l.at (drop l.place l.blocks)

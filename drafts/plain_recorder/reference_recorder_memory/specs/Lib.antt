@@ -1,4 +1,0 @@
-pub mod Cells
-pub mod Folds
-pub mod Rights
-pub mod Room

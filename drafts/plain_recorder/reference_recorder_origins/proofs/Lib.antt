@@ -1,4 +1,0 @@
-pub mod Blind
-pub mod Memory
-pub mod Parts
-pub mod Racing

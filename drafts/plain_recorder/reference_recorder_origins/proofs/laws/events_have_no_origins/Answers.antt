@@ -1,6 +1,0 @@
-use Rattle.reference_recorder_origins.proofs.Parts.{new_seen, new_without}
-use Rattle.reference_recorder_origins.proofs.Racing.{known_seen}
-use Rattle.reference_recorder_origins.proofs.laws.events_have_no_origins.Goals as goal
-
-pub returns : goal.returns
-returns c = record { seen = new_seen; all = new_without; known = known_seen }

@@ -1,4 +1,0 @@
-pub mod Least
-pub mod Hits
-pub mod Told
-pub mod Races

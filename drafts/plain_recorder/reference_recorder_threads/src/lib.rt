@@ -1,8 +1,0 @@
-//! The threads of a run, rebuilt from its marks.
-#![tactic(auto)]
-
-mod after;
-mod report;
-mod tell;
-
-pub use after::threads_after;
