@@ -1,25 +1,19 @@
--- Bits of the words of a row.
-use Rattle.std.proofs.Common.{◌≡◌, ℕ, zero, suc, ◌+◌, ◌*◌, ◌/◌, ◌%◌, ◌^◌, ◌<◌, ◌≤◌, Bool, true, false, ◌&&◌, List, [], ◌∷◌, ◌++◌, length, set, min, bit_and, bit_or, refl, sym, ap, ◌∙◌, arith, rules}
+-- Bits of words.
+use Rattle.std.proofs.Common.{◌≡◌, ℕ, zero, suc, ◌+◌, ◌*◌, ◌/◌, ◌%◌, ◌^◌, ◌<◌, ◌≤◌, Bool, true, false, cond, ◌&&◌, List, [], ◌∷◌, ◌++◌, length, set, min, bit_and, bit_xor, refl, sym, ap, ◌∙◌, arith}
 use Rattle.std.specs.Prelude.{get_or, nat_eq}
-use Rattle.std.specs.Int.{bit_at, bit_not, w64}
-use Rattle.std.proofs.lemmas.Bool.{cases_eq}
+use Rattle.std.specs.Int.{bit_at, trailing_zeros, w64}
+use Rattle.std.proofs.lemmas.Bool.{cases_eq, eq-eqb, eqb-false, eqb-true, ne_eqb}
 use Rattle.std.proofs.lemmas.List.{get_or-set_same, get_or-set_other, get_or_past}
-use Rattle.std.proofs.lemmas.Nat.{and_le_l}
-use Rattle.std.proofs.lemmas.Nat.Bits.{bit_at-lt, bit_at-zero, bit_at_and, bit_at_clear_other, bit_at_clear_same, bit_at_set_other, bit_at_set_same, same_from_bits_below, shr_and_one}
-use mathlib.Core.Logic.{⊎_elim, ◌≢◌}
+use Rattle.std.proofs.lemmas.Nat.{and_le_l, one_shl}
+use Rattle.std.proofs.lemmas.Nat.Bits.{bit_at-lt, bit_at-pow_other, bit_at-pow_same, bit_at-trailing_zeros, bit_at-zero, bit_at_and, bit_at_xor, same_from_bits_below, shr_and_one}
+use Rattle.std.specs.Int.Bits.{xor_zero_r}
+use mathlib.Core.Logic.{⊎_elim}
 use Rattle.lockset_check_held.proofs.Places.{which}
-use Rattle.lockset_check_held.specs.Rows.{is_on, Includes, TurnsOff, TurnsOn}
+use Rattle.lockset_check_held.specs.Changes.{Xors, one_of, one_word, turned}
+use Rattle.lockset_check_held.specs.Rows.{Includes, has_bit, is_on, word_of}
 
--- the same word, the same places
-same_word : (row other : List ℕ) (p : ℕ) → get_or row (p / 64) 0 ≡ get_or other (p / 64) 0 → is_on row p ≡ is_on other p
-unfolding is_on
-same_word row other p h = ap (λ (w : ℕ). nat_eq (bit_at w (p % 64)) 1) h
-
-pub alike : (row other : List ℕ) → ((i : ℕ) → get_or row i 0 ≡ get_or other i 0) → (p : ℕ) → is_on row p ≡ is_on other p
-alike row other h p = same_word row other p (h (p / 64))
-
-pub tested : (row : List ℕ) (w p : ℕ) → w ≡ get_or row (p / 64) 0 → nat_eq (bit_and (w / 2 ^ (p % 64)) 1) 1 ≡ is_on row p
-unfolding is_on
+pub tested : (row : List ℕ) (w p : ℕ) → w ≡ word_of row (p / 64) → nat_eq (bit_and (w / 2 ^ (p % 64)) 1) 1 ≡ is_on row p
+unfolding has_bit
 tested row w p h = ap (λ (b : ℕ). nat_eq b 1) (shr_and_one w (p % 64)) ∙ ap (λ (v : ℕ). nat_eq (bit_at v (p % 64)) 1) h
 
 one_bit : (x y : ℕ) → x < 2 → y < 2 → nat_eq x 1 ≡ nat_eq y 1 → x ≡ y
@@ -40,42 +34,85 @@ both (suc zero) (suc zero) a b = refl
 both (suc zero) (suc (suc y)) a b = absurd (omega arith)
 both (suc (suc x)) y a b = absurd (omega arith)
 
--- ---- one word of a row is another
+-- exactly one of two bits
+odd : (x y : ℕ) → x < 2 → y < 2 → nat_eq ((x + y) % 2) 1 ≡ one_of (nat_eq y 1) (nat_eq x 1)
+odd zero zero a b = refl
+odd zero (suc zero) a b = refl
+odd zero (suc (suc y)) a b = absurd (omega arith)
+odd (suc zero) zero a b = refl
+odd (suc zero) (suc zero) a b = refl
+odd (suc zero) (suc (suc y)) a b = absurd (omega arith)
+odd (suc (suc x)) y a b = absurd (omega arith)
 
-module _ (row : List ℕ) (place w v : ℕ) (inside : place / 64 < length row) (is : w ≡ get_or row (place / 64) 0) where
-  bit_here : (b : ℕ) → bit_at v (place % 64) ≡ b → is_on (set row (place / 64) v) place ≡ nat_eq b 1
-  unfolding is_on
-  bit_here b h = ap (λ (z : ℕ). nat_eq (bit_at z (place % 64)) 1) (get_or-set_same row (place / 64) v 0 inside) ∙ ap (λ (z : ℕ). nat_eq z 1) h
+-- ---- words and their bits
 
-  other_bits : ((b : ℕ) → b < 64 → b ≢ place % 64 → bit_at v b ≡ bit_at w b) → (p : ℕ) → p ≢ place → is_on (set row (place / 64) v) p ≡ is_on row p
-  unfolding is_on
-  other_bits h p ne = ⊎_elim
-      (λ (same : p / 64 ≡ place / 64).
-      ap (λ (i : ℕ). nat_eq (bit_at (get_or (set row (place / 64) v) i 0) (p % 64)) 1) same
-      ∙ (ap (λ (z : ℕ). nat_eq (bit_at z (p % 64)) 1) (get_or-set_same row (place / 64) v 0 inside)
-      ∙ (ap (λ (z : ℕ). nat_eq z 1) (h (p % 64) (omega arith) (λ (e : p % 64 ≡ place % 64). ne (omega (arith, same, e))))
-      ∙ (ap (λ (z : ℕ). nat_eq (bit_at z (p % 64)) 1) is
-      ∙ ap (λ (i : ℕ). nat_eq (bit_at (get_or row i 0) (p % 64)) 1) (sym same)))))
-      (λ apart. ap (λ (z : ℕ). nat_eq (bit_at z (p % 64)) 1) (get_or-set_other row (place / 64) (p / 64) v 0 apart))
-      (cases_eq (p / 64) (place / 64))
+pub same_bits : (words others : ℕ → ℕ) → ((n : ℕ) → words n ≡ others n) → has_bit words ≡ has_bit others
+same_bits words others h = λ j. has_bit (λ n. h n j)
 
-  pub turned_on : v ≡ bit_or w (1 * 2 ^ (place % 64) % 2 ^ 64) → TurnsOn place row (set row (place / 64) v)
-  turned_on e =
-      let k = place % 64 in
-      let lt : k < 64 = omega arith in (
-        bit_here 1 ((λ t. bit_at (e t) k) ∙ bit_at_set_same w64 w k lt),
-        other_bits (λ b below ne. (λ t. bit_at (e t) b) ∙ bit_at_set_other w64 w k lt b ne),
-      )
+pub no_bit : (words : ℕ → ℕ) (p : ℕ) → words (p / 64) ≡ 0 → has_bit words p ≡ false
+unfolding has_bit
+no_bit words p h = ap (λ (w : ℕ). nat_eq (bit_at w (p % 64)) 1) h ∙ ap (λ (b : ℕ). nat_eq b 1) (bit_at-zero (p % 64))
 
-  pub turned_off : v ≡ bit_and w (bit_not w64 (1 * 2 ^ (place % 64) % 2 ^ 64)) → TurnsOff place row (set row (place / 64) v)
-  turned_off e =
-      let k = place % 64 in
-      let lt : k < 64 = omega arith in (
-        bit_here 0 ((λ t. bit_at (e t) k) ∙ bit_at_clear_same w64 w k lt),
-        other_bits (λ b below ne. (λ t. bit_at (e t) b) ∙ bit_at_clear_other w64 w k lt b below ne),
-      )
+pub same_bit : (words others : ℕ → ℕ) (p : ℕ) → words (p / 64) ≡ others (p / 64) → has_bit words p ≡ has_bit others p
+unfolding has_bit
+same_bit words others p h = ap (λ (w : ℕ). nat_eq (bit_at w (p % 64)) 1) h
 
--- ---- loops over words
+bits_of_one : (x y k : ℕ) → nat_eq (bit_at (bit_xor x y) k) 1 ≡ one_of (nat_eq (bit_at y k) 1) (nat_eq (bit_at x k) 1)
+bits_of_one x y k = ap (λ (z : ℕ). nat_eq z 1) (bit_at_xor x y k) ∙ odd (bit_at x k) (bit_at y k) (bit_at-lt x k) (bit_at-lt y k)
+
+bits_of_both : (x y k : ℕ) → nat_eq (bit_at (bit_and x y) k) 1 ≡ (nat_eq (bit_at x k) 1 && nat_eq (bit_at y k) 1)
+bits_of_both x y k = ap (λ (z : ℕ). nat_eq z 1) (bit_at_and x y k) ∙ both (bit_at x k) (bit_at y k) (bit_at-lt x k) (bit_at-lt y k)
+
+pub xored : (by old new : ℕ → ℕ) → Xors by old new → has_bit new ≡ turned (has_bit by) (has_bit old)
+unfolding has_bit
+xored by old new h = λ j p. at p j
+  where
+    at : (p : ℕ) → has_bit new p ≡ turned (has_bit by) (has_bit old) p
+    at p = ap (λ (w : ℕ). nat_eq (bit_at w (p % 64)) 1) (h (p / 64)) ∙ bits_of_one (old (p / 64)) (by (p / 64)) (p % 64)
+
+pub anded : (row by both : ℕ → ℕ) → ((n : ℕ) → both n ≡ bit_and (row n) (by n)) → (p : ℕ) → has_bit both p ≡ (has_bit row p && has_bit by p)
+unfolding has_bit
+anded row by both h p = ap (λ (w : ℕ). nat_eq (bit_at w (p % 64)) 1) (h (p / 64)) ∙ bits_of_both (row (p / 64)) (by (p / 64)) (p % 64)
+
+-- the word of a place, with its bit alone
+pub place_bit : (place bits : ℕ) → bits ≡ 1 * 2 ^ (place % 64) % 2 ^ 64 → has_bit (one_word (place / 64) bits) ≡ nat_eq place
+unfolding has_bit
+place_bit place bits is = λ j p. at p (nat_eq (place / 64) (p / 64)) refl j
+  where
+    bit : bits ≡ 2 ^ (place % 64)
+    bit = is ∙ one_shl (place % 64) 64 (omega arith)
+
+    on : (p : ℕ) (w : ℕ) (b : Bool) → one_word (place / 64) bits (p / 64) ≡ w → nat_eq (bit_at w (p % 64)) 1 ≡ b → has_bit (one_word (place / 64) bits) p ≡ b
+    on p w b e f = ap (λ (v : ℕ). nat_eq (bit_at v (p % 64)) 1) e ∙ f
+
+    at : (p : ℕ) (b : Bool) → nat_eq (place / 64) (p / 64) ≡ b → has_bit (one_word (place / 64) bits) p ≡ nat_eq place p
+    at p true e =
+        let same : place / 64 ≡ p / 64 = eqb-true (place / 64) (p / 64) e in
+        let word : one_word (place / 64) bits (p / 64) ≡ 2 ^ (place % 64) = ap (λ (b : Bool). cond b bits 0) e ∙ bit in ⊎_elim
+        (λ (here : p % 64 ≡ place % 64).
+        on p (2 ^ (place % 64)) true word (ap (λ (k : ℕ). nat_eq (bit_at (2 ^ (place % 64)) k) 1) here ∙ ap (λ (b : ℕ). nat_eq b 1) (bit_at-pow_same (place % 64)))
+        ∙ sym (eq-eqb place p (omega (arith, same, here))))
+        (λ apart.
+        on p (2 ^ (place % 64)) false word (ap (λ (b : ℕ). nat_eq b 1) (bit_at-pow_other (place % 64) (p % 64) apart))
+        ∙ sym (ne_eqb place p (λ (e : place ≡ p). apart (ap (λ (q : ℕ). q % 64) (sym e)))))
+        (cases_eq (p % 64) (place % 64))
+    at p false e =
+        on p 0 false (ap (λ (b : Bool). cond b bits 0) e) (ap (λ (b : ℕ). nat_eq b 1) (bit_at-zero (p % 64)))
+        ∙ sym (ne_eqb place p (λ (same : place ≡ p). eqb-false (place / 64) (p / 64) e (ap (λ (q : ℕ). q / 64) same)))
+
+-- a word that isn't 0 has a bit
+pub some_bit : (words : ℕ → ℕ) (n : ℕ) → 0 < words n → words n < 2 ^ 64 → (p : ℕ) × (has_bit words p ≡ true)
+unfolding has_bit
+some_bit words n some fits =
+    let z = bit_at-trailing_zeros w64 (words n) some fits in
+    let b : ℕ = trailing_zeros w64 (words n) in
+    let p : ℕ = n * 64 + b in
+    let below : b < 64 = z.0 in
+    let word : p / 64 ≡ n = omega arith in
+    let bit : p % 64 ≡ b = omega arith in
+    (p, (λ t. nat_eq (bit_at (words (word t)) (bit t)) 1) ∙ ap (λ (x : ℕ). nat_eq x 1) z.1)
+
+-- ---- words of a row
 
 pub zero_more : (ws : List ℕ) (i : ℕ) → get_or (ws ++ 0 ∷ []) i 0 ≡ get_or ws i 0
 zero_more [] zero = refl
@@ -83,18 +120,34 @@ zero_more [] (suc i) = refl
 zero_more (w ∷ ws) zero = refl
 zero_more (w ∷ ws) (suc i) = zero_more ws i
 
-pub past_off : (row : List ℕ) (place : ℕ) → length row ≤ place / 64 → TurnsOff place row row
-unfolding is_on
-past_off row place le = (ap (λ (w : ℕ). nat_eq (bit_at w (place % 64)) 1) (get_or_past row (place / 64) 0 le) ∙ ap (λ (b : ℕ). nat_eq b 1) (bit_at-zero (place % 64)), λ p apart. refl)
+-- one word of a row turns
+pub word_turned : (old words : List ℕ) (number bits word : ℕ) → ((n : ℕ) → word_of words n ≡ word_of old n) → number < length words → word ≡ word_of words number
+    → Xors (one_word number bits) (word_of old) (word_of (set words number (bit_xor word bits)))
+word_turned old words number bits word same lt is n = by (nat_eq number n) refl
+  where
+    new : List ℕ
+    new = set words number (bit_xor word bits)
 
--- over words that stand for the same places
-pub turned_on_over : (old row new : List ℕ) (place : ℕ) → ((i : ℕ) → get_or row i 0 ≡ get_or old i 0) → TurnsOn place row new → TurnsOn place old new
-turned_on_over old row new place same h = (h.0, λ p apart. h.1 p apart ∙ alike row old same p)
+    by : (b : Bool) → nat_eq number n ≡ b → word_of new n ≡ bit_xor (word_of old n) (one_word number bits n)
+    by true e =
+        let here : number ≡ n = eqb-true number n e in
+        ap (word_of new) (sym here)
+        ∙ (get_or-set_same words number (bit_xor word bits) 0 lt
+        ∙ (ap (λ (w : ℕ). bit_xor w bits) (is ∙ (ap (word_of words) here ∙ same n))
+        ∙ sym (ap (λ (b : Bool). bit_xor (word_of old n) (cond b bits 0)) e)))
+    by false e =
+        get_or-set_other words number n (bit_xor word bits) 0 (λ (here : n ≡ number). eqb-false number n e (sym here))
+        ∙ (same n
+        ∙ (sym (xor_zero_r (word_of old n))
+        ∙ sym (ap (λ (b : Bool). bit_xor (word_of old n) (cond b bits 0)) e)))
+
+pub past_off : (row : List ℕ) (place : ℕ) → length row ≤ place / 64 → is_on row place ≡ false
+past_off row place le = no_bit (word_of row) place (get_or_past row (place / 64) 0 le)
 
 -- ---- whether a row has all places of another
 
 on_bit : (row : List ℕ) (i b : ℕ) → b < 64 → is_on row (i * 64 + b) ≡ nat_eq (bit_at (get_or row i 0) b) 1
-unfolding is_on
+unfolding has_bit
 on_bit row i b lt =
     let p : ℕ = i * 64 + b in
     let word : p / 64 ≡ i = omega arith in
@@ -109,9 +162,6 @@ implied false false h = refl
 left_of : (a b : Bool) → (a && b) ≡ b → b ≡ true → a ≡ true
 left_of true b h e = refl
 left_of false b h e = h ∙ e
-
-bits_of_both : (x y k : ℕ) → nat_eq (bit_at (bit_and x y) k) 1 ≡ (nat_eq (bit_at x k) 1 && nat_eq (bit_at y k) 1)
-bits_of_both x y k = ap (λ (z : ℕ). nat_eq z 1) (bit_at_and x y k) ∙ both (bit_at x k) (bit_at y k) (bit_at-lt x k) (bit_at-lt y k)
 
 -- a word of a row has all bits of a row that it includes
 pub left_out : (row other : List ℕ) (i x y : ℕ) → Includes row other → x ≡ get_or row i 0 → y ≡ get_or other i 0 → x < 2 ^ 64 → y < 2 ^ 64 → bit_and x y ≡ y
@@ -140,14 +190,14 @@ one_included row other i x y h e f same j lt = ⊎_elim
     (cases_eq j i)
 
 pub all_included : (row other : List ℕ) (i : ℕ) → AreIn row other i → length other ≤ i → Includes row other
-unfolding AreIn is_on
+unfolding AreIn has_bit
 all_included row other i h le p on = ⊎_elim
     (λ (lt : p / 64 < i).
     left_of (nat_eq (bit_at (get_or row (p / 64) 0) (p % 64)) 1) (nat_eq (bit_at (get_or other (p / 64) 0) (p % 64)) 1)
     (sym (bits_of_both (get_or row (p / 64) 0) (get_or other (p / 64) 0) (p % 64)) ∙ ap (λ (z : ℕ). nat_eq (bit_at z (p % 64)) 1) (h (p / 64) lt))
     on)
-    (λ from. absurd (let no : false ≡ true = sym (past_off other p (omega arith)).0 ∙ on in cc))
+    (λ from. absurd (let no : false ≡ true = sym (past_off other p (omega arith)) ∙ on in cc))
     (which (p / 64) i)
 
 pub nothing_included : (row : List ℕ) → Includes row []
-nothing_included row p on = absurd (let no : false ≡ true = sym (past_off [] p (omega arith)).0 ∙ on in cc)
+nothing_included row p on = absurd (let no : false ≡ true = sym (past_off [] p (omega arith)) ∙ on in cc)

@@ -1,5 +1,5 @@
-pub mod Apart
 pub mod Bits
+pub mod Changes
 pub mod Members
 pub mod Needs
 pub mod Places

@@ -9,7 +9,7 @@ use Rattle.std.proofs.lemmas.List.Elements.{All-cons}
 use Rattle.std.proofs.lemmas.List.Folds.{list_any-append, list_any_none}
 use Rattle.lockset_check_rules.specs.Mutexes.{Locks, is_held, shared, with_lock, without_lock}
 use Rattle.lockset_check_held.specs.Ascending.{Ascends}
-use Rattle.lockset_check_held.proofs.Places.{differs_above, not_back, under}
+use Rattle.lockset_check_held.proofs.Places.{differs_above, not_back, under, with_ascends, without_ascends}
 
 abbrev Below : ℤ → ℤ → Type 0
 Below m k = int_lt m k ≡ true
@@ -117,3 +117,23 @@ same_members (x ∷ s) (y ∷ t) a b h = by (λ c d all. same_members s t c d al
         let all : (m : ℤ) → is_held m (x ∷ s) ≡ is_held m (x ∷ t) = λ m. h m ∙ ap (λ (n : ℤ). is_held m (n ∷ t)) (sym here) in
         let same : s ≡ t = rest (rest_ascends x s a) (rest_ascends y t b) (rest_same x s t a up all) in
         λ j. here j ∷ same j
+
+-- ---- changes of nothing
+
+-- one that is held is taken
+pub taken_again : (m : ℤ) (s : Locks) → Ascends s → is_held m s ≡ true → with_lock m s ≡ s
+taken_again m s up h = same_members (with_lock m s) s (with_ascends m s up) up (λ k. held_with m k s ∙ by k (int_eq m k) refl)
+  where
+    by : (k : ℤ) (c : Bool) → int_eq m k ≡ c → (int_eq m k || is_held k s) ≡ is_held k s
+    by k true e = ap (λ (c : Bool). c || is_held k s) e ∙ sym (sym (ap (λ (n : ℤ). is_held n s) (same_number m k e)) ∙ h)
+    by k false e = ap (λ (c : Bool). c || is_held k s) e
+
+-- one that isn't held is given back
+pub given_again : (m : ℤ) (s : Locks) → Ascends s → is_held m s ≡ false → without_lock m s ≡ s
+given_again m s up h =
+    same_members (without_lock m s) s (without_ascends m s (without_lock m s) up refl) up
+    (λ k. held_without m k s ∙ by k (int_eq k m) refl)
+  where
+    by : (k : ℤ) (c : Bool) → int_eq k m ≡ c → (not (int_eq k m) && is_held k s) ≡ is_held k s
+    by k true e = ap (λ (c : Bool). not c && is_held k s) e ∙ sym (ap (λ (n : ℤ). is_held n s) (same_number k m e) ∙ h)
+    by k false e = ap (λ (c : Bool). not c && is_held k s) e

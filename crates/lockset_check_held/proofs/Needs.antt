@@ -1,17 +1,17 @@
 -- Sets that functions may need.
-use Rattle.std.proofs.Common.{◌≡◌, ℕ, ℤ, zero, suc, ◌+◌, ◌<◌, ◌≤◌, Bool, true, false, cond, ◌&&◌, ◌||◌, List, [], ◌∷◌, ◌++◌, length, Option, Some, None, refl, sym, ap, subst, ◌∙◌, arith}
-use Rattle.std.specs.Prelude.{get_or, slice_get}
-use Rattle.std.specs.List.{list_all}
+use Rattle.std.proofs.Common.{◌≡◌, ℕ, ℤ, zero, suc, Bool, true, false, ◌&&◌, ◌||◌, List, [], ◌∷◌, ◌++◌, length, Option, Some, None, refl, sym, ap, subst, ◌∙◌}
 use Rattle.std.specs.Ordering.{int_eq}
+use mathlib.Core.Logic.{⊎_elim}
 use Rattle.lockset_check_rules.specs.Mutexes.{Locks, are_held, is_held}
-use Rattle.lockset_check_held.specs.Apart.{sets_by}
+use Rattle.lockset_check_held.specs.declared.trail.Trail.{Trail}
 use Rattle.lockset_check_held.specs.HeldSets.{need_at, needing, starting}
-use Rattle.lockset_check_held.specs.Rows.{AreRows, AreWithin, Includes, IsTable, IsWithin, Learns, is_on, place_in, row_at, set_of, sets_of}
-use Rattle.lockset_check_held.proofs.Apart.{apart_nothing}
+use Rattle.lockset_check_held.specs.Rows.{AreWithin, Includes, IsTable, IsWithin, Learns, is_on, place_in, row_at, set_by, set_of, sets_of}
+use Rattle.lockset_check_held.specs.Trails.{AreRows, sets_by}
 use Rattle.lockset_check_held.proofs.Members.{is_itself, same_number}
 use Rattle.lockset_check_held.proofs.Places.{which}
-use Rattle.lockset_check_held.proofs.Tables.{all_within_more, held_none, held_some, no_places, nothing_within, set_ascends, sets_stay, used, within_more}
-use mathlib.Core.Logic.{⊎_elim}
+use Rattle.lockset_check_held.proofs.Sets.{known_sets, new_within}
+use Rattle.lockset_check_held.proofs.Stacks.{turned_nowhere}
+use Rattle.lockset_check_held.proofs.Tables.{held_none, held_some, no_places, nothing_within, used}
 
 -- ---- the set of a place
 
@@ -21,7 +21,7 @@ set_at known [] (suc i) = no_places known
 set_at known (row ∷ rows) zero = refl
 set_at known (row ∷ rows) (suc i) = set_at known rows i
 
-pub within_at : (count : ℕ) (rows : List (List ℕ)) (place : ℕ) → AreWithin count rows → IsWithin count (row_at rows place)
+pub within_at : (count : ℕ) (rows : List (List ℕ)) (place : ℕ) → AreWithin count rows → IsWithin count (is_on (row_at rows place))
 within_at count [] zero w = nothing_within count
 within_at count [] (suc i) w = nothing_within count
 within_at count (row ∷ rows) zero w = w.0
@@ -33,7 +33,7 @@ pub more_sets : (known : List ℤ) (rows : List (List ℕ)) (row : List ℕ) →
 more_sets known [] row = refl
 more_sets known (r ∷ rs) row = ap (λ (l : List Locks). set_of known r ∷ l) (more_sets known rs row)
 
-pub more_within : (count : ℕ) (rows : List (List ℕ)) (row : List ℕ) → AreWithin count rows → IsWithin count row → AreWithin count (rows ++ row ∷ [])
+pub more_within : (count : ℕ) (rows : List (List ℕ)) (row : List ℕ) → AreWithin count rows → IsWithin count (is_on row) → AreWithin count (rows ++ row ∷ [])
 more_within count [] row w h = (h, tt)
 more_within count (r ∷ rs) row w h = (w.0, more_within count rs row w.1 h)
 
@@ -75,18 +75,18 @@ module _ (known : List ℤ) (t : IsTable known) (row other : List ℕ) where
   included_held h = all_by (set_of known other) (set_of known row) (λ m e. by m e (place_in m known) refl)
     where
       by : (m : ℤ) → is_held m (set_of known other) ≡ true → (o : Option ℕ) → place_in m known ≡ o → is_held m (set_of known row) ≡ true
-      by m e None g = absurd (let no : false ≡ true = held_none m known other t g ∙ e in cc)
-      by m e (Some p) g = sym (held_some m known row p t g) ∙ h p (held_some m known other p t g ∙ e)
+      by m e None g = absurd (let no : false ≡ true = held_none m known (is_on other) t g ∙ e in cc)
+      by m e (Some p) g = sym (held_some m known (is_on row) p t g) ∙ h p (held_some m known (is_on other) p t g ∙ e)
 
-  held_included : IsWithin (length known) other → are_held (set_of known other) (set_of known row) ≡ true → Includes row other
+  held_included : IsWithin (length known) (is_on other) → are_held (set_of known other) (set_of known row) ≡ true → Includes row other
   held_included w h p on = ⊎_elim
       (λ lt.
       let u = used known t p lt in
-      held_some u.0 known row p t u.1 ∙ each_held (set_of known other) (set_of known row) h u.0 (sym (held_some u.0 known other p t u.1) ∙ on))
+      held_some u.0 known (is_on row) p t u.1 ∙ each_held (set_of known other) (set_of known row) h u.0 (sym (held_some u.0 known (is_on other) p t u.1) ∙ on))
       (λ le. absurd (let no : false ≡ true = sym (w p le) ∙ on in cc))
       (which p (length known))
 
-  included : (r : Bool) → IsWithin (length known) other → (r ≡ true → Includes row other) → (r ≡ false → Includes row other → ⊥) → r ≡ are_held (set_of known other) (set_of known row)
+  included : (r : Bool) → IsWithin (length known) (is_on other) → (r ≡ true → Includes row other) → (r ≡ false → Includes row other → ⊥) → r ≡ are_held (set_of known other) (set_of known row)
   included true w all others = sym (included_held (all refl))
   included false w all others = by (are_held (set_of known other) (set_of known row)) refl
     where
@@ -102,42 +102,42 @@ needs_held known held needs place r t w all others =
 
 -- ---- steps of a walk
 
-module _ (old new : List ℤ) (held : List ℕ) (needs : List (List ℕ)) (w : AreRows old held needs) (l : Learns old new) (t : IsTable new) where
-  pub known_rows : AreRows new held needs
-  known_rows = (t, within_more old new held l w.1, all_within_more old new needs l w.2)
+module _ (known : List ℤ) (t : Trail) (needs : List (List ℕ)) (w : AreRows known t needs) where
+  pub more_rows : (row : List ℕ) → IsWithin (length known) (is_on row) → AreRows known t (needs ++ row ∷ [])
+  more_rows row h = (w.0, w.1, more_within (length known) needs row w.2 h)
 
-  pub needed_rows : (row : List ℕ) → IsWithin (length new) row → AreRows new held (needs ++ row ∷ [])
-  needed_rows row h = let k = known_rows in (k.0, k.1, more_within (length new) needs row k.2 h)
+  module _ (place : ℕ) (row : List ℕ) (e : row ≡ row_at needs place) where
+    copy_within : IsWithin (length known) (is_on row)
+    copy_within = subst (λ (r : List ℕ). IsWithin (length known) (is_on r)) (sym e) (within_at (length known) needs place w.2)
 
-  module _ (start : List ℤ) (loops kept : List (List ℤ)) where
-    pub needed_sets : (row : List ℕ) (s : Locks) → set_of new row ≡ s
-        → sets_by (set_of new held) start loops kept (sets_of new (needs ++ row ∷ []))
-        ≡ needing s (sets_by (set_of old held) start loops kept (sets_of old needs))
-    needed_sets row s e = λ j. sets_by (l.1 held w.1 j) start loops kept
-        ((more_sets new needs row ∙ (λ i. sets_stay old new needs l w.2 i ++ e i ∷ [])) j)
+    copy_is : set_of known row ≡ need_at (sets_of known needs) place
+    copy_is = ap (set_of known) e ∙ set_at known needs place
 
-module _ (known : List ℤ) (held : List ℕ) (needs : List (List ℕ)) (place : ℕ) (row : List ℕ) (e : row ≡ row_at needs place) where
-  pub again_rows : AreRows known held needs → AreRows known held (needs ++ row ∷ [])
-  again_rows w = (w.0, w.1, more_within (length known) needs row w.2 (subst (IsWithin (length known)) (sym e) (within_at (length known) needs place w.2)))
+    pub again_rows : AreRows known t (needs ++ row ∷ [])
+    again_rows = more_rows row copy_within
 
-  pub started_rows : AreRows known held needs → AreRows known row needs
-  started_rows w = (w.0, subst (IsWithin (length known)) (sym e) (within_at (length known) needs place w.2), w.2)
+    pub again_sets : sets_by known t (needs ++ row ∷ []) ≡ needing (need_at (sets_of known needs) place) (sets_by known t needs)
+    again_sets = ap (λ (sets : List Locks). record (sets_by known t needs) { needs = sets })
+        (more_sets known needs row ∙ ap (λ (s : Locks). sets_of known needs ++ s ∷ []) copy_is)
 
-  row_is : set_of known row ≡ need_at (sets_of known needs) place
-  row_is = ap (set_of known) e ∙ set_at known needs place
+    -- at the start of a function
+    module _ (new : Trail) (held : new.held ≡ row) (start : new.start ≡ []) (loops : new.loops ≡ []) (kept : new.kept ≡ []) where
+      pub started_rows : AreRows known new needs
+      started_rows = (w.0, new_within (length known) new (subst (λ (r : List ℕ). IsWithin (length known) (is_on r)) (sym held) copy_within) start loops kept, w.2)
 
-  module _ (start : List ℤ) (loops kept : List (List ℤ)) where
-    pub again_sets : sets_by (set_of known held) start loops kept (sets_of known (needs ++ row ∷ []))
-        ≡ needing (need_at (sets_of known needs) place) (sets_by (set_of known held) start loops kept (sets_of known needs))
-    again_sets = λ j. sets_by (set_of known held) start loops kept
-        ((more_sets known needs row ∙ ap (λ (s : Locks). sets_of known needs ++ s ∷ []) row_is) j)
+      pub started_sets : sets_by known new needs ≡ starting (need_at (sets_of known needs) place) (sets_by known t needs)
+      started_sets =
+          (λ j. sets_by known (record { held = held j; start = start j; loops = loops j; kept = kept j }) needs)
+          ∙ (λ j. record {
+            held = copy_is j;
+            start = (ap (set_by known) (turned_nowhere (is_on row)) ∙ copy_is) j;
+            loops = [];
+            kept = [];
+            needs = sets_of known needs;
+          })
 
-    pub started_sets : sets_by (set_of known row) [] [] [] (sets_of known needs)
-        ≡ starting (need_at (sets_of known needs) place) (sets_by (set_of known held) start loops kept (sets_of known needs))
-    started_sets = λ j. record {
-      held = row_is j;
-      start = (apart_nothing (set_of known row) (set_ascends known row) ∙ row_is) j;
-      loops = [];
-      kept = [];
-      needs = sets_of known needs;
-    }
+pub needed_sets : (old new : List ℤ) (t : Trail) (needs : List (List ℕ)) (w : AreRows old t needs) (l : Learns old new) (row : List ℕ) (s : Locks) → set_of new row ≡ s
+    → sets_by new t (needs ++ row ∷ []) ≡ needing s (sets_by old t needs)
+needed_sets old new t needs w l row s e =
+    ap (λ (sets : List Locks). record (sets_by new t needs) { needs = sets }) (more_sets new needs row ∙ ap (λ (x : Locks). sets_of new needs ++ x ∷ []) e)
+    ∙ ap (needing s) (known_sets old new t needs w l)

@@ -7,12 +7,9 @@ use Rattle.std.specs.declared.cmp.Ordering.TheVariants.{Less, Equal, Greater}
 use Rattle.std.proofs.lemmas.Bool.Decides.{Decides-int_eq}
 use Rattle.std.proofs.lemmas.List.{drop_all, drop_more}
 use Rattle.std.proofs.lemmas.List.Folds.{list_all-append}
-use Rattle.std.specs.List.Sorted.{IsPermutation}
-use Rattle.std.proofs.lemmas.List.Folds.{Any-from_list_any, list_any-from_Any}
-use Rattle.std.proofs.lemmas.List.Sorted.{Contains-permutation, IsPermutation-sym}
 use Rattle.lockset_check_held.specs.Ascending.{Ascends}
-use Rattle.lockset_check_held.proofs.Members.{held_with, same_members}
-use Rattle.lockset_check_held.proofs.Places.{nothing_ascends, with_ascends}
+use Rattle.lockset_check_held.proofs.Members.{held_with}
+use Rattle.lockset_check_held.proofs.Places.{with_ascends}
 use Rattle.lockset_check_rules.specs.Mutexes.{Locks, are_held, is_held, locks_of, with_lock, with_locks}
 
 -- ---- one mutex of a list after another

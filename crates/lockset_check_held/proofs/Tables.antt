@@ -1,22 +1,23 @@
 -- Mutexes that are known, and the sets that rows stand for.
-use Rattle.std.proofs.Common.{◌≡◌, ℕ, ℤ, zero, suc, ◌+◌, ◌<◌, ◌≤◌, Bool, true, false, cond, not, ◌&&◌, ◌||◌, List, [], ◌∷◌, ◌++◌, length, length-append, Option, Some, None, nat_lt, refl, sym, ap, subst, ◌∙◌, arith, rules}
-use Rattle.std.specs.Prelude.{get_or, position, slice_get}
+use Rattle.std.proofs.Common.{◌≡◌, ℕ, ℤ, zero, suc, ◌+◌, ◌<◌, ◌≤◌, Bool, true, false, cond, not, ◌&&◌, ◌||◌, List, [], ◌∷◌, ◌++◌, length, length-append, Option, Some, None, nat_lt, refl, sym, ap, subst, ◌∙◌, arith}
+use Rattle.std.specs.Prelude.{get_or, nat_eq, slice_get}
 use Rattle.std.specs.List.{list_any, position_or_len}
 use Rattle.std.specs.Ordering.{int_eq}
 use Rattle.std.specs.Option.{option_map}
-use Rattle.std.proofs.lemmas.Bool.{cases_eq, le-ltb, lt-ltb, ltb-false, ltb-true}
+use Rattle.std.proofs.lemmas.Bool.{eq-eqb, le-ltb, lt-ltb, ltb-false, ltb-true, ne_eqb}
 use Rattle.std.proofs.lemmas.Cmp.{int_eq_equiv}
-use Rattle.std.proofs.lemmas.Nat.Bits.{bit_at-zero}
 use Rattle.std.proofs.lemmas.List.Folds.{list_any-append, list_any_at}
 use Rattle.std.proofs.lemmas.List.Quantifiers.{position-Some}
 use Rattle.std.proofs.lemmas.Option.{get_or_from_slice_get, slice_get_within}
 use Rattle.indexmap.specs.IndexSet.{insert_key}
-use mathlib.Core.Logic.{⊎_elim, ◌≢◌}
 use Rattle.lockset_check_rules.specs.Mutexes.{Locks, is_held, locks_of, with_lock, without_lock}
 use Rattle.lockset_check_held.specs.Ascending.{Ascends}
-use Rattle.lockset_check_held.specs.Rows.{AreWithin, IsTable, IsWithin, Learns, TurnsOff, TurnsOn, is_on, picked, place_in, row_at, set_of, sets_of}
-use Rattle.lockset_check_held.proofs.Members.{held_with, held_without, is_itself, same_members, same_number}
-use Rattle.lockset_check_held.proofs.Places.{nothing_ascends, which, with_ascends, without_ascends}
+use Rattle.lockset_check_held.specs.Rows.{AreWithin, IsTable, IsWithin, Learns, is_on, picked, place_in, row_at, set_by, set_of, sets_of, word_of}
+use Rattle.lockset_check_held.specs.Changes.{one_of, turned}
+use Rattle.lockset_check_held.proofs.Bits.{no_bit}
+use Rattle.lockset_check_held.proofs.Changes.{turned_within}
+use Rattle.lockset_check_held.proofs.Members.{given_again, held_with, held_without, is_itself, same_members, same_number, taken_again}
+use Rattle.lockset_check_held.proofs.Places.{nothing_ascends, with_ascends, without_ascends}
 use Rattle.lockset_check_held.proofs.Starts.{held_with_locks, with_locks_ascends}
 
 -- whether a place that was found passes a test
@@ -31,15 +32,15 @@ on_next test (Some p) = refl
 same_place : (p q : ℕ) → Some p ≡ Some q → p ≡ q
 same_place p q e = cc
 
-turned : (m k : ℤ) → int_eq m k ≡ int_eq k m
-turned m k = int_eq_equiv.symm m k
+swapped : (m k : ℤ) → int_eq m k ≡ int_eq k m
+swapped m k = int_eq_equiv.symm m k
 
 -- ---- places
 
 -- the place of a mutex, by what is known first
 next_place : (m k : ℤ) (ks : List ℤ) → place_in m (k ∷ ks) ≡ cond (int_eq k m) (Some 0) (option_map suc (place_in m ks))
 unfolding place_in
-next_place m k ks = by (int_eq m k) refl ∙ ap (λ (b : Bool). cond b (Some 0) (option_map suc (place_in m ks))) (turned m k)
+next_place m k ks = by (int_eq m k) refl ∙ ap (λ (b : Bool). cond b (Some 0) (option_map suc (place_in m ks))) (swapped m k)
   where
     at : ℕ → ℕ → Option ℕ
     at a n = cond (nat_lt a n) (Some a) None
@@ -146,26 +147,35 @@ or_none : (b : Bool) → (b || false) ≡ b
 or_none true = refl
 or_none false = refl
 
-held_set : (m : ℤ) (known : List ℤ) (row : List ℕ) → IsTable known → is_held m (set_of known row) ≡ on_at (λ p. is_on row p) (place_in m known)
-held_set m known row t =
-    let ks = picked known (λ p. is_on row p) in
-    held_with_locks m ks [] ∙ (or_none (is_held m ks) ∙ held_picked m known (λ p. is_on row p) t)
+held_set : (m : ℤ) (known : List ℤ) (test : ℕ → Bool) → IsTable known → is_held m (set_by known test) ≡ on_at test (place_in m known)
+held_set m known test t =
+    let ks = picked known test in
+    held_with_locks m ks [] ∙ (or_none (is_held m ks) ∙ held_picked m known test t)
 
-pub set_ascends : (known : List ℤ) (row : List ℕ) → Ascends (set_of known row)
-set_ascends known row = with_locks_ascends (picked known (λ p. is_on row p)) [] nothing_ascends
+pub set_ascends : (known : List ℤ) (test : ℕ → Bool) → Ascends (set_by known test)
+set_ascends known test = with_locks_ascends (picked known test) [] nothing_ascends
 
-pub held_some : (m : ℤ) (known : List ℤ) (row : List ℕ) (p : ℕ) → IsTable known → place_in m known ≡ Some p → is_on row p ≡ is_held m (set_of known row)
-held_some m known row p t e = sym (held_set m known row t ∙ ap (on_at (λ q. is_on row q)) e)
+pub held_some : (m : ℤ) (known : List ℤ) (test : ℕ → Bool) (p : ℕ) → IsTable known → place_in m known ≡ Some p → test p ≡ is_held m (set_by known test)
+held_some m known test p t e = sym (held_set m known test t ∙ ap (on_at test) e)
 
-pub held_none : (m : ℤ) (known : List ℤ) (row : List ℕ) → IsTable known → place_in m known ≡ None → false ≡ is_held m (set_of known row)
-held_none m known row t e = sym (held_set m known row t ∙ ap (on_at (λ q. is_on row q)) e)
+pub held_none : (m : ℤ) (known : List ℤ) (test : ℕ → Bool) → IsTable known → place_in m known ≡ None → false ≡ is_held m (set_by known test)
+held_none m known test t e = sym (held_set m known test t ∙ ap (on_at test) e)
+
+-- the same of a row
+pub held_on : (m : ℤ) (known : List ℤ) (row : List ℕ) (p : ℕ) → IsTable known → place_in m known ≡ Some p → is_on row p ≡ is_held m (set_of known row)
+held_on m known row p t e = held_some m known (is_on row) p t e
+
+pub held_off : (m : ℤ) (known : List ℤ) (row : List ℕ) → IsTable known → place_in m known ≡ None → false ≡ is_held m (set_of known row)
+held_off m known row t e = held_none m known (is_on row) t e
 
 pub no_table : IsTable []
 no_table = tt
 
-pub nothing_within : (count : ℕ) → IsWithin count []
-unfolding is_on
-nothing_within count q le = search (rules, bit_at-zero)
+pub nothing_on : (p : ℕ) → is_on [] p ≡ false
+nothing_on p = no_bit (word_of []) p refl
+
+pub nothing_within : (count : ℕ) → IsWithin count (is_on [])
+nothing_within count p le = nothing_on p
 
 none_picked : (known : List ℤ) (test : ℕ → Bool) → ((p : ℕ) → test p ≡ false) → picked known test ≡ []
 none_picked [] test off = refl
@@ -174,7 +184,7 @@ none_picked (k ∷ ks) test off =
     ap (λ (b : Bool). cond b (k ∷ rest) rest) (off 0) ∙ none_picked ks (λ p. test (suc p)) (λ p. off (suc p))
 
 pub no_places : (known : List ℤ) → set_of known [] ≡ []
-no_places known = ap locks_of (none_picked known (λ p. is_on [] p) (λ p. nothing_within 0 p (omega arith)))
+no_places known = ap locks_of (none_picked known (is_on []) nothing_on)
 
 -- ---- one that is known from now on
 
@@ -184,7 +194,7 @@ more_picked (k ∷ ks) m test off = ap (λ (l : List ℤ). cond (test 0) (k ∷ 
 
 pub any_turned : (m : ℤ) (ks : List ℤ) → list_any (int_eq m) ks ≡ is_held m ks
 any_turned m [] = refl
-any_turned m (k ∷ ks) = λ j. turned m k j || any_turned m ks j
+any_turned m (k ∷ ks) = λ j. swapped m k j || any_turned m ks j
 
 left_off : (a b : Bool) → (a || b) ≡ false → a ≡ false
 left_off true b h = h
@@ -198,23 +208,23 @@ table_more : (known : List ℤ) (m : ℤ) → IsTable known → is_held m known 
 table_more [] m t h = (refl, tt)
 table_more (k ∷ ks) m t h = (
   list_any-append (λ n. int_eq n k) ks (m ∷ [])
-      ∙ (λ j. t.0 j || ((turned m k ∙ left_off (int_eq k m) (is_held m ks) h) j || false)),
+      ∙ (λ j. t.0 j || ((swapped m k ∙ left_off (int_eq k m) (is_held m ks) h) j || false)),
   table_more ks m t.1 (right_off (int_eq k m) (is_held m ks) h),
 )
 
 learned : (known : List ℤ) (m : ℤ) → Learns known (known ++ m ∷ [])
 learned known m = (
   let long = length-append known (m ∷ []) in omega (arith, long),
-  λ row within. ap locks_of (more_picked known m (λ p. is_on row p) (within (length known) (omega arith))),
+  λ test within. ap locks_of (more_picked known m test (within (length known) (omega arith))),
 )
 
 pub learns_nothing : (known : List ℤ) → Learns known known
-learns_nothing known = (omega arith, λ row within. refl)
+learns_nothing known = (omega arith, λ test within. refl)
 
 pub learns_more : (old new last : List ℤ) → Learns old new → Learns new last → Learns old last
 learns_more old new last l m = (
   let first = l.0 in let second = m.0 in omega arith,
-  λ row within. m.1 row (λ p le. let first = l.0 in within p (omega arith)) ∙ l.1 row within,
+  λ test within. m.1 test (λ p le. let first = l.0 in within p (omega arith)) ∙ l.1 test within,
 )
 
 -- what is known after a mutex was put in
@@ -245,82 +255,100 @@ placed known m k p t e same =
     let is : u.0 ≡ m = at_place known u.0 k p u.1 ∙ (get_or_from_slice_get known p k k e ∙ sym (same_number m k same)) in
     subst (λ (n : ℤ). place_in n known ≡ Some p) is u.1
 
--- ---- changes of a row
+-- ---- places that turn
+
+swapped_is : (m k : ℤ) (c : Bool) → int_eq m k ≡ c → int_eq k m ≡ c
+swapped_is m k c e = swapped k m ∙ e
 
 module _ (known : List ℤ) (t : IsTable known) where
-  -- a row stands for a set where they agree on each mutex
-  stands : (row : List ℕ) (s : Locks) → Ascends s → ((m : ℤ) → on_at (λ p. is_on row p) (place_in m known) ≡ is_held m s) → set_of known row ≡ s
-  stands row s up h = same_members (set_of known row) s (set_ascends known row) up (λ m. held_set m known row t ∙ h m)
+  -- places stand for a set where they agree on each mutex
+  pub stands : (test : ℕ → Bool) (s : Locks) → Ascends s → ((m : ℤ) → on_at test (place_in m known) ≡ is_held m s) → set_by known test ≡ s
+  stands test s up h = same_members (set_by known test) s (set_ascends known test) up (λ m. held_set m known test t ∙ h m)
 
-  pub added : (m : ℤ) (p : ℕ) (old new : List ℕ) → place_in m known ≡ Some p → TurnsOn p old new → set_of known new ≡ with_lock m (set_of known old)
-  added m p old new e h = stands new (with_lock m (set_of known old)) (with_ascends m (set_of known old) (set_ascends known old))
-      (λ n. by n (int_eq m n) refl (place_in n known) refl
-      ∙ sym (held_with m n (set_of known old) ∙ ap (λ (b : Bool). int_eq m n || b) (held_set n known old t)))
-    where
-      by : (n : ℤ) (b : Bool) → int_eq m n ≡ b → (o : Option ℕ) → place_in n known ≡ o
-          → on_at (λ q. is_on new q) (place_in n known) ≡ (int_eq m n || on_at (λ q. is_on old q) (place_in n known))
-      by n true f o g =
-          ap (on_at (λ q. is_on new q)) (ap (λ k. place_in k known) (sym (same_number m n f)) ∙ e)
-          ∙ (h.0 ∙ sym (ap (λ (b : Bool). b || on_at (λ q. is_on old q) (place_in n known)) f))
-      by n false f None g =
-          ap (on_at (λ q. is_on new q)) g ∙ sym ((λ j. f j || on_at (λ q. is_on old q) (g j)))
-      by n false f (Some q) g =
-          ap (on_at (λ q. is_on new q)) g
-          ∙ (h.1 q (λ same. absurd (let no : true ≡ false = sym (ap (λ k. int_eq m k) (own known n m q g (e ∙ ap (λ (i : ℕ). Some i) (sym same))) ∙ is_itself m) ∙ f in cc))
-          ∙ sym ((λ j. f j || on_at (λ q. is_on old q) (g j))))
+  module _ (m : ℤ) (p : ℕ) (test : ℕ → Bool) (e : place_in m known ≡ Some p) where
+    -- whether a mutex is held once the place of one has turned
+    held_turned : (n : ℤ) → on_at (turned (nat_eq p) test) (place_in n known) ≡ one_of (int_eq m n) (is_held n (set_by known test))
+    held_turned n = by (place_in n known) refl (int_eq m n) refl
+      where
+        held : (o : Option ℕ) → place_in n known ≡ o → is_held n (set_by known test) ≡ on_at test o
+        held o g = held_set n known test t ∙ ap (on_at test) g
 
-  pub removed : (m : ℤ) (p : ℕ) (old new : List ℕ) → place_in m known ≡ Some p → TurnsOff p old new → set_of known new ≡ without_lock m (set_of known old)
-  removed m p old new e h = stands new (without_lock m (set_of known old)) (without_ascends m (set_of known old) (without_lock m (set_of known old)) (set_ascends known old) refl)
-      (λ n. by n (int_eq n m) refl (place_in n known) refl
-      ∙ sym (held_without m n (set_of known old) ∙ ap (λ (b : Bool). not (int_eq n m) && b) (held_set n known old t)))
-    where
-      by : (n : ℤ) (b : Bool) → int_eq n m ≡ b → (o : Option ℕ) → place_in n known ≡ o
-          → on_at (λ q. is_on new q) (place_in n known) ≡ (not (int_eq n m) && on_at (λ q. is_on old q) (place_in n known))
-      by n true f o g =
-          ap (on_at (λ q. is_on new q)) (ap (λ k. place_in k known) (same_number n m f) ∙ e)
-          ∙ (h.0 ∙ sym (ap (λ (b : Bool). not b && on_at (λ q. is_on old q) (place_in n known)) f))
-      by n false f None g = ap (on_at (λ q. is_on new q)) g ∙ sym ((λ j. not (f j) && on_at (λ q. is_on old q) (g j)))
-      by n false f (Some q) g =
-          ap (on_at (λ q. is_on new q)) g
-          ∙ (h.1 q (λ same. absurd (let no : true ≡ false = sym (ap (λ k. int_eq k m) (own known n m q g (e ∙ ap (λ (i : ℕ). Some i) (sym same))) ∙ is_itself m) ∙ f in cc))
-          ∙ sym ((λ j. not (f j) && on_at (λ q. is_on old q) (g j))))
+        by : (o : Option ℕ) → place_in n known ≡ o → (b : Bool) → int_eq m n ≡ b
+            → on_at (turned (nat_eq p) test) (place_in n known) ≡ one_of (int_eq m n) (is_held n (set_by known test))
+        by None g true f = absurd (let no : Some p ≡ None = sym e ∙ (ap (λ k. place_in k known) (same_number m n f) ∙ g) in cc)
+        by None g false f = ap (on_at (turned (nat_eq p) test)) g ∙ sym (λ j. one_of (f j) (held None g j))
+        by (Some q) g true f =
+            let here : p ≡ q = same_place p q (sym e ∙ (ap (λ k. place_in k known) (same_number m n f) ∙ g)) in
+            ap (on_at (turned (nat_eq p) test)) g
+            ∙ (ap (λ (b : Bool). one_of b (test q)) (eq-eqb p q here)
+            ∙ sym (λ j. one_of (f j) (held (Some q) g j)))
+        by (Some q) g false f =
+            ap (on_at (turned (nat_eq p) test)) g
+            ∙ (ap (λ (b : Bool). one_of b (test q)) (ne_eqb p q (λ here. absurd (let no : true ≡ false = sym (ap (λ k. int_eq m k) (own known n m q g (e ∙ ap (λ (i : ℕ). Some i) here)) ∙ is_itself m) ∙ f in cc)))
+            ∙ sym (λ j. one_of (f j) (held (Some q) g j)))
 
-  pub not_removed : (m : ℤ) (row : List ℕ) → place_in m known ≡ None → set_of known row ≡ without_lock m (set_of known row)
-  not_removed m row e = stands row (without_lock m (set_of known row)) (without_ascends m (set_of known row) (without_lock m (set_of known row)) (set_ascends known row) refl)
-      (λ n. by n (int_eq n m) refl ∙ sym (held_without m n (set_of known row) ∙ ap (λ (b : Bool). not (int_eq n m) && b) (held_set n known row t)))
-    where
-      by : (n : ℤ) (b : Bool) → int_eq n m ≡ b → on_at (λ q. is_on row q) (place_in n known) ≡ (not (int_eq n m) && on_at (λ q. is_on row q) (place_in n known))
-      by n true f =
-          ap (on_at (λ q. is_on row q)) (ap (λ k. place_in k known) (same_number n m f) ∙ e)
-          ∙ sym (ap (λ (b : Bool). not b && on_at (λ q. is_on row q) (place_in n known)) f)
-      by n false f = sym (ap (λ (b : Bool). not b && on_at (λ q. is_on row q) (place_in n known)) f)
+    pub added : test p ≡ false → set_by known (turned (nat_eq p) test) ≡ with_lock m (set_by known test)
+    added off = stands (turned (nat_eq p) test) (with_lock m s) (with_ascends m s (set_ascends known test))
+        (λ n. held_turned n ∙ (by n (int_eq m n) refl ∙ sym (held_with m n s)))
+      where
+        s : Locks
+        s = set_by known test
 
-pub within_on : (count : ℕ) (p : ℕ) (old new : List ℕ) → p < count → ((q : ℕ) → q ≢ p → is_on new q ≡ is_on old q) → IsWithin count old → IsWithin count new
-within_on count p old new lt h w q le = h q (λ (e : q ≡ p). omega arith) ∙ w q le
+        by : (n : ℤ) (b : Bool) → int_eq m n ≡ b → one_of (int_eq m n) (is_held n s) ≡ (int_eq m n || is_held n s)
+        by n true f =
+            let none : is_held n s ≡ false = ap (λ k. is_held k s) (sym (same_number m n f)) ∙ (sym (held_some m known test p t e) ∙ off) in
+            (λ j. one_of (f j) (none j)) ∙ sym (ap (λ (b : Bool). b || is_held n s) f)
+        by n false f = ap (λ (b : Bool). one_of b (is_held n s)) f ∙ sym (ap (λ (b : Bool). b || is_held n s) f)
 
-pub within_off : (count : ℕ) (p : ℕ) (old new : List ℕ) → TurnsOff p old new → IsWithin count old → IsWithin count new
-within_off count p old new h w q le = ⊎_elim (λ (e : q ≡ p). ap (is_on new) e ∙ h.0) (λ apart. h.1 q apart ∙ w q le) (cases_eq q p)
+    pub removed : test p ≡ true → set_by known (turned (nat_eq p) test) ≡ without_lock m (set_by known test)
+    removed on = stands (turned (nat_eq p) test) (without_lock m s) (without_ascends m s (without_lock m s) (set_ascends known test) refl)
+        (λ n. held_turned n ∙ (by n (int_eq m n) refl ∙ sym (held_without m n s)))
+      where
+        s : Locks
+        s = set_by known test
 
-pub within_more : (old new : List ℤ) (row : List ℕ) → Learns old new → IsWithin (length old) row → IsWithin (length new) row
-within_more old new row h w q le = let long = h.0 in w q (omega arith)
+        by : (n : ℤ) (b : Bool) → int_eq m n ≡ b → one_of (int_eq m n) (is_held n s) ≡ (not (int_eq n m) && is_held n s)
+        by n true f =
+            let one : is_held n s ≡ true = ap (λ k. is_held k s) (sym (same_number m n f)) ∙ (sym (held_some m known test p t e) ∙ on) in
+            (λ j. one_of (f j) (one j)) ∙ sym (ap (λ (b : Bool). not b && is_held n s) (swapped_is m n true f))
+        by n false f = ap (λ (b : Bool). one_of b (is_held n s)) f ∙ sym (ap (λ (b : Bool). not b && is_held n s) (swapped_is m n false f))
+
+    pub not_added : test p ≡ true → set_by known test ≡ with_lock m (set_by known test)
+    not_added on = sym (taken_again m (set_by known test) (set_ascends known test) (sym (held_some m known test p t e) ∙ on))
+
+    pub not_held : test p ≡ false → set_by known test ≡ without_lock m (set_by known test)
+    not_held off = sym (given_again m (set_by known test) (set_ascends known test) (sym (held_some m known test p t e) ∙ off))
+
+  pub not_known : (m : ℤ) (test : ℕ → Bool) → place_in m known ≡ None → set_by known test ≡ without_lock m (set_by known test)
+  not_known m test e = sym (given_again m (set_by known test) (set_ascends known test) (sym (held_none m known test t e)))
+
+-- ---- places below a number
+
+pub place_within : (count p : ℕ) → p < count → IsWithin count (nat_eq p)
+place_within count p lt q le = ne_eqb p q (λ (e : p ≡ q). omega arith)
+
+pub within_more : (old new : List ℤ) (test : ℕ → Bool) → Learns old new → IsWithin (length old) test → IsWithin (length new) test
+within_more old new test h w q le = let long = h.0 in w q (omega arith)
 
 pub all_within_more : (old new : List ℤ) (rows : List (List ℕ)) → Learns old new → AreWithin (length old) rows → AreWithin (length new) rows
 all_within_more old new [] h w = tt
-all_within_more old new (row ∷ rows) h w = (within_more old new row h w.0, all_within_more old new rows h w.1)
+all_within_more old new (row ∷ rows) h w = (within_more old new (is_on row) h w.0, all_within_more old new rows h w.1)
 
 pub sets_stay : (old new : List ℤ) (rows : List (List ℕ)) → Learns old new → AreWithin (length old) rows → sets_of new rows ≡ sets_of old rows
 sets_stay old new [] h w = refl
-sets_stay old new (row ∷ rows) h w = λ j. h.1 row w.0 j ∷ sets_stay old new rows h w.1 j
+sets_stay old new (row ∷ rows) h w = λ j. h.1 (is_on row) w.0 j ∷ sets_stay old new rows h w.1 j
 
--- ---- one mutex more
+-- ---- one mutex more in a row
 
-module _ (old new : List ℤ) (t : IsTable new) (l : Learns old new) (m : ℤ) (p : ℕ) (e : place_in m new ≡ Some p) (row : List ℕ) (w : IsWithin (length old) row) where
-  pub added_here : (next : List ℕ) → TurnsOn p row next → set_of new next ≡ with_lock m (set_of old row)
-  added_here next h = added new t m p row next e h ∙ ap (with_lock m) (l.1 row w)
+module _ (old new : List ℤ) (t : IsTable new) (l : Learns old new) (m : ℤ) (p : ℕ) (e : place_in m new ≡ Some p) (row : List ℕ) (w : IsWithin (length old) (is_on row)) where
+  pub added_here : (next : List ℕ) → is_on row p ≡ false → is_on next ≡ turned (nat_eq p) (is_on row) → set_of new next ≡ with_lock m (set_of old row)
+  added_here next off h = ap (set_by new) h ∙ (added new t m p (is_on row) e off ∙ ap (with_lock m) (l.1 (is_on row) w))
 
-  pub within_here : (next : List ℕ) → ((q : ℕ) → q ≢ p → is_on next q ≡ is_on row q) → IsWithin (length new) next
-  within_here next h = within_on (length new) p row next (bounded new m p e) h (λ q le. let long = l.0 in w q (omega arith))
+  pub not_added_here : is_on row p ≡ true → set_of new row ≡ with_lock m (set_of old row)
+  not_added_here on = not_added new t m p (is_on row) e on ∙ ap (with_lock m) (l.1 (is_on row) w)
 
-  -- whether it was one more
-  pub not_yet : (b : Bool) → b ≡ is_on row p → not b ≡ not (is_held m (set_of old row))
-  not_yet b h = ap not (h ∙ (held_some m new row p t e ∙ ap (is_held m) (l.1 row w)))
+  pub still_within : IsWithin (length new) (is_on row)
+  still_within = within_more old new (is_on row) l w
+
+  pub within_here : (next : List ℕ) → is_on next ≡ turned (nat_eq p) (is_on row) → IsWithin (length new) (is_on next)
+  within_here next h = subst (IsWithin (length new)) (sym h) (turned_within (nat_eq p) (is_on row) (length new) (place_within (length new) p (bounded new m p e)) still_within)

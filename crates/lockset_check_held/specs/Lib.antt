@@ -1,4 +1,5 @@
-pub mod Apart
 pub mod Ascending
+pub mod Changes
 pub mod HeldSets
 pub mod Rows
+pub mod Trails

@@ -5,7 +5,7 @@ mod changed;
 mod held;
 mod known;
 mod row;
-mod since;
 mod stack;
+mod trail;
 
 pub use held::Held;

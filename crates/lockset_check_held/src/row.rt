@@ -1,29 +1,30 @@
 //! Rows of bits.
 
-ghost use Rattle.std.specs.Prelude.{◌≡◌, ℕ, ◌≤◌, false, true, get_or, length, IfOk, OnOk, [], bit_and};
-ghost use Rattle.lockset_check_held.specs.Rows.{is_on, row_at, TurnsOff, TurnsOn, Includes};
-ghost use mathlib.Core.Logic.{◌≢◌};
+ghost use Rattle.std.specs.Prelude.{◌≡◌, ℕ, ◌<◌, false, true, length, nat_eq, IfOk, OnErr, OnOk, [], bit_and};
+ghost use Rattle.lockset_check_held.specs.Changes.{AreBoth, StaysWithin, Xors, is_turned, one_word, turned};
+ghost use Rattle.lockset_check_held.specs.Rows.{Includes, is_on, row_at, word_of};
 
+use crate::changed::Changed;
 use std::alloc::{AllocError, Global};
 use std::marker::Model;
 
-// The word at a place, 0 past the last one.
-fn word_at(words: &[u64], at: usize) -> u64
-    ensures { result ≡ get_or words.now at 0 }
+// The word of a number, 0 past the last one.
+fn word_at(words: &[u64], number: usize) -> u64
+    ensures { result ≡ word_of words.now number }
 {
-    match words.get(at) {
+    match words.get(number) {
         Some(word) => *word,
         None => 0,
     }
 }
 
-// At least as many words, those that are more all 0.
+// Words up to that of a number, those that are more all 0.
 #[tactic(auto, using(crate::proofs::Bits::zero_more))]
-fn lengthen(words: &mut Vec<u64>, count: usize) -> Result<(), AllocError>
-    ensures long { OnOk result (count ≤ length words.new.items) }
-    ensures same { (i : ℕ) → get_or words.new.items i 0 ≡ get_or words.old.items i 0 }
+fn reach(words: &mut Vec<u64>, number: usize) -> Result<(), AllocError>
+    ensures long { OnOk result (number < length words.new.items) }
+    ensures same { (n : ℕ) → word_of words.new.items n ≡ word_of words.old.items n }
 {
-    while words.len() < count {
+    while words.len() <= number {
         words.push(0)?;
     }
     Ok(())
@@ -70,34 +71,61 @@ impl Row {
         }
     }
 
+    /// The bits of 64 places.
+    pub(crate) fn word(&self, number: usize) -> u64
+        ensures { result ≡ word_of self.now number }
+    {
+        word_at(self.words.as_slice(), number)
+    }
+
     /// Whether a place is among them.
     #[tactic(auto, using(crate::proofs::Bits::tested))]
     pub(crate) fn has(&self, place: usize) -> bool
         ensures { result ≡ is_on self.now place }
     {
-        word_at(self.words.as_slice(), place / 64) >> (place % 64) & 1 == 1
+        self.word(place / 64) >> (place % 64) & 1 == 1
     }
 
-    /// One place more. `AllocError` where there is no memory for it.
-    #[tactic(auto, using(crate::proofs::Bits::turned_on, crate::proofs::Bits::alike))]
-    pub(crate) fn add(&mut self, place: usize) -> Result<(), AllocError>
-        ensures on { OnOk result (TurnsOn place self.old self.new) }
-        ensures others { (p : ℕ) → p ≢ place → is_on self.new p ≡ is_on self.old p }
+    // Without these places of 64, but with those of them that weren't among them.
+    fn turn_word(&mut self, number: usize, bits: u64) -> Result<(), AllocError>
+        ensures done { OnOk result (Xors (one_word number bits) (word_of self.old) (word_of self.new)) }
+        ensures err { OnErr result ((n : ℕ) → word_of self.new n ≡ word_of self.old n) }
     {
-        let at = place / 64;
-        lengthen(&mut self.words, at + 1)?;
-        self.words[at] |= 1u64 << (place % 64);
+        reach(&mut self.words, number)?;
+        self.words[number] ^= bits;
         Ok(())
     }
 
-    /// Without the place.
-    pub(crate) fn remove(&mut self, place: usize)
-        ensures { TurnsOff place self.old self.new }
+    /// Without the place, or with it if it wasn't among them. `AllocError` where there is no memory for it.
+    pub(crate) fn turn(&mut self, place: usize) -> Result<(), AllocError>
+        ensures done { OnOk result (is_on self.new ≡ turned (nat_eq place) (is_on self.old)) }
+        ensures within { StaysWithin (nat_eq place) (is_on self.old) (is_on self.new) }
     {
-        let at = place / 64;
-        if at < self.words.len() {
-            self.words[at] &= !(1u64 << (place % 64));
+        self.turn_word(place / 64, 1u64 << (place % 64))
+    }
+
+    /// The same for each of those that changed.
+    pub(crate) fn turn_all(&mut self, changed: &Changed) -> Result<(), AllocError>
+        ensures done { OnOk result (is_on self.new ≡ turned (is_turned changed.now) (is_on self.old)) }
+        ensures within { StaysWithin (is_turned changed.now) (is_on self.old) (is_on self.new) }
+    {
+        for i in 0..changed.len() {
+            let (number, bits) = changed.at(i);
+            self.turn_word(number, bits)?;
         }
+        Ok(())
+    }
+
+    /// Those of them that changed.
+    pub(crate) fn among(&self, changed: &Changed) -> Result<Changed, AllocError>
+        ensures { IfOk result (λ both. AreBoth self.now changed.now both) }
+    {
+        let mut both = Changed::new(self.alloc);
+        for i in 0..changed.len() {
+            let (number, bits) = changed.at(i);
+            both.turn_word(number, self.word(number) & bits)?;
+        }
+        Ok(both)
     }
 
     /// Whether all places of another row are among them.

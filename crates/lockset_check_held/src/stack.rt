@@ -1,18 +1,14 @@
 //! Sets that are kept for later.
 
-ghost use Rattle.std.specs.Prelude.{◌≡◌, ◌∷◌, [], drop, is_some, IfOk, OnOk};
+ghost use Rattle.std.specs.Prelude.{◌≡◌, ◌∷◌, ℕ, [], drop, false, is_some, nat_eq, slice_get, true, IfOk, OnErr, OnOk};
 ghost use Rattle.std.specs.Option.{option_copied};
-ghost use Rattle.std.specs.Ordering.{int_eq};
-ghost use Rattle.lockset_check_rules.specs.Mutexes.{Locks, is_held};
-ghost use Rattle.lockset_check_held.specs.Apart.{apart, behind, first_apart, Keeps};
-ghost use Rattle.lockset_check_held.specs.Ascending.{Ascends};
-ghost use Rattle.lockset_check_held.specs.HeldSets.{head, is_same_as};
+ghost use Rattle.lockset_check_held.specs.Changes.{first_changes, is_turned, Adds, ChangesWithin, Drops, Keeps, StayWithin};
 
 use crate::changed::Changed;
 use std::alloc::{AllocError, Global};
 use std::marker::Model;
 
-/// Sets, of which the last one that was put in comes out first: each is kept as the mutexes in which it differs from the one that was
+/// Sets, of which the last one that was put in comes out first: each is kept as the places in which it differs from the one that was
 /// put in after it, and the last one as those in which it differs from what is held. Contracts see the last one first.
 #[derive(Drop)]
 pub struct Stack {
@@ -20,9 +16,10 @@ pub struct Stack {
 }
 
 impl Model for Stack {
-    ghost use Rattle.std.specs.Prelude.{List, ℤ, reverse};
+    ghost use Rattle.std.specs.Prelude.{List, reverse};
+    ghost use Rattle.lockset_check_held.specs.Changes.{Changes};
 
-    ghost Value = { List (List ℤ) };
+    ghost Value = { List Changes };
 
     ghost view = { λ s. reverse s.sets.items };
 }
@@ -37,10 +34,11 @@ impl Stack {
         }
     }
 
-    // One more.
+    // One more, or none where there is no memory for it.
     #[tactic(auto, using(crate::proofs::Stacks::pushed))]
     fn put(&mut self, set: Changed) -> Result<(), AllocError>
-        ensures { OnOk result (self.new ≡ set ∷ self.old) }
+        ensures done { OnOk result (self.new ≡ set ∷ self.old) }
+        ensures err { OnErr result (self.new ≡ self.old) }
     {
         self.sets.push(set)?;
         Ok(())
@@ -49,7 +47,7 @@ impl Stack {
     // Takes the first one, if there is one.
     #[tactic(auto, using(crate::proofs::Stacks::popped))]
     fn take(&mut self) -> Option<Changed>
-        ensures first { result ≡ head self.old }
+        ensures first { result ≡ slice_get self.old 0 }
         ensures rest { self.new ≡ drop 1 self.old }
     {
         match self.sets.pop() {
@@ -58,39 +56,40 @@ impl Stack {
         }
     }
 
-    /// A mutex is taken that wasn't held, or given back: the sets stay what they are. `AllocError` where there is no memory for it.
-    #[tactic(auto, using(crate::proofs::Stacks::first_kept, crate::proofs::Stacks::nothing_kept))]
-    pub(crate) fn turn(&mut self, mutex: i128) -> Result<(), AllocError>
-        ensures { OnOk result (Keeps (int_eq mutex) self.old self.new) }
+    /// A place is taken that wasn't held, or given back: the sets stay what they are. `AllocError` where there is no memory for it.
+    pub(crate) fn turn(&mut self, place: usize) -> Result<(), AllocError>
+        ensures keeps { OnOk result (Keeps (nat_eq place) self.old self.new) }
+        ensures within { StayWithin (nat_eq place) self.old self.new }
     {
         match self.take() {
             Some(mut first) => {
-                first.turn(mutex)?;
+                first.turn(place)?;
                 self.put(first)
             }
             None => Ok(()),
         }
     }
 
-    // The same for each of some mutexes.
-    #[tactic(auto, using(crate::proofs::Stacks::first_kept, crate::proofs::Stacks::nothing_kept))]
-    fn turn_all(&mut self, mutexes: &Changed) -> Result<(), AllocError>
-        ensures { OnOk result (Keeps (λ m. is_held m mutexes.now) self.old self.new) }
+    /// The same for each of some places.
+    pub(crate) fn turn_all(&mut self, places: &Changed) -> Result<(), AllocError>
+        ensures keeps { OnOk result (Keeps (is_turned places.now) self.old self.new) }
+        ensures within { StayWithin (is_turned places.now) self.old self.new }
     {
         match self.take() {
             Some(mut first) => {
-                first.turn_all(mutexes)?;
+                first.turn_all(places)?;
                 self.put(first)
             }
             None => Ok(()),
         }
     }
 
-    /// Takes the first set, if there is one: the mutexes in which it differs from what is held, none if there is no set.
-    #[tactic(auto, using(crate::proofs::Stacks::rest_kept, crate::proofs::Stacks::first_taken, crate::proofs::Stacks::nothing_taken))]
+    /// Takes the first set, if there is one: the places in which it differs from what is held, none if there is no set.
+    #[tactic(auto, using(crate::proofs::Stacks::first_taken, crate::proofs::Stacks::nothing_taken, crate::proofs::Stacks::nothing_left))]
     pub(crate) fn pop(&mut self, alloc: Global) -> Result<Changed, AllocError>
-        ensures first { IfOk result (λ first. first ≡ first_apart self.old) }
-        ensures rest { OnOk result ((s : Locks) → behind s self.new ≡ drop 1 (behind s self.old)) }
+        ensures first { IfOk result (λ first. first ≡ first_changes self.old) }
+        ensures rest { OnOk result (Drops self.old self.new) }
+        ensures within { (count : ℕ) → ChangesWithin count self.old → ChangesWithin count self.new }
     {
         match self.take() {
             Some(first) => {
@@ -101,10 +100,10 @@ impl Stack {
         }
     }
 
-    /// One set more, which differs from what is held in these mutexes.
-    #[tactic(auto, using(crate::proofs::Stacks::one_more))]
+    /// One set more, which differs from what is held in these places.
     pub(crate) fn push(&mut self, set: Changed) -> Result<(), AllocError>
-        ensures { OnOk result ((s : Locks) → behind s self.new ≡ apart set s ∷ behind s self.old) }
+        ensures more { OnOk result (Adds set self.old self.new) }
+        ensures within { StayWithin (is_turned set) self.old self.new }
     {
         self.turn_all(&set)?;
         self.put(set)
@@ -113,21 +112,23 @@ impl Stack {
     // The first one, if there is one.
     #[tactic(auto, using(crate::proofs::Stacks::popped))]
     fn first(&self) -> Option<&Changed>
-        ensures { option_copied result ≡ head self.now }
+        ensures { option_copied result ≡ slice_get self.now 0 }
     {
         self.sets.last()
     }
 
     /// Whether there is one.
     pub(crate) fn has_any(&self) -> bool
-        ensures { result ≡ is_some (head self.now) }
+        ensures { result ≡ is_some (slice_get self.now 0) }
     {
         self.first().is_some()
     }
 
     /// Whether what is held is the same as the first set. Without one, it is.
+    #[tactic(auto, using(crate::proofs::Stacks::first_is_none, crate::proofs::Stacks::first_has_some, crate::proofs::Stacks::nothing_taken))]
     pub(crate) fn is_same_at_first(&self) -> bool
-        ensures { (s : Locks) → Ascends s → result ≡ is_same_as (head (behind s self.now)) s }
+        ensures same { result ≡ true → first_changes self.now ≡ [] }
+        ensures others { result ≡ false → ((p : ℕ) × (is_turned (first_changes self.now) p ≡ true)) }
     {
         match self.first() {
             Some(set) => set.is_empty(),

@@ -1,12 +1,20 @@
-use Rattle.std.proofs.Common.{ap, ◌∙◌}
+use Rattle.std.proofs.Common.{length, ap, ◌∙◌}
 use Rattle.lockset_check_held.specs.HeldSets.{forgetting}
-use Rattle.lockset_check_held.specs.Rows.{set_of, sets_of}
-use Rattle.lockset_check_held.proofs.Sets.{forgot}
+use Rattle.lockset_check_held.proofs.Sets.{forgot, kept_rows}
 use Rattle.lockset_check_held.proofs.held.Held.forget.Goals as goal
+
+pub invariant_of-self : goal.invariant_of-self
+invariant_of-self c =
+    let h = c.self.inside in
+    kept_rows h.known.keys h.trail h.needs.items c.self.invariant c.pop.new.self (c.pop.ensures.within (length h.known.keys))
+
+pub invariant_of-self-2 : goal.invariant_of-self-2
+invariant_of-self-2 c =
+    let h = c.self.inside in
+    kept_rows h.known.keys h.trail h.needs.items c.self.invariant c.pop.new.self (c.pop.ensures.within (length h.known.keys))
 
 pub returns : goal.returns
 returns c =
     let h = c.self.inside in
-    let known = h.known.keys in
-    forgot (set_of known h.held) h.since.start h.since.loops h.since.kept c.pop.new.self (sets_of known h.needs.items) c.in_ok-pop.ensures.rest
+    forgot h.known.keys h.trail h.needs.items c.pop.new.self c.in_ok-pop.ensures.rest
     ∙ ap forgetting c.self.view_is

@@ -11,6 +11,6 @@ returns c =
     let w = c.self.invariant in
     let known = h.known.keys in
     let rows = c.as_slice.ensures.value in
-    needs_held known h.held c.as_slice.result.now c.args.place c.has_all_at.result w.0 (subst (AreWithin (length known)) (sym rows) w.2) c.has_all_at.ensures.all c.has_all_at.ensures.others
-    ∙ (ap (λ (rs : List (List ℕ)). are_held (need_at (sets_of known rs) c.args.place) (set_of known h.held)) rows
+    needs_held known h.trail.held c.as_slice.result.now c.args.place c.has_all_at.result w.0 (subst (AreWithin (length known)) (sym rows) w.2) c.has_all_at.ensures.all c.has_all_at.ensures.others
+    ∙ (ap (λ (rs : List (List ℕ)). are_held (need_at (sets_of known rs) c.args.place) (set_of known h.trail.held)) rows
     ∙ ap (λ (sets : HeldSets). are_held (need_at sets.needs c.args.place) sets.held) c.self.view_is)

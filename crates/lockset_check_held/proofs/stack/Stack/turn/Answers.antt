@@ -1,18 +1,31 @@
-use Rattle.std.proofs.Common.{◌≡◌, ℤ, Some, to_z, of_z, rules, subst}
-use Rattle.std.specs.Int.{w128}
-use Rattle.std.specs.Ordering.{int_eq}
+use Rattle.std.proofs.Common.{◌≡◌, Some, None, rules, ◌∙◌}
+use Rattle.std.specs.Prelude.{nat_eq, slice_get}
 use Rattle.std.proofs.lemmas.Result.{on_ok_weaker}
-use Rattle.lockset_check_held.specs.Apart.{Turns}
-use Rattle.lockset_check_held.specs.HeldSets.{head}
-use Rattle.lockset_check_held.proofs.Stacks.{first_kept}
+use Rattle.lockset_check_held.proofs.Changes.{either_way}
+use Rattle.lockset_check_held.proofs.Stacks.{first_kept, first_stays, nothing_kept, rest_stays}
 use Rattle.lockset_check_held.proofs.stack.Stack.turn.Goals as goal
 
-pub returns-in_ok-turn-in-Some : goal.returns-in_ok-turn-in-Some
-returns-in_ok-turn-in-Some c =
-    let m = c.args.mutex in
-    let back : to_z w128 (of_z w128 m) ≡ m = search rules in
-    let first : Some c.in-Some.first ≡ head c.args.self.now = search rules in
-    let turns : Turns (int_eq m) c.in-Some.first c.turn.new.self = subst (λ (v : ℤ). Turns (int_eq v) c.in-Some.first c.turn.new.self) back c.in_ok-turn-in-Some.ensures in
+pub returns-in_ok-turn-in-Some-clause-keeps : goal.returns-in_ok-turn-in-Some-clause-keeps
+returns-in_ok-turn-in-Some-clause-keeps c =
+    let first : Some c.in-Some.first ≡ slice_get c.args.self.now 0 = search rules in
     on_ok_weaker c.put.result
-    (first_kept (int_eq m) c.args.self.now c.take.new.self c.put.new.self c.in-Some.first c.turn.new.self first c.take.ensures.rest turns)
-    c.put.ensures
+    (first_kept (nat_eq c.args.place) c.args.self.now c.take.new.self c.put.new.self c.in-Some.first c.turn.new.self first c.take.ensures.rest c.in_ok-turn-in-Some.ensures.done)
+    c.put.ensures.done
+
+pub returns-in_ok-turn-in-Some-clause-within : goal.returns-in_ok-turn-in-Some-clause-within
+returns-in_ok-turn-in-Some-clause-within c =
+    let first : Some c.in-Some.first ≡ slice_get c.args.self.now 0 = search rules in
+    either_way c.put.result c.put.ensures.done c.put.ensures.err
+    (first_stays (nat_eq c.args.place) c.args.self.now c.take.new.self c.put.new.self c.in-Some.first c.turn.new.self first c.take.ensures.rest c.in_ok-turn-in-Some.ensures.within)
+    (λ e. rest_stays (nat_eq c.args.place) c.args.self.now c.put.new.self (e ∙ c.take.ensures.rest))
+
+pub returns-in_err-turn-in-Some-clause-within : goal.returns-in_err-turn-in-Some-clause-within
+returns-in_err-turn-in-Some-clause-within c = rest_stays (nat_eq c.args.place) c.args.self.now c.take.new.self c.take.ensures.rest
+
+pub returns-in-None-clause-keeps : goal.returns-in-None-clause-keeps
+returns-in-None-clause-keeps c =
+    let none : None ≡ slice_get c.args.self.now 0 = search rules in
+    nothing_kept (nat_eq c.args.place) c.args.self.now c.take.new.self none c.take.ensures.rest
+
+pub returns-in-None-clause-within : goal.returns-in-None-clause-within
+returns-in-None-clause-within c = rest_stays (nat_eq c.args.place) c.args.self.now c.take.new.self c.take.ensures.rest
