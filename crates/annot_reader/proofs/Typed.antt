@@ -34,7 +34,6 @@ module _ (ds : Decls) (p : Program) (s : TypedSource) (t : IsTypedSource ds p s)
   pub is_typed : (hs : List Heading) → All (IsHeading (declared_by s.env)) hs → AreHeadings (declared_by s.env) hs (map (function_in s.env.table) s.functions) → IsTyped s.tree (declared_by s.env) hs ds p
   is_typed hs numbers functions = record {
     holds = t.holds;
-    fits = t.fits;
     env = t.is.env;
     numbers = numbers;
     functions = subst (λ (gs : List Known). AreHeadings (declared_by s.env) hs gs) t.is.functions functions;

@@ -34,11 +34,10 @@ AreHeadings d _ _ = ⊥
 -- the tree is that of a source that is typed as this program, and these are its functions
 pub record IsTyped (N : Nodes) (d : Declared) (hs : List Heading) (ds : Decls) (p : Program) : Type 0 where
   pub holds : Holds N ds
-  pub fits : FitsDecls ds
   pub env : d.env ≡ at_file (tags_of ds) p
   pub numbers : All (IsHeading d) hs
   pub functions : AreHeadings d hs p.functions
 
--- the tree is that of some source
+-- the tree is that of some source whose numbers are such as tokens are
 abbrev pub IsSource : Nodes → Declared → List Heading → Type 0
-IsSource N d hs = (ds : Decls) × (p : Program) × IsTyped N d hs ds p
+IsSource N d hs = (ds : Decls) × (p : Program) × FitsDecls ds × IsTyped N d hs ds p

@@ -8,7 +8,6 @@ use Rattle.c_syntax.specs.declared.id.DeclId.{DeclId}
 use Rattle.c_syntax.specs.Nodes.{Nodes}
 use Rattle.c_syntax.specs.Syntax.{Decl, Decls, NoDecls, MoreDecls}
 use Rattle.c_syntax.specs.Stands.{Holds, StandsDecl, StandDecls}
-use Rattle.c_syntax_laws.specs.Numbers.{FitsDecls}
 use Rattle.c_types_rules.specs.Checked.{Checked, Fine, Noted, Broken, keep, noting, ◌>>=◌, ◌>>◌, Notes}
 use Rattle.c_types_rules.specs.Sources as sources
 use Rattle.c_types_rules.specs.Sources.{Program, at_file, declaration, declarations, has_main, main, nothing, program, tags_of}
@@ -163,7 +162,6 @@ pub typed_here : (N : Nodes) (ds : Decls) (d : Declarations) (texts : List TextL
     → IsTypedSource ds (program_of d) (record { tree = N; env = d.env; functions = d.functions.items; globals = d.globals.items; texts = texts })
 typed_here N ds d texts sound h e = record {
   holds = h.holds;
-  fits = h.fits;
   typed = h.outcome_is ∙ e.0;
   is = record {
     env = sym (at_file_is d sound) ∙ ap (λ t. at_file t (program_of d)) h.tags;
@@ -228,8 +226,8 @@ outcome_is ds d n tags t h e =
     ap (λ c. decided (c >>= last)) begun ∙ noted_on d.env.found_large n.env.found_large n (declarations d.env.env.tags (program_of d) ds) h.small e.agrees
 
 -- all that is declared of a source
-pub declared_in : (N : Nodes) (ds : Decls) (d n : Declarations) (tags : List (List ℕ)) → Holds N ds → FitsDecls ds → tags ≡ tags_of ds → DeclaresNothing tags d → Ends d (declarations d.env.env.tags (program_of d) ds) (Ok n) → IsDeclared N ds n
-declared_in N ds d n tags holds fits t h e = record { holds = holds; fits = fits; tags = e.kept.tags ∙ (ap (λ x. x.tags) h.env ∙ t); outcome_is = outcome_is ds d n tags t h e }
+pub declared_in : (N : Nodes) (ds : Decls) (d n : Declarations) (tags : List (List ℕ)) → Holds N ds → tags ≡ tags_of ds → DeclaresNothing tags d → Ends d (declarations d.env.env.tags (program_of d) ds) (Ok n) → IsDeclared N ds n
+declared_in N ds d n tags holds t h e = record { holds = holds; tags = e.kept.tags ∙ (ap (λ x. x.tags) h.env ∙ t); outcome_is = outcome_is ds d n tags t h e }
 
 pub outcome_stops : (ds : Decls) (d : Declarations) (tags : List (List ℕ)) (texts : List TextLiteral) (N : Nodes) (x : TypeError) → tags ≡ tags_of ds → DeclaresNothing tags d → Ends d (declarations d.env.env.tags (program_of d) ds) (Err x) → IsChecked texts N ds (outcome ds) (Err (by_type_error x))
 unfolding last

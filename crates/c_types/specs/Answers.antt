@@ -35,14 +35,18 @@ which_in numbers.Frame = limits.Frame
 abbrev pub IsChecked : List TextLiteral → Nodes → Decls → Outcome → Result TypedSource CheckError → Type 0
 IsChecked texts N ds o (Err errors.Memory) = Unit {0}
 IsChecked texts N ds (limits.Typed p) (Ok s) = IsTypedSource ds p s × (s.tree ≡ N) × (s.texts ≡ texts)
+IsChecked texts N ds (limits.Typed p) (Err (errors.Rule f r)) = ⊥
+IsChecked texts N ds (limits.Typed p) (Err (errors.Limit v)) = ⊥
+IsChecked texts N ds (limits.Rule from rule) (Ok s) = ⊥
 IsChecked texts N ds (limits.Rule from rule) (Err (errors.Rule f r)) = (f ≡ from) × (r ≡ rule)
+IsChecked texts N ds (limits.Rule from rule) (Err (errors.Limit v)) = ⊥
+IsChecked texts N ds (limits.Limit w) (Ok s) = ⊥
+IsChecked texts N ds (limits.Limit w) (Err (errors.Rule f r)) = ⊥
 IsChecked texts N ds (limits.Limit w) (Err (errors.Limit v)) = which_in v ≡ w
-IsChecked texts N ds _ _ = ⊥
 
 -- all declarations of a source are declared
 pub record IsDeclared (N : Nodes) (ds : Decls) (d : Declarations) : Type 0 where
   pub holds : Holds N ds
-  pub fits : FitsDecls ds
   pub tags : d.env.env.tags ≡ tags_of ds
   pub outcome_is : outcome ds ≡ finished d.env.found_large (program_of d)
 

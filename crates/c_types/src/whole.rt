@@ -51,7 +51,7 @@ fn first_error(declared: &Declarations) -> Option<CheckError>
 // The typed source of all its declarations, which have no error.
 fn source_of(declared: Declarations, tree: Tree, texts: Seq<TextLiteral>) -> TypedSource
     requires sound { IsSound declared }
-    requires declared { (ds : Decls) × IsDeclared tree ds declared }
+    requires declared { (ds : Decls) × FitsDecls ds × IsDeclared tree ds declared }
     requires right { IsFirstError declared None }
     ensures source { (ds : Decls) → IsDeclared tree ds declared →
         IsTypedSource ds (program_of declared) result }
@@ -80,7 +80,7 @@ fn finished(
     texts: Seq<TextLiteral>,
 ) -> Result<TypedSource, CheckError>
     requires sound { IsSound declared }
-    requires declared { (ds : Decls) × IsDeclared tree ds declared }
+    requires declared { (ds : Decls) × FitsDecls ds × IsDeclared tree ds declared }
     ensures { (ds : Decls) → IsDeclared tree ds declared → IsChecked texts tree ds (outcome ds) result }
 {
     match first_error(&declared) {
@@ -112,8 +112,7 @@ pub fn check(alloc: Global, tokens: &[Token], tree: Tree) -> Result<TypedSource,
     // The tree is that of a source whose numbers are such as tokens are.
     requires { IsSource tree }
     // The answer is what the rules and the limits say of the source, with the strings among its tokens.
-    ensures { (ds : Decls) → Holds tree ds → FitsDecls ds →
-        IsChecked (texts_among tokens.now) tree ds (outcome ds) result }
+    ensures { (ds : Decls) → Holds tree ds → IsChecked (texts_among tokens.now) tree ds (outcome ds) result }
 {
     let tags = tags_of(alloc, &tree, tree.top())?;
     let declared = Declarations::new(alloc, tags)?;

@@ -93,10 +93,9 @@ stays_typed s t tags p h k = record {
 pub goes_on : (s t : Parts) (ds : Decls) (p : Program) → IsTypedSource ds p s → GoesOn s t → IsTypedSource ds p t
 goes_on s t ds p h k = record {
   holds = subst (λ N. Holds N ds) (sym k.tree) h.holds;
-  fits = h.fits;
   typed = h.typed;
   is = stays_typed s t _ p h.is k;
 }
 
 pub stays_right : (s t : Parts) → IsRight s → GoesOn s t → IsRight t
-stays_right s t (ds, p, h) k = (ds, p, goes_on s t ds p h k)
+stays_right s t (ds, p, f, h) k = (ds, p, f, goes_on s t ds p h k)

@@ -30,13 +30,12 @@ pub record IsTypedAs (tags : List (List ℕ)) (p : Program) (s : Parts) : Type 0
 -- program
 pub record IsTypedSource (ds : Decls) (p : Program) (s : Parts) : Type 0 where
   pub holds : Holds s.tree ds
-  pub fits : FitsDecls ds
   pub typed : outcome ds ≡ Typed p
   pub is : IsTypedAs (tags_of ds) p s
 
--- the parts are those of some such source
+-- the parts are those of some such source, whose numbers are such as tokens are
 abbrev pub IsRight : Parts → Type 0
-IsRight s = (ds : Decls) × (p : Program) × IsTypedSource ds p s
+IsRight s = (ds : Decls) × (p : Program) × FitsDecls ds × IsTypedSource ds p s
 
 -- all numbers stand for what they did, and all else is as it was
 pub record GoesOn (old new : Parts) : Type 0 where

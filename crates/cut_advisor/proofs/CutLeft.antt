@@ -1,5 +1,5 @@
 -- The declarations that are left decide which cuts a source names.
-use Rattle.std.proofs.Common.{◌≡◌, ◌⊎◌, inl, inr, ℕ, zero, suc, ◌+◌, ◌<◌, ◌≤◌, Bool, true, false, List, [], ◌∷◌, ◌++◌, length, get_or, drop, refl, sym, ap, ◌∙◌, subst, add-one, drop-cons, length-append, arith}
+use Rattle.std.proofs.Common.{◌≡◌, ◌⊎◌, inl, inr, ℕ, zero, suc, ◌+◌, ◌<◌, ◌≤◌, Bool, true, false, List, [], ◌∷◌, length, get_or, drop, refl, sym, ap, ◌∙◌, subst, add-one, drop-cons, length-append, arith}
 use Rattle.std.proofs.Math.ListN.{drop_of_length-le}
 use Rattle.c_syntax.specs.declared.id.DeclId.{DeclId}
 use Rattle.c_syntax.specs.Nodes.{Nodes}
@@ -9,7 +9,7 @@ use Rattle.c_types_rules.specs.Checked.{Checked, Fine, Noted, Broken, Notes as N
 use Rattle.c_types_rules.specs.Environment.{Environment}
 use Rattle.c_types_rules.specs.Sources.{Program, at_file, tags_of}
 use Rattle.annot_reader_rules.specs.Cuts.{all_noted, annotations, noted}
-use Rattle.annot_reader_rules.specs.Notes.{Annotated, Notes}
+use Rattle.annot_reader_rules.specs.Notes.{Annotated}
 use Rattle.annot_reader_words.specs.Shown.{IsDecl}
 use Rattle.annot_reader.proofs.FunctionTypes.{AreFunctionTypes}
 use Rattle.cut_advisor.specs.CutNames.{AreCuts, cuts_of, with_names}

@@ -1,12 +1,12 @@
 -- Whether a declaration is the first of a function, by its node.
-use Rattle.std.proofs.Common.{◌≡◌, ℕ, Bool, false, if◌then◌else◌, List, length, map, Option, refl, sym, ap, ◌∙◌}
+use Rattle.std.proofs.Common.{◌≡◌, ℕ, Bool, false, if◌then◌else◌, List, length, Option, sym, ap, ◌∙◌}
 use Rattle.std.proofs.lemmas.List.{length-map}
 use Rattle.c_scopes.specs.Scopes.{innermost, meaning_in}
 use Rattle.c_syntax.specs.declared.declaration.Decl.{Decl as DeclNode}
 use Rattle.c_syntax.specs.Nodes.{Nodes}
 use Rattle.c_syntax.specs.Syntax.{Decl, Decls, Declare, NoRest, Initial, Body, Members}
 use Rattle.c_types_rules.specs.Expressions.{declared_name}
-use Rattle.c_types_rules.specs.Sources.{Function, Program}
+use Rattle.c_types_rules.specs.Sources.{Program}
 use Rattle.c_types_program.specs.Declarations.{function_in as function_by}
 use Rattle.c_types_source.specs.declared.parts.Parts.{Parts as TypedSource}
 use Rattle.c_types_source.specs.Sources.{IsTypedSource}

@@ -1,10 +1,10 @@
 -- One declaration more of a source: the first of a function, or another.
-use Rattle.std.proofs.Common.{◌≡◌, ℕ, zero, suc, ◌-◌, ◌<◌, ◌≤◌, nat_lt, Bool, true, false, not, ◌&&◌, if◌then◌else◌, List, [], ◌∷◌, ◌++◌, length, Option, Some, None, refl, sym, ap, subst, arith}
+use Rattle.std.proofs.Common.{◌≡◌, ℕ, zero, suc, ◌-◌, ◌<◌, ◌≤◌, nat_lt, Bool, true, false, not, ◌&&◌, if◌then◌else◌, List, [], ◌∷◌, ◌++◌, length, Option, Some, None, refl, sym, subst, arith}
 use Rattle.std.proofs.lemmas.Bool.{le-ltb, lt-ltb}
 use Rattle.c_scopes.specs.Scopes.{meaning_in}
 use Rattle.c_syntax.specs.Syntax.{Decl, Declare, NoRest, Initial, Body, Members}
 use Rattle.c_types_model.specs.Types.{CType, Void, Integer, PointerTo, ArrayOf, StructOf, UndefinedStruct, FunctionOf}
-use Rattle.c_types_rules.specs.Checked.{Checked, Fine, ◌>>=◌, ◌>>◌}
+use Rattle.c_types_rules.specs.Checked.{Fine, ◌>>◌}
 use Rattle.c_types_rules.specs.Environment.{Environment, Meaning, FunctionNamed, GlobalNamed, LocalNamed}
 use Rattle.c_types_rules.specs.Expressions.{declared_name}
 use Rattle.c_types_rules.specs.Sources.{Function, Program}

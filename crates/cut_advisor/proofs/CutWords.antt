@@ -1,5 +1,5 @@
 -- The cuts that are noted of a function are those that its annotations name.
-use Rattle.std.proofs.Common.{◌≡◌, ℕ, Bool, true, false, not, ◌||◌, if◌then◌else◌, List, [], ◌∷◌, ◌++◌, codes, is_none, Option, Some, None, refl, sym, ap, ◌∙◌, subst, append_assoc}
+use Rattle.std.proofs.Common.{◌≡◌, ℕ, Bool, true, false, not, ◌||◌, if◌then◌else◌, List, [], ◌∷◌, ◌++◌, codes, is_none, Option, Some, refl, ap, ◌∙◌, subst, append_assoc}
 use Rattle.c_scopes.specs.Scopes.{same_name}
 use Rattle.c_syntax.specs.Syntax.{Annot, Annots, Annotate, Decl, Declare, Items, Item, MoreAnnots, MoreItems, NoAnnots, NoItems, OneFactor, TwoFactors, NameAtom, NumberAtom, ReturnAtom, SizeofAtom}
 use Rattle.c_types_model.specs.Types.{CType, CTypes}

@@ -1,6 +1,6 @@
 -- What one declaration more puts.
 use Rattle.std.specs.Prelude.{◌≡◌, ℕ, ◌+◌, Bool, true, false, if◌then◌else◌, List, [], ◌∷◌, ◌++◌, codes}
-use Rattle.c_syntax.specs.Syntax.{Decl, Declare, Annots, Annot, Annotate, Items, Item, OneFactor, TwoFactors, NameAtom, NumberAtom, ReturnAtom, SizeofAtom, Atom, NoAnnots, MoreAnnots, NoItems, MoreItems}
+use Rattle.c_syntax.specs.Syntax.{Decl, Declare, Annots, Annot, Annotate, Items, Item, OneFactor, TwoFactors, NameAtom, NumberAtom, ReturnAtom, SizeofAtom, NoAnnots, MoreAnnots, NoItems, MoreItems}
 use Rattle.c_scopes.specs.Scopes.{same_name}
 use Rattle.c_types_rules.specs.Sources.{Program}
 use Rattle.cut_advisor.specs.CutNames.{with_names}

@@ -1,6 +1,6 @@
 //! All names of cuts.
 
-ghost use Rattle.std.specs.Prelude.{◌≡◌, ◌<◌, length, map, true, IfOk, OnOk};
+ghost use Rattle.std.specs.Prelude.{◌≡◌, ◌<◌, length, true, IfOk, OnOk};
 ghost use Rattle.c_syntax.specs.Nodes.{decl_at};
 ghost use Rattle.c_syntax.specs.Stands.{StandsDecl};
 ghost use Rattle.c_syntax.specs.Syntax.{Decl as Declared, Decls};

@@ -6,7 +6,6 @@ ghost use Rattle.c_lexer.specs.declared.token.Token.{Token as Lexed};
 ghost use Rattle.c_syntax.specs.Stands.{Holds};
 ghost use Rattle.c_syntax.specs.Syntax.{Decls};
 ghost use Rattle.c_parser.specs.Parsed.{IsCounted};
-ghost use Rattle.c_syntax_laws.specs.Numbers.{FitsDecls};
 ghost use Rattle.c_types.specs.Answers.{IsSource as IsFit};
 ghost use Rattle.c_types.specs.Texts.{texts_among};
 ghost use Rattle.front_end.specs.Answers.{IsChecked, IsRead, IsSourceError, IsTyped};
@@ -78,8 +77,8 @@ fn tree_of(alloc: Global, tokens: Vec<Token>) -> Result<(Parsed, Vec<Token>), So
 // What the source is by its types.
 fn typed(alloc: Global, tokens: &[Token], tree: Tree) -> Result<TypedSource, SourceError>
     requires { IsFit tree }
-    ensures typed { (ds : Decls) → Holds tree ds → FitsDecls ds → IfOk result (IsTyped tokens.now ds) }
-    ensures refused { (bytes cut : List ℕ) (ds : Decls) → Holds tree ds → FitsDecls ds → IsSource bytes ds →
+    ensures typed { (ds : Decls) → Holds tree ds → IfOk result (IsTyped tokens.now ds) }
+    ensures refused { (bytes cut : List ℕ) (ds : Decls) → Holds tree ds → IsSource bytes ds →
         IfErr result (IsSourceError bytes cut) }
 {
     match check(alloc, tokens, tree) {

@@ -17,20 +17,20 @@ use Rattle.annot_reader.proofs.cut.interface_of.Goals as goal
 pub headings_of-requires : goal.headings_of-requires
 headings_of-requires c =
     let s = c.into_parts-tree.result in
-    let (ds, p, h) = c.into_parts-tree.ensures.right in
+    let (ds, p, f, h) = c.into_parts-tree.ensures.right in
     let t = subst (IsTypedSource ds p) (sym c.into_parts-tree.ensures.parts) h in
     subst (λ (fs : List Function). All (IsTypedFunction s.env.table) fs) (sym c.as_slice.ensures.items) (all_typed ds p s t)
 
 pub interface-requires : goal.interface-requires
 interface-requires c =
     let s = c.into_parts-tree.result in
-    let (ds, p, h) = c.into_parts-tree.ensures.right in
+    let (ds, p, f, h) = c.into_parts-tree.ensures.right in
     let t = subst (IsTypedSource ds p) (sym c.into_parts-tree.ensures.parts) h in
     let declared = declared_by s.env in
     let read = subst (λ (fs : List Function). AreHeadings declared c.in_ok-headings.headings.items (map (function_in s.env.table) fs)) c.as_slice.ensures.items c.in_ok-headings.ensures.functions in
     let numbers = subst (λ (hs : List Heading). All (IsHeading declared) hs) (sym c.as_slice-2.ensures.value) c.in_ok-headings.ensures.numbers in
     let functions = subst (λ (hs : List Heading). AreHeadings declared hs (map (function_in s.env.table) s.functions)) (sym c.as_slice-2.ensures.value) read in
-    (ds, p, is_typed ds p s t c.as_slice-2.result.now numbers functions)
+    (ds, p, f, is_typed ds p s t c.as_slice-2.result.now numbers functions)
 
 pub returns-in_err-iface-clause-interface : goal.returns-in_err-iface-clause-interface
 returns-in_err-iface-clause-interface c = λ ds p h.
@@ -46,9 +46,9 @@ returns-in_err-iface-clause-interface c = λ ds p h.
 pub new-source-requires : goal.new-source-requires
 new-source-requires c =
     let s = c.into_parts-tree.result in
-    let (ds, p, h) = c.into_parts-tree.ensures.right in
+    let (ds, p, f, h) = c.into_parts-tree.ensures.right in
     let t = subst (IsTypedSource ds p) (sym c.into_parts-tree.ensures.parts) h in
-    stays_right s (record s { env = c.interface.new.env }) (ds, p, t) (goes_on s c.interface.new.env (kept_there _ _ c.in_ok-iface.ensures.kept))
+    stays_right s (record s { env = c.interface.new.env }) (ds, p, f, t) (goes_on s c.interface.new.env (kept_there _ _ c.in_ok-iface.ensures.kept))
 
 pub returns-clause-interface : goal.returns-clause-interface
 returns-clause-interface c = λ ds p h.

@@ -10,10 +10,10 @@ use Rattle.annot_reader_functions.specs.Seen.{declared_by}
 use Rattle.annot_reader.proofs.interface.interface.Goals as goal
 
 pub read-requires-clause-ids : goal.read-requires-clause-ids
-read-requires-clause-ids c = let (ds, p, t) = c.requires in subst (λ (is : List DeclId). AreDecls c.args.source.now.tree.now is) (sym c.top.ensures.tops) (ds, t.holds, t.fits)
+read-requires-clause-ids c = let (ds, p, f, t) = c.requires in subst (λ (is : List DeclId). AreDecls c.args.source.now.tree.now is) (sym c.top.ensures.tops) (ds, t.holds, f)
 
 pub read-requires-clause-numbers : goal.read-requires-clause-numbers
-read-requires-clause-numbers c = let (ds, p, t) = c.requires in t.numbers
+read-requires-clause-numbers c = let (ds, p, f, t) = c.requires in t.numbers
 
 pub returns-in_err-reading-clause-interface : goal.returns-in_err-reading-clause-interface
 returns-in_err-reading-clause-interface c = λ ds p t.

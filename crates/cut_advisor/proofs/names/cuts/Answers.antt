@@ -1,4 +1,4 @@
-use Rattle.std.proofs.Common.{◌≡◌, sym, ap, ◌∙◌, subst, refl, arith}
+use Rattle.std.proofs.Common.{sym, ap, ◌∙◌, subst}
 use Rattle.c_syntax.specs.declared.id.DeclId.{DeclId}
 use Rattle.c_syntax.specs.Stands.{StandDecls}
 use Rattle.c_types_rules.specs.Sources.{at_file, tags_of}
@@ -22,7 +22,7 @@ loop-id-init c = record {
 
 pub put_declared-requires-clause-id : goal.put_declared-requires-clause-id
 put_declared-requires-clause-id c =
-    let (ds, p, t) = c.tree.ensures.right in
+    let (ds, p, f, t) = c.tree.ensures.right in
     let N = c.args.source.now.tree in
     one_of N c.top-id-items.result.now ds c.loop-id.id-index none (subst (λ is. StandDecls N is ds) (sym (c.top-id-items.ensures.tops ∙ ap (λ M. M.tops) c.tree.ensures.tree)) t.holds) c.loop-id-test.true
 

@@ -1,4 +1,4 @@
-use Rattle.std.proofs.Common.{◌≡◌, Some, sym, ap, ◌∙◌, subst}
+use Rattle.std.proofs.Common.{sym, ap, ◌∙◌, subst}
 use Rattle.c_syntax.specs.Nodes.{decl_at}
 use Rattle.cut_advisor.specs.CutNames.{with_names}
 use Rattle.cut_advisor.specs.CutNodes.{AreAmong, IsPut, names_at, names_by_annots, texts_of}

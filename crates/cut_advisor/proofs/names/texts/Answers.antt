@@ -1,4 +1,4 @@
-use Rattle.std.proofs.Common.{◌≡◌, ◌+◌, ◌++◌, drop, sym, ap, ◌∙◌, subst, arith}
+use Rattle.std.proofs.Common.{◌≡◌, ◌+◌, ◌++◌, drop, sym, ◌∙◌, subst, arith}
 use Rattle.cut_advisor.specs.CutNodes.{texts_of}
 use Rattle.cut_advisor.proofs.CutLists.{text_end, text_next}
 use Rattle.cut_advisor.proofs.names.texts.Goals as goal

@@ -1,4 +1,4 @@
-use Rattle.std.proofs.Common.{◌≡◌, sym, ap, ◌∙◌}
+use Rattle.std.proofs.Common.{sym, ap, ◌∙◌}
 use Rattle.cut_advisor.specs.CutNodes.{texts_of}
 use Rattle.cut_advisor.proofs.CutLists.{put_new, put_there}
 use Rattle.cut_advisor.proofs.put.put_name.Goals as goal

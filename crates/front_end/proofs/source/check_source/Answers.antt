@@ -25,7 +25,7 @@ returns-in_err-source c =
     let lexed = c.in_ok-tokens.ensures.tokens in
     let p = c.in_ok-parsed.ensures.tree in
     subst (IsChecked c.args.bytes.now c.args.cut.now) (sym (e.1 ∙ ap Err e.2))
-    (c.in_err-source.ensures.refused c.args.bytes.now c.args.cut.now p.0 p.3.0 (c.numbers_fit.ensures c.args.bytes.now c.in_ok-tokens.tokens.items p.0 lexed p.1) (source_of c.args.bytes.now c.in_ok-tokens.tokens.items c.in_ok-parsed.parsed lexed p))
+    (c.in_err-source.ensures.refused c.args.bytes.now c.args.cut.now p.0 p.3.0 (source_of c.args.bytes.now c.in_ok-tokens.tokens.items c.in_ok-parsed.parsed lexed p))
 
 pub returns-in_err-program : goal.returns-in_err-program
 returns-in_err-program c =
@@ -36,7 +36,7 @@ returns-in_err-program c =
     let p = c.in_ok-parsed.ensures.tree in
     let source = source_of bytes ts q lexed p in
     let t =
-    typed_by c.in_ok-parsed.ensures.strings (subst (λ (v : List Token). IsTyped v p.0 c.in_ok-source.source) c.deref.ensures.value (c.in_ok-source.ensures.typed p.0 p.3.0 (c.numbers_fit.ensures bytes ts p.0 lexed p.1)))
+    typed_by c.in_ok-parsed.ensures.strings (subst (λ (v : List Token). IsTyped v p.0 c.in_ok-source.source) c.deref.ensures.value (c.in_ok-source.ensures.typed p.0 p.3.0))
     in
     let e = err_from_is_err_and c.from_residual-in_err-program.result c.from_residual-in_err-program.ensures.1 in
     subst (IsChecked bytes c.args.cut.now) (sym (e.1 ∙ ap Err e.2)) (c.in_err-program.ensures bytes p.0 source t)
@@ -50,7 +50,7 @@ code_of-requires c =
     let p = c.in_ok-parsed.ensures.tree in
     let source = source_of bytes ts q lexed p in
     let t =
-    typed_by c.in_ok-parsed.ensures.strings (subst (λ (v : List Token). IsTyped v p.0 c.in_ok-source.source) c.deref.ensures.value (c.in_ok-source.ensures.typed p.0 p.3.0 (c.numbers_fit.ensures bytes ts p.0 lexed p.1)))
+    typed_by c.in_ok-parsed.ensures.strings (subst (λ (v : List Token). IsTyped v p.0 c.in_ok-source.source) c.deref.ensures.value (c.in_ok-source.ensures.typed p.0 p.3.0))
     in
     let reads = c.in_ok-program.ensures bytes p.0 source t in
     let texts : length c.in_ok-program.program.texts ≤ length ts = omega (arith, ap length (reads.1 ∙ t.texts), few_texts ts) in
@@ -68,7 +68,7 @@ returns-in_err-code c =
     let p = c.in_ok-parsed.ensures.tree in
     let source = source_of bytes ts q lexed p in
     let t =
-    typed_by c.in_ok-parsed.ensures.strings (subst (λ (v : List Token). IsTyped v p.0 c.in_ok-source.source) c.deref.ensures.value (c.in_ok-source.ensures.typed p.0 p.3.0 (c.numbers_fit.ensures bytes ts p.0 lexed p.1)))
+    typed_by c.in_ok-parsed.ensures.strings (subst (λ (v : List Token). IsTyped v p.0 c.in_ok-source.source) c.deref.ensures.value (c.in_ok-source.ensures.typed p.0 p.3.0))
     in
     let reads = c.in_ok-program.ensures bytes p.0 source t in
     let e = err_from_is_err_and c.from_residual-in_err-code.result c.from_residual-in_err-code.ensures.1 in
@@ -85,7 +85,7 @@ returns c =
     let p = c.in_ok-parsed.ensures.tree in
     let source = source_of bytes ts q lexed p in
     let t =
-    typed_by c.in_ok-parsed.ensures.strings (subst (λ (v : List Token). IsTyped v p.0 c.in_ok-source.source) c.deref.ensures.value (c.in_ok-source.ensures.typed p.0 p.3.0 (c.numbers_fit.ensures bytes ts p.0 lexed p.1)))
+    typed_by c.in_ok-parsed.ensures.strings (subst (λ (v : List Token). IsTyped v p.0 c.in_ok-source.source) c.deref.ensures.value (c.in_ok-source.ensures.typed p.0 p.3.0))
     in
     let reads = c.in_ok-program.ensures bytes p.0 source t in
     accepted bytes c.args.cut.now p.0 c.in_ok-source.source (record { program = c.in_ok-program.program; interface = c.in_ok-program.interface; code = c.in_ok-code.code }) source t

@@ -6,11 +6,11 @@ use Rattle.front_end.proofs.Refusals.{by_typing, program_of}
 use Rattle.front_end.proofs.source.typed.Goals as goal
 
 pub returns-in-Err-clause-refused : goal.returns-in-Err-clause-refused
-returns-in-Err-clause-refused c = λ bytes cut ds holds fits source.
+returns-in-Err-clause-refused c = λ bytes cut ds holds source.
     subst (λ (e : SourceError). IsSourceError bytes cut e) (sym c.from.ensures)
-    (by_typing bytes cut ds (texts_among c.args.tokens.now) c.args.tree c.in-Err.error source (c.in-Err.ensures ds holds fits))
+    (by_typing bytes cut ds (texts_among c.args.tokens.now) c.args.tree c.in-Err.error source (c.in-Err.ensures ds holds))
 
 pub returns-in-Ok-clause-typed : goal.returns-in-Ok-clause-typed
-returns-in-Ok-clause-typed c = λ ds holds fits.
-    let p = program_of ds (texts_among c.args.tokens.now) c.args.tree c.in-Ok.source (c.in-Ok.ensures ds holds fits) in
+returns-in-Ok-clause-typed c = λ ds holds.
+    let p = program_of ds (texts_among c.args.tokens.now) c.args.tree c.in-Ok.source (c.in-Ok.ensures ds holds) in
     record { program = p.0; is = p.1; texts = p.2 }
