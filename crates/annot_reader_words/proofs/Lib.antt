@@ -7,9 +7,7 @@ mod Globals
 mod Later
 mod CutNames
 pub mod Composing
-mod Values
 mod Sayings
-mod Endings
 mod Heights
 mod Walking
 pub mod Loops

@@ -1,6 +1,6 @@
 -- A loop that puts what each item gives after a list: what is left to be put after still makes the whole.
 use Rattle.std.proofs.Common.{◌≡◌, ℕ, ◌+◌, ◌<◌, List, ◌∷◌, ◌++◌, length, get_or, drop, drop-cons, add-one, suc, append_assoc, arith, sym, ap}
-use Rattle.annot_reader_words.specs.declared.node.Node.{Node}
+use Rattle.c_syntax_laws.specs.declared.node.Node.{Node}
 
 pub next : {A : Type 0} (f : A → List Node) (all : List A → List Node) → ((x : A) (ys : List A) → all (x ∷ ys) ≡ f x ++ all ys) → (xs : List A) (x : A) (now then whole : List Node) (i : ℕ) → i < length xs → x ≡ get_or xs i x → then ≡ now ++ f x → now ++ all (drop i xs) ≡ whole → then ++ all (drop (i + 1) xs) ≡ whole
 next f all step xs x now then whole i h g e inv =

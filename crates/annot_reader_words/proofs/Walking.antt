@@ -3,9 +3,9 @@ use Rattle.std.proofs.Common.{◌≡◌, ℕ, suc, ◌+◌, ◌<◌, List, [], �
 use Rattle.c_syntax.specs.Nodes.{Nodes}
 use Rattle.c_types_rules.specs.Checked.{Checked, Fine, ◌>>◌}
 use Rattle.annot_reader_words.specs.declared.error.AnnotationError.{AnnotationError}
-use Rattle.annot_reader_words.specs.declared.node.Node.{Node}
+use Rattle.c_syntax_laws.specs.declared.node.Node.{Node}
 use Rattle.annot_reader_words.specs.Answers.{Passes, Unsaid}
-use Rattle.annot_reader_words.specs.Held.{held}
+use Rattle.c_syntax_laws.specs.Named.{named_by}
 use Rattle.annot_reader_words.specs.Sayings.{AllSay, AreNodes, IsNode, Says, own}
 use Rattle.annot_reader_words.proofs.Composing.{goes_on, same_tells, stops_there}
 use Rattle.annot_reader_words.proofs.Sayings.{below}
@@ -54,11 +54,11 @@ pub at_end : (N : Nodes) (c : Said) → Decide N [] c → Passes c (Ok tt)
 at_end N c (d, s, f) = f (Ok tt) (same_tells Unsaid d (Fine tt) (Ok tt) s tt)
 
 -- what a node names are nodes
-pub named_nodes : (N : Nodes) (v : Node) → IsNode N v → AreNodes N (held N v)
+pub named_nodes : (N : Nodes) (v : Node) → IsNode N v → AreNodes N (named_by N v)
 named_nodes N v (c, h) = let b = below N v c h in (b.0, b.1)
 
 -- what is found below a node that has no annotation of its own is what is found there
-pub found_below : (N : Nodes) (v : Node) (c : Said) (r : Answer) → Says N v c → Passes (own N v) (Ok tt) → ((d : Said) → AllSay N (held N v) d → Passes d r) → Passes c r
+pub found_below : (N : Nodes) (v : Node) (c : Said) (r : Answer) → Says N v c → Passes (own N v) (Ok tt) → ((d : Said) → AllSay N (named_by N v) d → Passes d r) → Passes c r
 found_below N v c r h o f =
     let b = below N v c h in
     same_tells Unsaid c (own N v >> b.0) r b.2 (goes_on Unsaid Unsaid (own N v) b.0 tt r o (f b.0 b.1))

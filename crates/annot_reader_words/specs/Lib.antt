@@ -3,7 +3,6 @@ pub mod Readings
 pub mod Items
 pub mod Steps
 pub mod Shown
-pub mod Held
 pub mod Answers
 pub mod Sayings
 pub mod Places

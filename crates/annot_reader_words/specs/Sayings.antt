@@ -7,8 +7,8 @@ use Rattle.c_syntax.specs.Syntax.{Expr, Stmt, Decl}
 use Rattle.c_syntax.specs.Stands.{Stands, StandsStmt, StandsDecl}
 use Rattle.c_types_rules.specs.Checked.{Checked, Fine, Broken, ◌>>◌}
 use Rattle.annot_reader_rules.specs.Misplaced.{bare, bare_decl, bare_stmt}
-use Rattle.annot_reader_words.specs.declared.node.Node.{Node}
-use Rattle.annot_reader_words.specs.declared.node.Node.TheVariants as nodes
+use Rattle.c_syntax_laws.specs.declared.node.Node.{Node}
+use Rattle.c_syntax_laws.specs.declared.node.Node.TheVariants as nodes
 
 -- the number stands for a part of a source, of which this is said
 abbrev pub Says : Nodes → Node → Checked (Unit {0}) → Type 0

@@ -1,17 +1,17 @@
 //! Which nodes a node names, in the order of the source.
 
 ghost use Rattle.std.specs.Prelude.{◌≡◌, ◌++◌, OnOk};
-ghost use Rattle.annot_reader_words.specs.Held.{held_decls, held_exprs, held_in_annots, held_in_expr, held_in_first, held_in_entries, held_in_items, held_in_parts, held_in_rest, held_in_stmt, held_in_value, held_maybe, held_in_second, held_in_decl, held_in_atom, held_in_entry, held_in_item, held_in_part, held_in_choice};
+ghost use Rattle.c_syntax_laws.specs.Named.{by_decls, by_exprs, by_annots, by_expr, by_first, by_entries, by_items, by_parts, by_rest, by_stmt, by_value, by_maybe, by_second, by_decl, by_atom, by_entry, by_item, by_kind, by_choice};
 
-use crate::node::Node;
 use c_syntax::{
     Annot, Atom, Decl, DeclId, Entry, ExprId, ExprKind, First, Item, Part, PartKind, Rest, StmtId,
     StmtKind, Value,
 };
+use c_syntax_laws::Node;
 use std::alloc::AllocError;
 
 fn exprs(ids: &[ExprId], held: &mut Vec<Node>) -> Result<(), AllocError>
-    ensures { OnOk result (held.new.items ≡ held.old.items ++ held_exprs ids.now) }
+    ensures { OnOk result (held.new.items ≡ held.old.items ++ by_exprs ids.now) }
 {
     for id in ids {
         held.push(Node::Expr(*id))?;
@@ -20,7 +20,7 @@ fn exprs(ids: &[ExprId], held: &mut Vec<Node>) -> Result<(), AllocError>
 }
 
 fn maybe(id: Option<ExprId>, held: &mut Vec<Node>) -> Result<(), AllocError>
-    ensures { OnOk result (held.new.items ≡ held.old.items ++ held_maybe id) }
+    ensures { OnOk result (held.new.items ≡ held.old.items ++ by_maybe id) }
 {
     let Some(id) = id else {
         return Ok(());
@@ -31,7 +31,7 @@ fn maybe(id: Option<ExprId>, held: &mut Vec<Node>) -> Result<(), AllocError>
 
 /// The declarations.
 pub fn decls(ids: &[DeclId], held: &mut Vec<Node>) -> Result<(), AllocError>
-    ensures { OnOk result (held.new.items ≡ held.old.items ++ held_decls ids.now) }
+    ensures { OnOk result (held.new.items ≡ held.old.items ++ by_decls ids.now) }
 {
     for id in ids {
         held.push(Node::Decl(*id))?;
@@ -41,7 +41,7 @@ pub fn decls(ids: &[DeclId], held: &mut Vec<Node>) -> Result<(), AllocError>
 
 /// What an expression names.
 pub fn in_expr(kind: &ExprKind, held: &mut Vec<Node>) -> Result<(), AllocError>
-    ensures { OnOk result (held.new.items ≡ held.old.items ++ held_in_expr kind.now) }
+    ensures { OnOk result (held.new.items ≡ held.old.items ++ by_expr kind.now) }
 {
     match kind {
         ExprKind::Name(_) | ExprKind::Number { .. } | ExprKind::Char(_) | ExprKind::Text(_) => Ok(
@@ -70,7 +70,7 @@ pub fn in_expr(kind: &ExprKind, held: &mut Vec<Node>) -> Result<(), AllocError>
 }
 
 fn in_atom(atom: &Atom, held: &mut Vec<Node>) -> Result<(), AllocError>
-    ensures { OnOk result (held.new.items ≡ held.old.items ++ held_in_atom atom.now) }
+    ensures { OnOk result (held.new.items ≡ held.old.items ++ by_atom atom.now) }
 {
     match atom {
         Atom::Sizeof(of) => decls(&[*of], held),
@@ -79,7 +79,7 @@ fn in_atom(atom: &Atom, held: &mut Vec<Node>) -> Result<(), AllocError>
 }
 
 fn in_item(item: &Item, held: &mut Vec<Node>) -> Result<(), AllocError>
-    ensures { OnOk result (held.new.items ≡ held.old.items ++ held_in_item item.now) }
+    ensures { OnOk result (held.new.items ≡ held.old.items ++ by_item item.now) }
 {
     in_atom(&item.a, held)?;
     match &item.b {
@@ -89,7 +89,7 @@ fn in_item(item: &Item, held: &mut Vec<Node>) -> Result<(), AllocError>
 }
 
 fn in_items(items: &[Item], held: &mut Vec<Node>) -> Result<(), AllocError>
-    ensures { OnOk result (held.new.items ≡ held.old.items ++ held_in_items items.now) }
+    ensures { OnOk result (held.new.items ≡ held.old.items ++ by_items items.now) }
 {
     for item in items {
         in_item(item, held)?;
@@ -99,7 +99,7 @@ fn in_items(items: &[Item], held: &mut Vec<Node>) -> Result<(), AllocError>
 
 /// What annotations name.
 pub fn in_annots(annots: &[Annot], held: &mut Vec<Node>) -> Result<(), AllocError>
-    ensures { OnOk result (held.new.items ≡ held.old.items ++ held_in_annots annots.now) }
+    ensures { OnOk result (held.new.items ≡ held.old.items ++ by_annots annots.now) }
 {
     for annot in annots {
         in_items(annot.items.as_slice(), held)?;
@@ -108,7 +108,7 @@ pub fn in_annots(annots: &[Annot], held: &mut Vec<Node>) -> Result<(), AllocErro
 }
 
 fn in_part(part: &PartKind, held: &mut Vec<Node>) -> Result<(), AllocError>
-    ensures { OnOk result (held.new.items ≡ held.old.items ++ held_in_part part.now) }
+    ensures { OnOk result (held.new.items ≡ held.old.items ++ by_kind part.now) }
 {
     match part {
         PartKind::Pointer => Ok(()),
@@ -119,7 +119,7 @@ fn in_part(part: &PartKind, held: &mut Vec<Node>) -> Result<(), AllocError>
 
 /// What the parts of a declarator name.
 pub fn in_parts(parts: &[Part], held: &mut Vec<Node>) -> Result<(), AllocError>
-    ensures { OnOk result (held.new.items ≡ held.old.items ++ held_in_parts parts.now) }
+    ensures { OnOk result (held.new.items ≡ held.old.items ++ by_parts parts.now) }
 {
     for part in parts {
         in_part(&part.kind, held)?;
@@ -128,7 +128,7 @@ pub fn in_parts(parts: &[Part], held: &mut Vec<Node>) -> Result<(), AllocError>
 }
 
 fn in_value(value: &Value, held: &mut Vec<Node>) -> Result<(), AllocError>
-    ensures { OnOk result (held.new.items ≡ held.old.items ++ held_in_value value.now) }
+    ensures { OnOk result (held.new.items ≡ held.old.items ++ by_value value.now) }
 {
     match value {
         Value::Plain(id) => exprs(&[*id], held),
@@ -143,7 +143,7 @@ fn in_value(value: &Value, held: &mut Vec<Node>) -> Result<(), AllocError>
 
 /// What stands after a declarator.
 pub fn in_rest(rest: &Rest, held: &mut Vec<Node>) -> Result<(), AllocError>
-    ensures { OnOk result (held.new.items ≡ held.old.items ++ held_in_rest rest.now) }
+    ensures { OnOk result (held.new.items ≡ held.old.items ++ by_rest rest.now) }
 {
     match rest {
         Rest::None => Ok(()),
@@ -158,7 +158,7 @@ pub fn in_rest(rest: &Rest, held: &mut Vec<Node>) -> Result<(), AllocError>
 
 /// What a declaration names.
 pub fn in_decl(decl: &Decl, held: &mut Vec<Node>) -> Result<(), AllocError>
-    ensures { OnOk result (held.new.items ≡ held.old.items ++ held_in_decl decl.now) }
+    ensures { OnOk result (held.new.items ≡ held.old.items ++ by_decl decl.now) }
 {
     in_annots(decl.annots.as_slice(), held)?;
     in_parts(decl.parts.as_slice(), held)?;
@@ -166,7 +166,7 @@ pub fn in_decl(decl: &Decl, held: &mut Vec<Node>) -> Result<(), AllocError>
 }
 
 fn in_entry(entry: &Entry, held: &mut Vec<Node>) -> Result<(), AllocError>
-    ensures { OnOk result (held.new.items ≡ held.old.items ++ held_in_entry entry.now) }
+    ensures { OnOk result (held.new.items ≡ held.old.items ++ by_entry entry.now) }
 {
     match entry {
         Entry::Local(locals) => decls(locals.as_slice(), held),
@@ -178,7 +178,7 @@ fn in_entry(entry: &Entry, held: &mut Vec<Node>) -> Result<(), AllocError>
 }
 
 fn in_entries(entries: &[Entry], held: &mut Vec<Node>) -> Result<(), AllocError>
-    ensures { OnOk result (held.new.items ≡ held.old.items ++ held_in_entries entries.now) }
+    ensures { OnOk result (held.new.items ≡ held.old.items ++ by_entries entries.now) }
 {
     for entry in entries {
         in_entry(entry, held)?;
@@ -187,7 +187,7 @@ fn in_entries(entries: &[Entry], held: &mut Vec<Node>) -> Result<(), AllocError>
 }
 
 fn in_first(first: &First, held: &mut Vec<Node>) -> Result<(), AllocError>
-    ensures { OnOk result (held.new.items ≡ held.old.items ++ held_in_first first.now) }
+    ensures { OnOk result (held.new.items ≡ held.old.items ++ by_first first.now) }
 {
     match first {
         First::None => Ok(()),
@@ -202,7 +202,7 @@ fn in_choice(
     otherwise: Option<StmtId>,
     held: &mut Vec<Node>,
 ) -> Result<(), AllocError>
-    ensures { OnOk result (held.new.items ≡ held.old.items ++ held_in_choice test then otherwise) }
+    ensures { OnOk result (held.new.items ≡ held.old.items ++ by_choice test then otherwise) }
 {
     held.push(Node::Expr(test))?;
     held.push(Node::Stmt(then))?;
@@ -215,7 +215,7 @@ fn in_choice(
 
 /// What a statement names.
 pub fn in_stmt(kind: &StmtKind, held: &mut Vec<Node>) -> Result<(), AllocError>
-    ensures { OnOk result (held.new.items ≡ held.old.items ++ held_in_stmt kind.now) }
+    ensures { OnOk result (held.new.items ≡ held.old.items ++ by_stmt kind.now) }
 {
     match kind {
         StmtKind::Break | StmtKind::Continue => Ok(()),

@@ -10,7 +10,6 @@ mod error;
 mod global;
 mod items;
 mod mutexes;
-mod node;
 mod notes;
 mod parts;
 mod places;

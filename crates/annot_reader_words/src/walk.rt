@@ -3,13 +3,13 @@
 ghost use Rattle.std.specs.Prelude.{◌≡◌, ◌++◌, OnOk};
 ghost use Rattle.c_types_rules.specs.Checked.{Checked};
 ghost use Rattle.annot_reader_words.specs.Answers.{Passes};
-ghost use Rattle.annot_reader_words.specs.Held.{held as held_by};
+ghost use Rattle.c_syntax_laws.specs.Named.{named_by};
 ghost use Rattle.annot_reader_words.specs.Sayings.{AllSay, AreNodes, IsNode, Says, first_word, own};
 
 use crate::collect::{in_decl, in_expr, in_stmt};
 use crate::error::AnnotationError;
-use crate::node::Node;
 use c_syntax::{Annot, Tree};
+use c_syntax_laws::Node;
 use std::alloc::{AllocError, Global};
 
 // No annotation stands here.
@@ -36,7 +36,7 @@ fn no_own_word(tree: &Tree, node: Node) -> Result<(), AnnotationError>
 // What the node names.
 fn held(tree: &Tree, node: Node, held: &mut Vec<Node>) -> Result<(), AllocError>
     requires { IsNode tree.now node }
-    ensures { OnOk result (held.new.items ≡ held.old.items ++ held_by tree.now node) }
+    ensures { OnOk result (held.new.items ≡ held.old.items ++ named_by tree.now node) }
 {
     match node {
         Node::Expr(id) => in_expr(&tree.expr(id).kind, held),

@@ -1,5 +1,6 @@
 pub mod Pigeons
 pub mod Falls
+pub mod Values
 pub mod Ends
 pub mod Lower
 pub mod Tokens

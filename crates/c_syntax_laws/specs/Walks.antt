@@ -2,7 +2,8 @@
 use Rattle.std.specs.Prelude.{◌<◌}
 use Rattle.c_syntax.specs.Nodes.{Nodes}
 use Rattle.c_syntax_laws.specs.Heights.{greatest}
-use Rattle.c_syntax_laws.specs.Named.{Node, named_by, height_in}
+use Rattle.c_syntax_laws.specs.declared.node.Node.{Node}
+use Rattle.c_syntax_laws.specs.Named.{named_by, height_in}
 
 -- all nodes that a node names are lower than it
 abbrev pub Falls : Nodes → Node → Type 0

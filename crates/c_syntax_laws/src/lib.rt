@@ -2,5 +2,7 @@
 #![tactic(auto)]
 
 mod laws;
+mod node;
 
 pub use laws::{heights_fall, numbers_fit};
+pub use node::Node;

@@ -10,7 +10,9 @@ use Rattle.c_syntax.specs.Nodes.{Nodes}
 use Rattle.c_syntax.specs.Syntax.{Expr, Exprs, Decl, Decls, Annots, Item, Items, Parts, NoExprs, MoreExprs, NoDecls, MoreDecls, NoAnnots, MoreAnnots, Annotate, NoItems, MoreItems, NoParts, Pointer, Array, Params}
 use Rattle.c_syntax.specs.Stands.{Stands, StandExprs, StandsDecl, StandDecls, StandAnnots, StandItems, StandsItem, StandParts}
 use Rattle.c_syntax_laws.specs.Heights.{greatest}
-use Rattle.c_syntax_laws.specs.Named.{Node, AnExpr, ADecl, by_annots, by_items, by_item, by_parts, by_kind}
+use Rattle.c_syntax_laws.specs.declared.node.Node.{Node}
+use Rattle.c_syntax_laws.specs.declared.node.Node.TheVariants.{Expr as AnExpr, Decl as ADecl}
+use Rattle.c_syntax_laws.specs.Named.{by_annots, by_items, by_item, by_parts, by_kind}
 use Rattle.c_syntax_laws.specs.Numbers.{FitsExprs, FitsDecls, FitsAnnots, FitsItems}
 use Rattle.c_types_expressions.specs.Walks.{IsExpr, AreExprs, IsDecl, AreDecls, AreAnnots, AreItems, IsItem}
 

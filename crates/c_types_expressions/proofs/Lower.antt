@@ -1,5 +1,5 @@
 -- What a node of a source names is lower than it.
-use Rattle.std.proofs.Common.{◌≡◌, ◌<◌, Some, ap, ◌∙◌, arith, subst}
+use Rattle.std.proofs.Common.{◌≡◌, ◌<◌, ◌++◌, Some, ap, ◌∙◌, arith, subst}
 use Rattle.c_syntax.specs.declared.id.DeclId.{DeclId}
 use Rattle.c_syntax.specs.declared.id.ExprId.{ExprId}
 use Rattle.c_syntax.specs.declared.expression.Expr.{Expr as ExprNode}
@@ -7,7 +7,8 @@ use Rattle.c_syntax.specs.declared.expression.ExprKind.{ExprKind}
 use Rattle.c_syntax.specs.declared.declaration.Decl.{Decl as DeclNode}
 use Rattle.c_syntax.specs.Nodes.{Nodes, decl_at, expr_at}
 use Rattle.c_syntax_laws.specs.Heights.{greatest}
-use Rattle.c_syntax_laws.specs.Named.{AnExpr, ADecl, by_expr, by_expr_node, by_annots, by_parts, by_decl, by_decl_node, height_in}
+use Rattle.c_syntax_laws.specs.declared.node.Node.TheVariants.{Expr as AnExpr, Decl as ADecl}
+use Rattle.c_syntax_laws.specs.Named.{by_expr, by_expr_node, by_annots, by_parts, by_decl, by_decl_node, by_rest, height_in}
 use Rattle.c_syntax_laws.proofs.Lower.{expr_falls, decl_falls}
 use Rattle.c_types_expressions.specs.Walks.{IsExpr, IsDecl}
 use Rattle.c_types_expressions.proofs.Lists.{greatest_of_joined}
@@ -21,8 +22,8 @@ below_decl N i v (d, h, f) at = subst (λ vs. greatest (height_in N) vs < height
 
 -- what the annotations of a declaration name
 pub below_annots : (N : Nodes) (i : DeclId) (v : DeclNode) → IsDecl N i → decl_at N i ≡ Some v → greatest (height_in N) (by_annots v.annots) < height_in N (ADecl i)
-below_annots N i v h at = omega (arith, below_decl N i v h at, greatest_of_joined (height_in N) (by_annots v.annots) (by_parts v.parts))
+below_annots N i v h at = omega (arith, below_decl N i v h at, greatest_of_joined (height_in N) (by_annots v.annots) (by_parts v.parts ++ by_rest v.rest), greatest_of_joined (height_in N) (by_parts v.parts) (by_rest v.rest))
 
 -- what the parts of its declarator name
 pub below_parts : (N : Nodes) (i : DeclId) (v : DeclNode) → IsDecl N i → decl_at N i ≡ Some v → greatest (height_in N) (by_parts v.parts) < height_in N (ADecl i)
-below_parts N i v h at = omega (arith, below_decl N i v h at, greatest_of_joined (height_in N) (by_annots v.annots) (by_parts v.parts))
+below_parts N i v h at = omega (arith, below_decl N i v h at, greatest_of_joined (height_in N) (by_annots v.annots) (by_parts v.parts ++ by_rest v.rest), greatest_of_joined (height_in N) (by_parts v.parts) (by_rest v.rest))

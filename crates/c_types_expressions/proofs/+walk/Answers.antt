@@ -20,7 +20,8 @@ use Rattle.c_types_nodes.specs.Tables.{Names, Table, node_at}
 use Rattle.c_types_operators.specs.Answers.{IsAt, IsNothing, StandsAt}
 use Rattle.c_types_operators.specs.Calls.{IsCalled, types_after}
 use Rattle.c_syntax_laws.specs.Heights.{greatest}
-use Rattle.c_syntax_laws.specs.Named.{AnExpr, ADecl, by_annots, by_atom, by_item, by_items, by_kind, by_parts, by_second, height_in}
+use Rattle.c_syntax_laws.specs.declared.node.Node.TheVariants.{Expr as AnExpr, Decl as ADecl}
+use Rattle.c_syntax_laws.specs.Named.{by_annots, by_atom, by_item, by_items, by_kind, by_parts, by_second, height_in}
 use Rattle.c_syntax_laws.specs.Numbers.{FitsExpr}
 use Rattle.c_types_expressions.specs.Found.{AreBoth, AreTypes, AreValues, IsType, Stays}
 use Rattle.c_types_expressions.specs.Walks.{AreAnnots, AreDecls, AreExprs, AreItems, AreParts, IsItem}

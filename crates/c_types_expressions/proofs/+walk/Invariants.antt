@@ -6,7 +6,8 @@ use Rattle.c_builtins.specs.Table.{params_of}
 use Rattle.c_types_table.specs.Tables.{type_at}
 use Rattle.c_types_operators.specs.Calls.{types_after}
 use Rattle.c_syntax_laws.specs.Heights.{greatest}
-use Rattle.c_syntax_laws.specs.Named.{AnExpr, ADecl, height_in, by_annots, by_items, by_item, by_atom, by_parts, by_kind}
+use Rattle.c_syntax_laws.specs.declared.node.Node.TheVariants.{Expr as AnExpr, Decl as ADecl}
+use Rattle.c_syntax_laws.specs.Named.{height_in, by_annots, by_items, by_item, by_atom, by_parts, by_kind}
 use Rattle.c_types_expressions.specs.Found.{Stays, StaysAround}
 use Rattle.c_types_expressions.proofs.Rests.{RestOfAnnots, RestOfItems, RestOfParts, RestOfParameters, RestOfArguments}
 use Rattle.c_types_expressions.proofs.+walk.Given as goal

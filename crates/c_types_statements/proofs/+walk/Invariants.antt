@@ -4,7 +4,8 @@ use Rattle.c_syntax.specs.Syntax.{Entries}
 use Rattle.c_syntax.specs.Stands.{StandEntries}
 use Rattle.c_types_table.specs.Tables.{IsBelow}
 use Rattle.c_syntax_laws.specs.Heights.{greatest}
-use Rattle.c_syntax_laws.specs.Named.{AStmt, height_in, by_entries}
+use Rattle.c_syntax_laws.specs.declared.node.Node.TheVariants.{Stmt as AStmt}
+use Rattle.c_syntax_laws.specs.Named.{height_in, by_entries}
 use Rattle.c_types_expressions.specs.Found.{StaysAround}
 use Rattle.c_types_statements.specs.Typed.{declared_in, place_in}
 use Rattle.c_types_statements.proofs.Entries.{EntriesRead}

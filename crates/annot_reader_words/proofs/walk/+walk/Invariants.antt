@@ -1,13 +1,14 @@
 use Rattle.std.proofs.Common.{◌+◌, ◌*◌, drop}
 use Rattle.c_types_rules.specs.Checked.{Checked}
 use Rattle.annot_reader_words.specs.Sayings.{AllSay}
-use Rattle.annot_reader_words.proofs.Heights.{height_of, heights_of}
+use Rattle.c_syntax_laws.specs.Named.{height_in}
+use Rattle.annot_reader_words.proofs.Heights.{heights_of}
 use Rattle.annot_reader_words.proofs.Walking.{Decide}
 use Rattle.annot_reader_words.proofs.walk.+walk.Given as goal
 
 -- calls go to lower nodes, and from several nodes to one
 abbrev pub decreases-bare_node : goal.decreases-bare_node
-decreases-bare_node l = 2 * height_of l.tree.now l.node
+decreases-bare_node l = 2 * height_in l.tree.now l.node
 
 abbrev pub decreases-bare_nodes : goal.decreases-bare_nodes
 decreases-bare_nodes l = 2 * heights_of l.tree.now l.nodes.now + 1
