@@ -6,8 +6,9 @@ ghost use Rattle.c_parser.specs.Parsed.{IsCounted, IsParsed, IsParseError};
 ghost use Rattle.c_parser_actions.specs.Builds.{Found};
 
 use c_lexer::Token;
-use c_parser_actions::{Action, PostfixError, actions};
+use c_parser_actions::{PostfixError, actions};
 use c_parser_depth::too_deep;
+use c_parser_moves::Action;
 use c_parser_nodes::node_count;
 use c_parser_tree::{BuildError, build};
 use c_syntax::Tree;

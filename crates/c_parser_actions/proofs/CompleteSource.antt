@@ -10,20 +10,20 @@ use Rattle.c_lexer.specs.declared.token.Token.{Token}
 use Rattle.c_syntax.specs.declared.declaration.Base.{Base}
 use Rattle.c_syntax.specs.Syntax.{MaybeExpr, Decls, Annots, Parts, Value, Values, Rest, Stmt, Entries, First, Declare, NoDecls, NoValues, NoRest, Initial, Body, Members, Expression, Return, NoEntries, LocalFirst, decls_then, values_then}
 use Rattle.c_syntax.specs.Levels.{is_type_kind, begins_type, from_of}
-use Rattle.c_parser_actions.specs.declared.mark.Punctuator.{Punctuator}
-use Rattle.c_parser_actions.specs.declared.mark.Punctuator.TheVariants as marks
-use Rattle.c_parser_actions.specs.declared.frame.Naming.TheVariants as namings
-use Rattle.c_parser_actions.specs.declared.frame.Target.TheVariants as targets
-use Rattle.c_parser_actions.specs.declared.frame.DeclaredIn.{DeclaredIn}
-use Rattle.c_parser_actions.specs.declared.frame.DeclaredIn.TheVariants as places
-use Rattle.c_parser_actions.specs.declared.frame.Frame.{Frame}
-use Rattle.c_parser_actions.specs.declared.frame.Frame.TheVariants as fr
-use Rattle.c_parser_actions.specs.declared.frame.Next.TheVariants as nx
-use Rattle.c_parser_actions.specs.declared.action.Action.TheVariants as acts
-use Rattle.c_parser_actions.specs.Marks.{mark_at, sign_mark, after_at}
+use Rattle.c_parser_moves.specs.declared.mark.Punctuator.{Punctuator}
+use Rattle.c_parser_moves.specs.declared.mark.Punctuator.TheVariants as marks
+use Rattle.c_parser_moves.specs.declared.frame.Naming.TheVariants as namings
+use Rattle.c_parser_moves.specs.declared.frame.Target.TheVariants as targets
+use Rattle.c_parser_moves.specs.declared.frame.DeclaredIn.{DeclaredIn}
+use Rattle.c_parser_moves.specs.declared.frame.DeclaredIn.TheVariants as places
+use Rattle.c_parser_moves.specs.declared.frame.Frame.{Frame}
+use Rattle.c_parser_moves.specs.declared.frame.Frame.TheVariants as fr
+use Rattle.c_parser_moves.specs.declared.frame.Next.TheVariants as nx
+use Rattle.c_parser_moves.specs.declared.action.Action.TheVariants as acts
+use Rattle.c_parser_moves.specs.Marks.{mark_at, sign_mark, after_at}
 use Rattle.c_parser_actions.specs.Pieces.{Piece, PExpr, PMaybe, PDeclr, PSpecs, PDecls, PValue, PValues, PEntries, PStmt, PFirst, PTag, act}
-use Rattle.c_parser_actions.specs.MachineDeclr.{end_next}
-use Rattle.c_parser_actions.specs.MachineSource.{defines_kinds, defines}
+use Rattle.c_parser_moves.proofs.MachineDeclr.{end_next}
+use Rattle.c_parser_moves.proofs.MachineSource.{defines_kinds, defines}
 use Rattle.c_syntax.specs.Grammar.{IsExpr, IsWords, IsSpecs, IsDeclr, IsDirect, IsAnnotation, Label, Named, Nameless}
 use Rattle.c_syntax.specs.declared.specifier.Specifiers.{Specifiers}
 use Rattle.c_syntax.specs.TypeWords.{with_word}

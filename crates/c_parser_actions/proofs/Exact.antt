@@ -3,14 +3,14 @@ use Rattle.std.proofs.Common.{◌≡◌, ◌<◌, true, false, List, [], ◌∷�
 use Rattle.c_lexer.specs.declared.token.Token.{Token}
 use Rattle.c_syntax.specs.Syntax.{Decls, NoDecls}
 use Rattle.c_syntax.specs.Sources.{Spells, no_top}
-use Rattle.c_parser_actions.specs.declared.action.Action.{Action}
-use Rattle.c_parser_actions.specs.declared.action.Action.TheVariants as acts
-use Rattle.c_parser_actions.specs.declared.frame.Frame.{Frame}
-use Rattle.c_parser_actions.specs.declared.frame.Next.{Next}
-use Rattle.c_parser_actions.specs.declared.frame.Next.TheVariants as nx
+use Rattle.c_parser_moves.specs.declared.action.Action.{Action}
+use Rattle.c_parser_moves.specs.declared.action.Action.TheVariants as acts
+use Rattle.c_parser_moves.specs.declared.frame.Frame.{Frame}
+use Rattle.c_parser_moves.specs.declared.frame.Next.{Next}
+use Rattle.c_parser_moves.specs.declared.frame.Next.TheVariants as nx
 use Rattle.c_parser_actions.specs.Pieces.{Piece, PDecls, act, acted}
-use Rattle.c_parser_actions.specs.Machine.{Move, move, moved}
-use Rattle.c_parser_actions.specs.MachineSteps.{step, read_next, works}
+use Rattle.c_parser_moves.proofs.Machine.{Move, move, moved}
+use Rattle.c_parser_moves.proofs.MachineSteps.{step, read_next, works}
 use Rattle.c_parser_actions.proofs.Weight.{weight}
 use Rattle.c_parser_actions.proofs.Runs.{TState, tstate, Reaches, here, go, then}
 use Rattle.c_parser_actions.proofs.Good.{Good}

@@ -14,12 +14,12 @@ use Rattle.c_syntax.specs.Levels.{level_of, is_assignment, is_prefix, is_postfix
 use Rattle.c_syntax.specs.TypeWords.{with_core}
 use Rattle.c_syntax.specs.Grammar as g
 use Rattle.c_syntax.specs.Grammar.{IsPostfix, IsUnary, IsExpr, IsArgs, IsTypeName, IsWords, IsSpecs, IsConsts, IsDeclr, IsDirect, Label, Named, Nameless}
-use Rattle.c_parser_actions.specs.declared.mark.Punctuator.{Punctuator}
-use Rattle.c_parser_actions.specs.declared.mark.Punctuator.TheVariants as marks
-use Rattle.c_parser_actions.specs.declared.mark.After.{After}
-use Rattle.c_parser_actions.specs.declared.mark.After.TheVariants as afters
-use Rattle.c_parser_actions.specs.declared.mark.Begin.TheVariants as begins
-use Rattle.c_parser_actions.specs.Marks.{mark_of, mark_at, sign_mark, after_sign, after_of, begin_of}
+use Rattle.c_parser_moves.specs.declared.mark.Punctuator.{Punctuator}
+use Rattle.c_parser_moves.specs.declared.mark.Punctuator.TheVariants as marks
+use Rattle.c_parser_moves.specs.declared.mark.After.{After}
+use Rattle.c_parser_moves.specs.declared.mark.After.TheVariants as afters
+use Rattle.c_parser_moves.specs.declared.mark.Begin.TheVariants as begins
+use Rattle.c_parser_moves.specs.Marks.{mark_of, mark_at, sign_mark, after_sign, after_of, begin_of}
 use Rattle.c_parser_actions.proofs.MovesExpr.{Pops}
 
 -- the tables of signs

@@ -4,15 +4,15 @@ use Rattle.std.proofs.Math.Seq.{drop-cons}
 use Rattle.std.specs.List.{slice_get}
 use Rattle.c_lexer.specs.declared.token.Token.{Token}
 use Rattle.c_syntax.specs.Levels.{begins_type}
-use Rattle.c_parser_actions.specs.declared.mark.Punctuator.{Punctuator}
-use Rattle.c_parser_actions.specs.declared.mark.Punctuator.TheVariants as marks
-use Rattle.c_parser_actions.specs.declared.frame.Frame.{Frame}
-use Rattle.c_parser_actions.specs.declared.frame.Next.{Next}
-use Rattle.c_parser_actions.specs.declared.action.Action.{Action}
-use Rattle.c_parser_actions.specs.Marks.{mark_of}
-use Rattle.c_parser_actions.specs.Machine.{Move, moved}
-use Rattle.c_parser_actions.specs.MachineSteps.{step}
-use Rattle.c_parser_actions.specs.Words.{scan, at_mark, lists}
+use Rattle.c_parser_moves.specs.declared.mark.Punctuator.{Punctuator}
+use Rattle.c_parser_moves.specs.declared.mark.Punctuator.TheVariants as marks
+use Rattle.c_parser_moves.specs.declared.frame.Frame.{Frame}
+use Rattle.c_parser_moves.specs.declared.frame.Next.{Next}
+use Rattle.c_parser_moves.specs.declared.action.Action.{Action}
+use Rattle.c_parser_moves.specs.Marks.{mark_of}
+use Rattle.c_parser_moves.proofs.Machine.{Move, moved}
+use Rattle.c_parser_moves.proofs.MachineSteps.{step}
+use Rattle.c_parser_moves.specs.Words.{scan, at_mark, lists}
 use Rattle.c_parser_actions.specs.Ahead.{Foretells, nearest, met, closers}
 use Rattle.c_parser_actions.proofs.Onward.{on_step}
 

@@ -7,19 +7,19 @@ use Rattle.c_lexer.specs.declared.token.Token.{Token}
 use Rattle.c_syntax.specs.declared.declaration.Base.{Base}
 use Rattle.c_syntax.specs.Syntax.{Expr, Exprs, MaybeExpr, Decl, Decls, Annots, Items, Item, Atom, Parts, Value, Values, Stmt, Entries, First, NoExprs, NoDecls, NoAnnots, Annotate, NoItems, NoValues}
 use Rattle.c_syntax.specs.Levels.{level_of, is_assignment, is_prefix, opens_type, lone_void, from_of}
-use Rattle.c_parser_actions.specs.declared.frame.Naming.{Naming}
-use Rattle.c_parser_actions.specs.declared.frame.Naming.TheVariants as namings
-use Rattle.c_parser_actions.specs.declared.frame.Target.{Target}
-use Rattle.c_parser_actions.specs.declared.frame.Target.TheVariants as targets
-use Rattle.c_parser_actions.specs.declared.frame.DeclaredIn.{DeclaredIn}
-use Rattle.c_parser_actions.specs.declared.frame.DeclaredIn.TheVariants as places
-use Rattle.c_parser_actions.specs.declared.frame.Frame.{Frame}
-use Rattle.c_parser_actions.specs.declared.frame.Frame.TheVariants as fr
-use Rattle.c_parser_actions.specs.declared.frame.Next.{Next}
-use Rattle.c_parser_actions.specs.declared.frame.Next.TheVariants as nx
+use Rattle.c_parser_moves.specs.declared.frame.Naming.{Naming}
+use Rattle.c_parser_moves.specs.declared.frame.Naming.TheVariants as namings
+use Rattle.c_parser_moves.specs.declared.frame.Target.{Target}
+use Rattle.c_parser_moves.specs.declared.frame.Target.TheVariants as targets
+use Rattle.c_parser_moves.specs.declared.frame.DeclaredIn.{DeclaredIn}
+use Rattle.c_parser_moves.specs.declared.frame.DeclaredIn.TheVariants as places
+use Rattle.c_parser_moves.specs.declared.frame.Frame.{Frame}
+use Rattle.c_parser_moves.specs.declared.frame.Frame.TheVariants as fr
+use Rattle.c_parser_moves.specs.declared.frame.Next.{Next}
+use Rattle.c_parser_moves.specs.declared.frame.Next.TheVariants as nx
 use Rattle.c_parser_actions.specs.Pieces.{Piece, PExpr, PExprs, PMaybe, PDeclr, PSpecs, PDecl, PDecls, PAnnots, PAnnot, PItem, PAtom, PValue, PValues, PEntries, PStmt, PFirst, PTag}
-use Rattle.c_parser_actions.specs.MachineDeclr.{groups}
-use Rattle.c_parser_actions.specs.MachineExpr.{start}
+use Rattle.c_parser_moves.proofs.MachineDeclr.{groups}
+use Rattle.c_parser_moves.proofs.MachineExpr.{start}
 use Rattle.c_syntax.specs.Grammar.{IsPostfix, IsUnary, IsExpr, IsArgs, IsTypeName, IsSpecs, IsConsts, IsDeclr, IsDirect, IsParamList, IsAnnotation, IsAnnots, IsAnnot, IsItems, IsItem, IsAtom, Label, Named, label_from, label_name}
 use Rattle.c_syntax.specs.Sources.{IsValue, IsValues, IsNames, IsMaybe, IsFirst, IsStmt, IsEntries, IsMembers, IsTops}
 use Rattle.c_parser_actions.proofs.Runs.{TState}

@@ -13,13 +13,13 @@ use Rattle.c_syntax.specs.Syntax.{Expr, Exprs, Decl, Decls, Parts, Annots, Annot
 use Rattle.c_syntax.specs.Levels.{level_of, is_assignment, is_prefix, is_postfix, is_type_kind, begins_type}
 use Rattle.c_syntax.specs.Grammar as g
 use Rattle.c_syntax.specs.Grammar.{IsPostfix, IsUnary, IsExpr, IsArgs, IsTypeName, IsWords, IsSpecs, IsConsts, IsDeclr, IsDirect, IsParams, IsParamList, IsParam, IsAnnotation, IsAnnots, IsAnnot, IsItems, IsItem, IsAtom, IsSomething, Label, Named, Nameless}
-use Rattle.c_parser_actions.specs.declared.mark.Punctuator.{Punctuator}
-use Rattle.c_parser_actions.specs.declared.mark.Punctuator.TheVariants as marks
-use Rattle.c_parser_actions.specs.Marks.{mark_of, sign_mark}
-use Rattle.c_parser_actions.specs.declared.frame.Naming.{Naming}
-use Rattle.c_parser_actions.specs.declared.frame.Naming.TheVariants as namings
-use Rattle.c_parser_actions.specs.Words.{at_mark, scan, lists}
-use Rattle.c_parser_actions.specs.MachineDeclr.{groups, kind_groups, named_group}
+use Rattle.c_parser_moves.specs.declared.mark.Punctuator.{Punctuator}
+use Rattle.c_parser_moves.specs.declared.mark.Punctuator.TheVariants as marks
+use Rattle.c_parser_moves.specs.Marks.{mark_of, sign_mark}
+use Rattle.c_parser_moves.specs.declared.frame.Naming.{Naming}
+use Rattle.c_parser_moves.specs.declared.frame.Naming.TheVariants as namings
+use Rattle.c_parser_moves.specs.Words.{at_mark, scan, lists}
+use Rattle.c_parser_moves.proofs.MachineDeclr.{groups, kind_groups, named_group}
 use Rattle.c_parser_actions.proofs.MovesDeclr.{unnamed_ok}
 use Rattle.c_parser_actions.proofs.Types.{type_begins}
 

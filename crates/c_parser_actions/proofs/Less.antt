@@ -2,14 +2,14 @@
 use Rattle.std.proofs.Common.{◌≡◌, ◌<◌, true, false, List, [], ◌∷◌, length, arith}
 use Rattle.c_lexer.specs.declared.token.Token.{Token}
 use Rattle.c_syntax.specs.Levels.{begins_type, from_of}
-use Rattle.c_parser_actions.specs.declared.frame.Target.TheVariants as targets
-use Rattle.c_parser_actions.specs.declared.frame.Frame.{Frame}
-use Rattle.c_parser_actions.specs.declared.frame.Next.{Next}
-use Rattle.c_parser_actions.specs.declared.frame.Next.TheVariants as nx
-use Rattle.c_parser_actions.specs.Marks.{mark_at, begin_of}
-use Rattle.c_parser_actions.specs.Words.{take_specs}
-use Rattle.c_parser_actions.specs.MachineDeclr.{is_top}
-use Rattle.c_parser_actions.specs.MachineSteps.{give_next, take_next, read_next, given, taken, step, works}
+use Rattle.c_parser_moves.specs.declared.frame.Target.TheVariants as targets
+use Rattle.c_parser_moves.specs.declared.frame.Frame.{Frame}
+use Rattle.c_parser_moves.specs.declared.frame.Next.{Next}
+use Rattle.c_parser_moves.specs.declared.frame.Next.TheVariants as nx
+use Rattle.c_parser_moves.specs.Marks.{mark_at, begin_of}
+use Rattle.c_parser_moves.specs.Words.{take_specs}
+use Rattle.c_parser_moves.proofs.MachineDeclr.{is_top}
+use Rattle.c_parser_moves.proofs.MachineSteps.{give_next, take_next, read_next, given, taken, step, works}
 use Rattle.c_parser_actions.proofs.Weight.{weight_of, weight}
 use Rattle.c_parser_actions.proofs.Short.{specs_short}
 use Rattle.c_parser_actions.proofs.LessExpr.{less_start, less_after_at, less_give, less_value}

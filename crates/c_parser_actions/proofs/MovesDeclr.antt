@@ -9,22 +9,22 @@ use Rattle.c_lexer.specs.declared.token.Token.{Token}
 use Rattle.c_syntax.specs.declared.declaration.Base.{Base}
 use Rattle.c_syntax.specs.Syntax.{Decls, Annots, Items, Item, Atom, Parts, SizeofType, Declare, NoDecls, NoAnnots, Annotate, NoItems, OneFactor, TwoFactors, NameAtom, NumberAtom, ReturnAtom, SizeofAtom, NoParts, Pointer, Params, NoRest, decls_then, annots_then, items_then}
 use Rattle.c_syntax.specs.Levels.{lone_void, from_of}
-use Rattle.c_parser_actions.specs.declared.mark.Punctuator.{Punctuator}
-use Rattle.c_parser_actions.specs.declared.mark.Punctuator.TheVariants as marks
-use Rattle.c_parser_actions.specs.declared.frame.Naming.{Naming}
-use Rattle.c_parser_actions.specs.declared.frame.Naming.TheVariants as namings
-use Rattle.c_parser_actions.specs.declared.frame.Target.{Target}
-use Rattle.c_parser_actions.specs.declared.frame.Target.TheVariants as targets
-use Rattle.c_parser_actions.specs.declared.frame.DeclaredIn.TheVariants as places
-use Rattle.c_parser_actions.specs.declared.frame.Frame.{Frame}
-use Rattle.c_parser_actions.specs.declared.frame.Frame.TheVariants as fr
-use Rattle.c_parser_actions.specs.declared.frame.Next.TheVariants as nx
-use Rattle.c_parser_actions.specs.Marks.{mark_at}
-use Rattle.c_parser_actions.specs.Words.{take_specs, skip_consts}
+use Rattle.c_parser_moves.specs.declared.mark.Punctuator.{Punctuator}
+use Rattle.c_parser_moves.specs.declared.mark.Punctuator.TheVariants as marks
+use Rattle.c_parser_moves.specs.declared.frame.Naming.{Naming}
+use Rattle.c_parser_moves.specs.declared.frame.Naming.TheVariants as namings
+use Rattle.c_parser_moves.specs.declared.frame.Target.{Target}
+use Rattle.c_parser_moves.specs.declared.frame.Target.TheVariants as targets
+use Rattle.c_parser_moves.specs.declared.frame.DeclaredIn.TheVariants as places
+use Rattle.c_parser_moves.specs.declared.frame.Frame.{Frame}
+use Rattle.c_parser_moves.specs.declared.frame.Frame.TheVariants as fr
+use Rattle.c_parser_moves.specs.declared.frame.Next.TheVariants as nx
+use Rattle.c_parser_moves.specs.Marks.{mark_at}
+use Rattle.c_parser_moves.specs.Words.{take_specs, skip_consts}
 use Rattle.c_parser_actions.specs.Pieces.{Piece, PExpr, PDeclr, PSpecs, PDecl, PDecls, PAnnots, PAnnot, PItem, PAtom}
-use Rattle.c_parser_actions.specs.Machine.{tail}
-use Rattle.c_parser_actions.specs.MachineDeclr.{named_group, groups, unnamed, in_group, give_name, declr, params, direct, param_end, type_end, type_closes, declared, typed, targeted, placed, annotated, annot_items, annot, annots_end, annot_end, atom_size, atom, factor, atom_end, items_end, item_end}
-use Rattle.c_parser_actions.specs.MachineSteps.{give_next, take_next, read_next, step}
+use Rattle.c_parser_moves.proofs.Machine.{tail}
+use Rattle.c_parser_moves.proofs.MachineDeclr.{named_group, groups, unnamed, in_group, give_name, declr, params, direct, param_end, type_end, type_closes, declared, typed, targeted, placed, annotated, annot_items, annot, annots_end, annot_end, atom_size, atom, factor, atom_end, items_end, item_end}
+use Rattle.c_parser_moves.proofs.MachineSteps.{give_next, take_next, read_next, step}
 use Rattle.c_parser_actions.proofs.Runs.{TState, tstate, run, start_expr, Reaches, go}
 
 pub type_name_move : {bs : Base} {us : List Token} {ts : List Token} {P : List Piece} {K : List Frame} {s : TState} → take_specs false ts ≡ Some (bs, us) → Reaches (tstate (nx.Declr namings.Never (from_of ts)) (PSpecs NoAnnots bs ∷ P) us K) s → Reaches (tstate nx.TypeName P ts K) s

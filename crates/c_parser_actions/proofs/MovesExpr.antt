@@ -9,17 +9,17 @@ use Rattle.c_lexer.specs.declared.token.Kind.TheVariants as kinds
 use Rattle.c_lexer.specs.declared.token.Token.{Token}
 use Rattle.c_syntax.specs.Syntax.{Expr, Exprs, Decl, Parts, Stmt, Name, Number, Char, Text, Binary, Assign, Cond, Prefix, Postfix, SizeofExpr, Cast, Index, Call, Member, Arrow, NoExprs, OneExpr, Array, Plain, Expression, Do, Return, ExprFirst, exprs_then}
 use Rattle.c_syntax.specs.Levels.{is_prefix, begins_type, opens_type}
-use Rattle.c_parser_actions.specs.declared.mark.Punctuator.{Punctuator}
-use Rattle.c_parser_actions.specs.declared.mark.Punctuator.TheVariants as marks
-use Rattle.c_parser_actions.specs.declared.mark.After.{After}
-use Rattle.c_parser_actions.specs.declared.mark.After.TheVariants as afters
-use Rattle.c_parser_actions.specs.declared.frame.Frame.{Frame}
-use Rattle.c_parser_actions.specs.declared.frame.Frame.TheVariants as fr
-use Rattle.c_parser_actions.specs.declared.frame.Next.TheVariants as nx
-use Rattle.c_parser_actions.specs.Marks.{mark_at, after_of, after_at}
+use Rattle.c_parser_moves.specs.declared.mark.Punctuator.{Punctuator}
+use Rattle.c_parser_moves.specs.declared.mark.Punctuator.TheVariants as marks
+use Rattle.c_parser_moves.specs.declared.mark.After.{After}
+use Rattle.c_parser_moves.specs.declared.mark.After.TheVariants as afters
+use Rattle.c_parser_moves.specs.declared.frame.Frame.{Frame}
+use Rattle.c_parser_moves.specs.declared.frame.Frame.TheVariants as fr
+use Rattle.c_parser_moves.specs.declared.frame.Next.TheVariants as nx
+use Rattle.c_parser_moves.specs.Marks.{mark_at, after_of, after_at}
 use Rattle.c_parser_actions.specs.Pieces.{Piece, PExpr, PExprs, PMaybe, PDeclr, PDecl, PValue, PStmt, PFirst}
-use Rattle.c_parser_actions.specs.MachineExpr.{bracket, size, start_sign, start, call, field_name, field, after, close, climb, give, do_end, at_comma, at_close, at_bracket, at_colon, at_semicolon, closes, value}
-use Rattle.c_parser_actions.specs.MachineSteps.{give_next, take_next, read_next, step}
+use Rattle.c_parser_moves.proofs.MachineExpr.{bracket, size, start_sign, start, call, field_name, field, after, close, climb, give, do_end, at_comma, at_close, at_bracket, at_colon, at_semicolon, closes, value}
+use Rattle.c_parser_moves.proofs.MachineSteps.{give_next, take_next, read_next, step}
 use Rattle.c_parser_actions.proofs.Runs.{TState, tstate, run, start_expr, Reaches, go}
 
 pub name_move : {t : Token} {n : List ℕ} {ts : List Token} {P : List Piece} {K : List Frame} {s : TState} → t.kind ≡ kinds.Name n → Reaches (tstate (nx.After t.from) (PExpr (Name t.from n) ∷ P) ts K) s → Reaches (tstate nx.Operand P (t ∷ ts) K) s

@@ -9,22 +9,22 @@ use Rattle.c_syntax.specs.declared.declaration.Base.{Base}
 use Rattle.c_syntax.specs.declared.declaration.Base.TheVariants as bases
 use Rattle.c_syntax.specs.Syntax.{Expr, MaybeExpr, Decls, Annots, Parts, Value, Values, Stmt, Entries, First, NoExpr, Declare, NoDecls, NoAnnots, NoParts, Braces, NoValues, NoRest, Initial, Body, Members, Block, Expression, If, IfElse, While, For, Break, Continue, Return, NoEntries, StmtEntry, NoFirst, decls_then, values_then, entries_then}
 use Rattle.c_syntax.specs.Levels.{begins_type, begins_else}
-use Rattle.c_parser_actions.specs.declared.mark.Punctuator.{Punctuator}
-use Rattle.c_parser_actions.specs.declared.mark.Punctuator.TheVariants as marks
-use Rattle.c_parser_actions.specs.declared.mark.Begin.TheVariants as begins
-use Rattle.c_parser_actions.specs.declared.frame.Naming.TheVariants as namings
-use Rattle.c_parser_actions.specs.declared.frame.Target.TheVariants as targets
-use Rattle.c_parser_actions.specs.declared.frame.DeclaredIn.{DeclaredIn}
-use Rattle.c_parser_actions.specs.declared.frame.DeclaredIn.TheVariants as places
-use Rattle.c_parser_actions.specs.declared.frame.Frame.{Frame}
-use Rattle.c_parser_actions.specs.declared.frame.Frame.TheVariants as fr
-use Rattle.c_parser_actions.specs.declared.frame.Next.TheVariants as nx
-use Rattle.c_parser_actions.specs.declared.action.Action.TheVariants as acts
-use Rattle.c_parser_actions.specs.Marks.{mark_of, mark_at, begin_of}
+use Rattle.c_parser_moves.specs.declared.mark.Punctuator.{Punctuator}
+use Rattle.c_parser_moves.specs.declared.mark.Punctuator.TheVariants as marks
+use Rattle.c_parser_moves.specs.declared.mark.Begin.TheVariants as begins
+use Rattle.c_parser_moves.specs.declared.frame.Naming.TheVariants as namings
+use Rattle.c_parser_moves.specs.declared.frame.Target.TheVariants as targets
+use Rattle.c_parser_moves.specs.declared.frame.DeclaredIn.{DeclaredIn}
+use Rattle.c_parser_moves.specs.declared.frame.DeclaredIn.TheVariants as places
+use Rattle.c_parser_moves.specs.declared.frame.Frame.{Frame}
+use Rattle.c_parser_moves.specs.declared.frame.Frame.TheVariants as fr
+use Rattle.c_parser_moves.specs.declared.frame.Next.TheVariants as nx
+use Rattle.c_parser_moves.specs.declared.action.Action.TheVariants as acts
+use Rattle.c_parser_moves.specs.Marks.{mark_of, mark_at, begin_of}
 use Rattle.c_parser_actions.specs.Pieces.{Piece, PExpr, PMaybe, PDeclr, PSpecs, PDecls, PAnnots, PValue, PValues, PEntries, PStmt, PFirst, PTag, act}
-use Rattle.c_parser_actions.specs.MachineDeclr.{end_next, with_value, with_body, named, declared, annotated}
-use Rattle.c_parser_actions.specs.MachineSource.{initial, braces_on, braces_end, init_end, value_end, condition, for_head, leaf, returned, stmt, do_on, do_while, done, block_end, entry, for_first, for_test, for_step, struct_end, member_end, defines, top, tops}
-use Rattle.c_parser_actions.specs.MachineSteps.{give_next, take_next, read_next, step}
+use Rattle.c_parser_moves.proofs.MachineDeclr.{end_next, with_value, with_body, named, declared, annotated}
+use Rattle.c_parser_moves.proofs.MachineSource.{initial, braces_on, braces_end, init_end, value_end, condition, for_head, leaf, returned, stmt, do_on, do_while, done, block_end, entry, for_first, for_test, for_step, struct_end, member_end, defines, top, tops}
+use Rattle.c_parser_moves.proofs.MachineSteps.{give_next, take_next, read_next, step}
 use Rattle.c_parser_actions.proofs.Runs.{TState, tstate, run, start_expr, Reaches, go}
 use Rattle.c_parser_actions.proofs.MovesDeclr.{annotated_run}
 

@@ -2,12 +2,12 @@
 use Rattle.std.proofs.Common.{◌≡◌, List, ◌∷◌, Result, IfOk, sym, subst}
 use Rattle.std.specs.Borrow.{Bor}
 use Rattle.c_lexer.specs.declared.token.Token.{Token}
-use Rattle.c_parser_actions.specs.declared.action.Action.{Action}
-use Rattle.c_parser_actions.specs.declared.frame.Frame.{Frame}
-use Rattle.c_parser_actions.specs.declared.frame.Next.{Next}
+use Rattle.c_parser_moves.specs.declared.action.Action.{Action}
+use Rattle.c_parser_moves.specs.declared.frame.Frame.{Frame}
+use Rattle.c_parser_moves.specs.declared.frame.Next.{Next}
 use Rattle.c_parser_actions.specs.declared.parser.Parser.{Parser}
-use Rattle.c_parser_actions.specs.Machine.{moved}
-use Rattle.c_parser_actions.specs.MachineSteps.{give_next, given}
+use Rattle.c_parser_moves.proofs.Machine.{moved}
+use Rattle.c_parser_moves.proofs.MachineSteps.{give_next, given}
 use Rattle.c_parser_actions.specs.Seen.{Goes, acts_seen, opens_seen, seen}
 
 -- what the construct makes of it, with the others, is what all make of it

@@ -2,15 +2,15 @@
 use Rattle.std.proofs.Common.{false, List, [], ◌∷◌}
 use Rattle.c_lexer.specs.declared.token.Token.{Token}
 use Rattle.c_syntax.specs.Levels.{begins_type, from_of}
-use Rattle.c_parser_actions.specs.declared.frame.Target.TheVariants as targets
-use Rattle.c_parser_actions.specs.declared.frame.Frame.{Frame}
-use Rattle.c_parser_actions.specs.declared.frame.Next.{Next}
-use Rattle.c_parser_actions.specs.declared.frame.Next.TheVariants as nx
-use Rattle.c_parser_actions.specs.Marks.{mark_at, after_at, begin_of}
-use Rattle.c_parser_actions.specs.Words.{take_specs}
-use Rattle.c_parser_actions.specs.Machine.{tail}
-use Rattle.c_parser_actions.specs.MachineDeclr.{is_top}
-use Rattle.c_parser_actions.specs.MachineSteps.{give_next, take_next, read_next, given, taken, step}
+use Rattle.c_parser_moves.specs.declared.frame.Target.TheVariants as targets
+use Rattle.c_parser_moves.specs.declared.frame.Frame.{Frame}
+use Rattle.c_parser_moves.specs.declared.frame.Next.{Next}
+use Rattle.c_parser_moves.specs.declared.frame.Next.TheVariants as nx
+use Rattle.c_parser_moves.specs.Marks.{mark_at, after_at, begin_of}
+use Rattle.c_parser_moves.specs.Words.{take_specs}
+use Rattle.c_parser_moves.proofs.Machine.{tail}
+use Rattle.c_parser_moves.proofs.MachineDeclr.{is_top}
+use Rattle.c_parser_moves.proofs.MachineSteps.{give_next, take_next, read_next, given, taken, step}
 use Rattle.c_parser_actions.proofs.OnwardWords.{on_tail, on_specs}
 use Rattle.c_parser_actions.proofs.OnwardExpr.{on_start, on_after, on_give, on_value}
 use Rattle.c_parser_actions.proofs.OnwardDeclr.{on_declr, on_direct, on_declared, on_typed, on_targeted, on_placed, on_annotated, on_annot, on_annot_end, on_atom, on_atom_end, on_item_end}

@@ -9,19 +9,19 @@ use Rattle.c_lexer.specs.declared.token.Kind.TheVariants as kinds
 use Rattle.c_lexer.specs.declared.token.Token.{Token}
 use Rattle.c_syntax.specs.declared.declaration.Base.{Base}
 use Rattle.c_syntax.specs.Levels.{lone_void}
-use Rattle.c_parser_actions.specs.declared.mark.Punctuator.{Punctuator}
-use Rattle.c_parser_actions.specs.declared.mark.Punctuator.TheVariants as marks
-use Rattle.c_parser_actions.specs.declared.frame.Naming.{Naming}
-use Rattle.c_parser_actions.specs.declared.frame.Naming.TheVariants as namings
-use Rattle.c_parser_actions.specs.declared.frame.Target.{Target}
-use Rattle.c_parser_actions.specs.declared.frame.Target.TheVariants as targets
-use Rattle.c_parser_actions.specs.declared.frame.DeclaredIn.{DeclaredIn}
-use Rattle.c_parser_actions.specs.declared.frame.DeclaredIn.TheVariants as places
-use Rattle.c_parser_actions.specs.declared.frame.Frame.{Frame}
-use Rattle.c_parser_actions.specs.declared.frame.Frame.TheVariants as fr
-use Rattle.c_parser_actions.specs.Marks.{mark_at}
-use Rattle.c_parser_actions.specs.Machine.{tail}
-use Rattle.c_parser_actions.specs.MachineDeclr.{groups, unnamed, in_group, give_name, declr, params, direct, with_value, with_body, named, param_end, type_end, type_closes, declared, typed, targeted, placed, annotated, annot_items, annot, annots_end, annot_end, atom_size, atom, factor, atom_end, items_end, item_end}
+use Rattle.c_parser_moves.specs.declared.mark.Punctuator.{Punctuator}
+use Rattle.c_parser_moves.specs.declared.mark.Punctuator.TheVariants as marks
+use Rattle.c_parser_moves.specs.declared.frame.Naming.{Naming}
+use Rattle.c_parser_moves.specs.declared.frame.Naming.TheVariants as namings
+use Rattle.c_parser_moves.specs.declared.frame.Target.{Target}
+use Rattle.c_parser_moves.specs.declared.frame.Target.TheVariants as targets
+use Rattle.c_parser_moves.specs.declared.frame.DeclaredIn.{DeclaredIn}
+use Rattle.c_parser_moves.specs.declared.frame.DeclaredIn.TheVariants as places
+use Rattle.c_parser_moves.specs.declared.frame.Frame.{Frame}
+use Rattle.c_parser_moves.specs.declared.frame.Frame.TheVariants as fr
+use Rattle.c_parser_moves.specs.Marks.{mark_at}
+use Rattle.c_parser_moves.proofs.Machine.{tail}
+use Rattle.c_parser_moves.proofs.MachineDeclr.{groups, unnamed, in_group, give_name, declr, params, direct, with_value, with_body, named, param_end, type_end, type_closes, declared, typed, targeted, placed, annotated, annot_items, annot, annots_end, annot_end, atom_size, atom, factor, atom_end, items_end, item_end}
 use Rattle.c_parser_actions.proofs.OnwardWords.{on_tail, on_consts, SpecsOn}
 
 module _ (P : List Token → Type 0) (none : P []) (following : (t : Token) (ts : List Token) → P (t ∷ ts) → P ts) where

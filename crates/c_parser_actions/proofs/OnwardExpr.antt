@@ -8,15 +8,15 @@ use Rattle.c_lexer.specs.declared.token.Kind.{Kind}
 use Rattle.c_lexer.specs.declared.token.Kind.TheVariants as kinds
 use Rattle.c_lexer.specs.declared.token.Token.{Token}
 use Rattle.c_syntax.specs.Levels.{begins_type, opens_type}
-use Rattle.c_parser_actions.specs.declared.mark.Punctuator.{Punctuator}
-use Rattle.c_parser_actions.specs.declared.mark.Punctuator.TheVariants as marks
-use Rattle.c_parser_actions.specs.declared.mark.After.{After}
-use Rattle.c_parser_actions.specs.declared.mark.After.TheVariants as afters
-use Rattle.c_parser_actions.specs.declared.frame.Frame.{Frame}
-use Rattle.c_parser_actions.specs.declared.frame.Frame.TheVariants as fr
-use Rattle.c_parser_actions.specs.Marks.{mark_at, after_at}
-use Rattle.c_parser_actions.specs.Machine.{tail}
-use Rattle.c_parser_actions.specs.MachineExpr.{bracket, size, start_sign, start, call, field_name, field, after, close, climb, give, do_end, at_comma, at_close, at_bracket, at_colon, at_semicolon, closes, value}
+use Rattle.c_parser_moves.specs.declared.mark.Punctuator.{Punctuator}
+use Rattle.c_parser_moves.specs.declared.mark.Punctuator.TheVariants as marks
+use Rattle.c_parser_moves.specs.declared.mark.After.{After}
+use Rattle.c_parser_moves.specs.declared.mark.After.TheVariants as afters
+use Rattle.c_parser_moves.specs.declared.frame.Frame.{Frame}
+use Rattle.c_parser_moves.specs.declared.frame.Frame.TheVariants as fr
+use Rattle.c_parser_moves.specs.Marks.{mark_at, after_at}
+use Rattle.c_parser_moves.proofs.Machine.{tail}
+use Rattle.c_parser_moves.proofs.MachineExpr.{bracket, size, start_sign, start, call, field_name, field, after, close, climb, give, do_end, at_comma, at_close, at_bracket, at_colon, at_semicolon, closes, value}
 use Rattle.c_parser_actions.proofs.OnwardWords.{on_if, on_tail}
 
 module _ (P : List Token → Type 0) (none : P []) (following : (t : Token) (ts : List Token) → P (t ∷ ts) → P ts) where

@@ -6,19 +6,19 @@ use Rattle.c_lexer.specs.declared.token.Kind.{Kind}
 use Rattle.c_lexer.specs.declared.token.Kind.TheVariants as kinds
 use Rattle.c_lexer.specs.declared.token.Token.{Token}
 use Rattle.c_syntax.specs.Levels.{begins_else}
-use Rattle.c_parser_actions.specs.declared.mark.Punctuator.{Punctuator}
-use Rattle.c_parser_actions.specs.declared.mark.Punctuator.TheVariants as marks
-use Rattle.c_parser_actions.specs.declared.mark.Begin.{Begin}
-use Rattle.c_parser_actions.specs.declared.mark.Begin.TheVariants as begins
-use Rattle.c_parser_actions.specs.declared.frame.Target.TheVariants as targets
-use Rattle.c_parser_actions.specs.declared.frame.DeclaredIn.{DeclaredIn}
-use Rattle.c_parser_actions.specs.declared.frame.Frame.{Frame}
-use Rattle.c_parser_actions.specs.declared.frame.Frame.TheVariants as fr
-use Rattle.c_parser_actions.specs.declared.action.Action.{Action}
-use Rattle.c_parser_actions.specs.declared.action.Action.TheVariants as acts
-use Rattle.c_parser_actions.specs.Marks.{mark_at}
-use Rattle.c_parser_actions.specs.Machine.{tail}
-use Rattle.c_parser_actions.specs.MachineSource.{initial, braces_on, braces_end, init_end, value_end, condition, for_head, leaf, returned, stmt, do_on, do_while, done, block_end, entry, for_first, for_test, for_step, struct_end, member_end, defines, top, tops}
+use Rattle.c_parser_moves.specs.declared.mark.Punctuator.{Punctuator}
+use Rattle.c_parser_moves.specs.declared.mark.Punctuator.TheVariants as marks
+use Rattle.c_parser_moves.specs.declared.mark.Begin.{Begin}
+use Rattle.c_parser_moves.specs.declared.mark.Begin.TheVariants as begins
+use Rattle.c_parser_moves.specs.declared.frame.Target.TheVariants as targets
+use Rattle.c_parser_moves.specs.declared.frame.DeclaredIn.{DeclaredIn}
+use Rattle.c_parser_moves.specs.declared.frame.Frame.{Frame}
+use Rattle.c_parser_moves.specs.declared.frame.Frame.TheVariants as fr
+use Rattle.c_parser_moves.specs.declared.action.Action.{Action}
+use Rattle.c_parser_moves.specs.declared.action.Action.TheVariants as acts
+use Rattle.c_parser_moves.specs.Marks.{mark_at}
+use Rattle.c_parser_moves.proofs.Machine.{tail}
+use Rattle.c_parser_moves.proofs.MachineSource.{initial, braces_on, braces_end, init_end, value_end, condition, for_head, leaf, returned, stmt, do_on, do_while, done, block_end, entry, for_first, for_test, for_step, struct_end, member_end, defines, top, tops}
 use Rattle.c_parser_actions.proofs.OnwardWords.{defined, on_if, on_tail}
 use Rattle.c_parser_actions.proofs.OnwardDeclr.{on_annotated}
 

@@ -6,9 +6,9 @@ use Rattle.c_lexer.specs.declared.token.Kind.{Kind}
 use Rattle.c_lexer.specs.declared.token.Kind.TheVariants as kinds
 use Rattle.c_lexer.specs.declared.token.Token.{Token}
 use Rattle.c_syntax.specs.declared.declaration.Base.{Base}
-use Rattle.c_parser_actions.specs.Words.{take_specs, skip_consts, take_words, next_word, put_word, Step, Refused, Ended, More, based, with_rest, unless_const, is_const}
-use Rattle.c_parser_actions.specs.Machine.{Move, tail}
-use Rattle.c_parser_actions.specs.MachineSource.{defines_kinds, top}
+use Rattle.c_parser_moves.specs.Words.{take_specs, skip_consts, take_words, next_word, put_word, Step, Refused, Ended, More, based, with_rest, unless_const, is_const}
+use Rattle.c_parser_moves.proofs.Machine.{Move, tail}
+use Rattle.c_parser_moves.proofs.MachineSource.{defines_kinds, top}
 use Rattle.c_syntax.specs.declared.specifier.Specifiers.{Specifiers}
 use Rattle.c_syntax.specs.TypeWords.{no_words, base_of}
 

@@ -2,13 +2,13 @@
 use Rattle.std.proofs.Common.{ℕ, List, ◌∷◌}
 use Rattle.c_lexer.specs.declared.token.Token.{Token}
 use Rattle.c_syntax.specs.Levels.{from_of}
-use Rattle.c_parser_actions.specs.declared.frame.Frame.{Frame}
-use Rattle.c_parser_actions.specs.declared.frame.Frame.TheVariants as fr
-use Rattle.c_parser_actions.specs.declared.frame.Next.{Next}
-use Rattle.c_parser_actions.specs.declared.frame.Next.TheVariants as nx
+use Rattle.c_parser_moves.specs.declared.frame.Frame.{Frame}
+use Rattle.c_parser_moves.specs.declared.frame.Frame.TheVariants as fr
+use Rattle.c_parser_moves.specs.declared.frame.Next.{Next}
+use Rattle.c_parser_moves.specs.declared.frame.Next.TheVariants as nx
 use Rattle.c_parser_actions.specs.Pieces.{Piece, acted}
-use Rattle.c_parser_actions.specs.Machine.{Move}
-use Rattle.c_parser_actions.specs.MachineSteps.{step}
+use Rattle.c_parser_moves.proofs.Machine.{Move}
+use Rattle.c_parser_moves.proofs.MachineSteps.{step}
 
 pub record TState : Type 0 where
   pub next : Next

@@ -11,18 +11,18 @@ use Rattle.c_lexer.specs.declared.token.Token.{Token}
 use Rattle.c_syntax.specs.declared.declaration.Base.{Base}
 use Rattle.c_syntax.specs.Syntax.{Expr, Exprs, Decl, Decls, Annots, Annot, Items, Item, Parts, Value, Values, Rest, Name, Number, Char, Text, Binary, Assign, Cond, Prefix, Postfix, SizeofExpr, Cast, Index, Call, Member, Arrow, NoExprs, OneExpr, Declare, Array, Plain, Expression, Do, Return, ExprFirst, exprs_then, decls_then, annots_then, items_then, values_then}
 use Rattle.c_syntax.specs.Levels.{level_of, begins_type, opens_type, from_of}
-use Rattle.c_parser_actions.specs.declared.mark.Punctuator.{Punctuator}
-use Rattle.c_parser_actions.specs.declared.mark.Punctuator.TheVariants as marks
-use Rattle.c_parser_actions.specs.declared.mark.After.{After}
-use Rattle.c_parser_actions.specs.declared.mark.After.TheVariants as afters
-use Rattle.c_parser_actions.specs.declared.frame.Frame.{Frame}
-use Rattle.c_parser_actions.specs.declared.frame.Frame.TheVariants as fr
-use Rattle.c_parser_actions.specs.declared.frame.Next.TheVariants as nx
-use Rattle.c_parser_actions.specs.declared.action.Action.TheVariants as acts
-use Rattle.c_parser_actions.specs.Marks.{mark_of, mark_at, after_of, after_at}
+use Rattle.c_parser_moves.specs.declared.mark.Punctuator.{Punctuator}
+use Rattle.c_parser_moves.specs.declared.mark.Punctuator.TheVariants as marks
+use Rattle.c_parser_moves.specs.declared.mark.After.{After}
+use Rattle.c_parser_moves.specs.declared.mark.After.TheVariants as afters
+use Rattle.c_parser_moves.specs.declared.frame.Frame.{Frame}
+use Rattle.c_parser_moves.specs.declared.frame.Frame.TheVariants as fr
+use Rattle.c_parser_moves.specs.declared.frame.Next.TheVariants as nx
+use Rattle.c_parser_moves.specs.declared.action.Action.TheVariants as acts
+use Rattle.c_parser_moves.specs.Marks.{mark_of, mark_at, after_of, after_at}
 use Rattle.c_parser_actions.specs.Pieces.{Piece, PExpr}
-use Rattle.c_parser_actions.specs.Machine.{move, tail, fail}
-use Rattle.c_parser_actions.specs.MachineExpr.{bracket, size, start_sign, start, call, field_name, field, after, close, climb, give, do_end, at_comma, at_close, at_bracket, at_colon, at_semicolon, closes, value}
+use Rattle.c_parser_moves.proofs.Machine.{move, tail, fail}
+use Rattle.c_parser_moves.proofs.MachineExpr.{bracket, size, start_sign, start, call, field_name, field, after, close, climb, give, do_end, at_comma, at_close, at_bracket, at_colon, at_semicolon, closes, value}
 use Rattle.c_syntax.specs.Levels.{opens}
 use Rattle.c_syntax.specs.Grammar as g
 use Rattle.c_syntax.specs.Grammar.{IsPostfix, IsUnary, IsExpr, IsArgs, IsTypeName, IsSpecs, IsConsts, IsDeclr, IsDirect, IsParams, IsParamList, IsParam, IsAnnotation, IsAnnots, IsAnnot, IsItems, IsItem, IsAtom, IsSomething, Label, Named, Nameless, label_from, label_name}

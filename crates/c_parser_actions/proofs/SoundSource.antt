@@ -10,27 +10,27 @@ use Rattle.c_syntax.specs.declared.declaration.Base.{Base}
 use Rattle.c_syntax.specs.declared.declaration.Base.TheVariants as bases
 use Rattle.c_syntax.specs.Syntax.{Decls, Annots, Parts, Value, Stmt, NoExpr, Declare, NoDecls, NoAnnots, NoParts, Pointer, Braces, NoValues, NoRest, Initial, Body, Members, Block, Expression, If, IfElse, While, For, Break, Continue, Return, NoEntries, LocalEntry, StmtEntry, NoFirst, LocalFirst, decls_then, values_then, entries_then}
 use Rattle.c_syntax.specs.Levels.{is_else, begins_type, begins_else, from_of}
-use Rattle.c_parser_actions.specs.declared.mark.Punctuator.{Punctuator}
-use Rattle.c_parser_actions.specs.declared.mark.Punctuator.TheVariants as marks
-use Rattle.c_parser_actions.specs.declared.mark.Begin.{Begin}
-use Rattle.c_parser_actions.specs.declared.mark.Begin.TheVariants as begins
-use Rattle.c_parser_actions.specs.declared.frame.Naming.{Naming}
-use Rattle.c_parser_actions.specs.declared.frame.Target.TheVariants as targets
-use Rattle.c_parser_actions.specs.declared.frame.DeclaredIn.{DeclaredIn}
-use Rattle.c_parser_actions.specs.declared.frame.DeclaredIn.TheVariants as places
-use Rattle.c_parser_actions.specs.declared.frame.Frame.{Frame}
-use Rattle.c_parser_actions.specs.declared.frame.Frame.TheVariants as fr
-use Rattle.c_parser_actions.specs.declared.frame.Next.{Next}
-use Rattle.c_parser_actions.specs.declared.frame.Next.TheVariants as nx
-use Rattle.c_parser_actions.specs.declared.action.Action.TheVariants as acts
-use Rattle.c_parser_actions.specs.Marks.{mark_of, mark_at, begin_of}
-use Rattle.c_parser_actions.specs.Words.{take_specs}
+use Rattle.c_parser_moves.specs.declared.mark.Punctuator.{Punctuator}
+use Rattle.c_parser_moves.specs.declared.mark.Punctuator.TheVariants as marks
+use Rattle.c_parser_moves.specs.declared.mark.Begin.{Begin}
+use Rattle.c_parser_moves.specs.declared.mark.Begin.TheVariants as begins
+use Rattle.c_parser_moves.specs.declared.frame.Naming.{Naming}
+use Rattle.c_parser_moves.specs.declared.frame.Target.TheVariants as targets
+use Rattle.c_parser_moves.specs.declared.frame.DeclaredIn.{DeclaredIn}
+use Rattle.c_parser_moves.specs.declared.frame.DeclaredIn.TheVariants as places
+use Rattle.c_parser_moves.specs.declared.frame.Frame.{Frame}
+use Rattle.c_parser_moves.specs.declared.frame.Frame.TheVariants as fr
+use Rattle.c_parser_moves.specs.declared.frame.Next.{Next}
+use Rattle.c_parser_moves.specs.declared.frame.Next.TheVariants as nx
+use Rattle.c_parser_moves.specs.declared.action.Action.TheVariants as acts
+use Rattle.c_parser_moves.specs.Marks.{mark_of, mark_at, begin_of}
+use Rattle.c_parser_moves.specs.Words.{take_specs}
 use Rattle.c_parser_actions.specs.Pieces.{Piece, PDeclr, PSpecs, PDecls, PValue, PStmt, PTag, act}
-use Rattle.c_parser_actions.specs.Machine.{move, tail}
-use Rattle.c_parser_actions.specs.MachineDeclr.{end_acts, end_next, with_value, with_body, named, declared, is_top, annotated}
-use Rattle.c_parser_actions.specs.MachineExpr.{start}
-use Rattle.c_parser_actions.specs.MachineSource.{initial, braces_on, braces_end, init_end, value_end, condition, for_head, leaf, returned, stmt, do_on, do_while, done, block_end, entry, for_first, for_test, for_step, struct_end, member_end, defines_kinds, defines, top, tops}
-use Rattle.c_parser_actions.specs.MachineSteps.{give_next, take_next, read_next, given, taken, step}
+use Rattle.c_parser_moves.proofs.Machine.{move, tail}
+use Rattle.c_parser_moves.proofs.MachineDeclr.{end_acts, end_next, with_value, with_body, named, declared, is_top, annotated}
+use Rattle.c_parser_moves.proofs.MachineExpr.{start}
+use Rattle.c_parser_moves.proofs.MachineSource.{initial, braces_on, braces_end, init_end, value_end, condition, for_head, leaf, returned, stmt, do_on, do_while, done, block_end, entry, for_first, for_test, for_step, struct_end, member_end, defines_kinds, defines, top, tops}
+use Rattle.c_parser_moves.proofs.MachineSteps.{give_next, take_next, read_next, given, taken, step}
 use Rattle.c_syntax.specs.Grammar as g
 use Rattle.c_syntax.specs.Grammar.{IsPostfix, IsUnary, IsExpr, IsArgs, IsTypeName, IsSpecs, IsConsts, IsDeclr, IsDirect, IsParams, IsParamList, IsParam, IsAnnotation, IsAnnots, IsAnnot, IsItems, IsItem, IsAtom, IsSomething, Label, Named, Nameless, label_from, label_name}
 use Rattle.c_syntax.specs.Sources as s

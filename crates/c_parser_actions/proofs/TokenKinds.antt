@@ -7,13 +7,13 @@ use Rattle.c_lexer.specs.declared.token.Word.TheVariants as words
 use Rattle.c_lexer.specs.declared.token.Kind.{Kind}
 use Rattle.c_lexer.specs.declared.token.Kind.TheVariants as kinds
 use Rattle.c_syntax.specs.Levels.{level_of, is_assignment, is_postfix}
-use Rattle.c_parser_actions.specs.declared.mark.Punctuator.{Punctuator}
-use Rattle.c_parser_actions.specs.declared.mark.Punctuator.TheVariants as marks
-use Rattle.c_parser_actions.specs.declared.mark.After.{After}
-use Rattle.c_parser_actions.specs.declared.mark.After.TheVariants as afters
-use Rattle.c_parser_actions.specs.declared.mark.Begin.{Begin}
-use Rattle.c_parser_actions.specs.declared.mark.Begin.TheVariants as begins
-use Rattle.c_parser_actions.specs.Marks.{mark_of, sign_mark, after_sign, after_of, begin_of}
+use Rattle.c_parser_moves.specs.declared.mark.Punctuator.{Punctuator}
+use Rattle.c_parser_moves.specs.declared.mark.Punctuator.TheVariants as marks
+use Rattle.c_parser_moves.specs.declared.mark.After.{After}
+use Rattle.c_parser_moves.specs.declared.mark.After.TheVariants as afters
+use Rattle.c_parser_moves.specs.declared.mark.Begin.{Begin}
+use Rattle.c_parser_moves.specs.declared.mark.Begin.TheVariants as begins
+use Rattle.c_parser_moves.specs.Marks.{mark_of, sign_mark, after_sign, after_of, begin_of}
 
 -- ---- signs that end or divide constructs
 

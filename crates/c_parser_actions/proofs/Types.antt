@@ -11,12 +11,12 @@ use Rattle.c_syntax.specs.declared.specifier.Core.{Core}
 use Rattle.c_syntax.specs.declared.specifier.Core.TheVariants as cores
 use Rattle.c_syntax.specs.Levels.{is_type_word, is_type_kind, begins_type}
 use Rattle.c_syntax.specs.TypeWords.{with_word, with_core, with_tag, put_core, put_storage, no_words, base_of}
-use Rattle.c_parser_actions.specs.Words.{More, put_word, word_step, storage_step, next_word, tag_step, take_words, based, with_rest, take_specs, is_const, unless_const, skip_consts}
+use Rattle.c_parser_moves.specs.Words.{More, put_word, word_step, storage_step, next_word, tag_step, take_words, based, with_rest, take_specs, is_const, unless_const, skip_consts}
 use Rattle.c_syntax.specs.Grammar as g
 use Rattle.c_syntax.specs.Grammar.{IsPostfix, IsUnary, IsExpr, IsArgs, IsTypeName, IsWords, IsSpecs, IsConsts, IsDeclr, IsDirect, Label, Named, Nameless}
-use Rattle.c_parser_actions.specs.declared.mark.Punctuator.{Punctuator}
-use Rattle.c_parser_actions.specs.declared.mark.Punctuator.TheVariants as marks
-use Rattle.c_parser_actions.specs.Marks.{mark_of, mark_at}
+use Rattle.c_parser_moves.specs.declared.mark.Punctuator.{Punctuator}
+use Rattle.c_parser_moves.specs.declared.mark.Punctuator.TheVariants as marks
+use Rattle.c_parser_moves.specs.Marks.{mark_of, mark_at}
 use Rattle.c_parser_actions.proofs.Firsts.{core_is_type}
 
 -- the tokens don't begin with a word

@@ -1,8 +1,8 @@
 -- How much is left to do: it falls with each step.
 use Rattle.std.specs.Prelude.{ℕ, ◌+◌, ◌*◌, length}
-use Rattle.c_parser_actions.specs.declared.frame.Next.{Next}
-use Rattle.c_parser_actions.specs.declared.frame.Next.TheVariants as nexts
-use Rattle.c_parser_actions.specs.Machine.{Move}
+use Rattle.c_parser_moves.specs.declared.frame.Next.{Next}
+use Rattle.c_parser_moves.specs.declared.frame.Next.TheVariants as nexts
+use Rattle.c_parser_moves.proofs.Machine.{Move}
 
 abbrev pub weight_of : Next → ℕ → ℕ → ℕ
 weight_of nexts.Fail n k = 0

@@ -3,7 +3,7 @@ use Rattle.std.specs.Prelude.{◌≡◌, List, [], ◌∷◌, reverse}
 use Rattle.c_lexer.specs.declared.token.Token.{Token}
 use Rattle.c_syntax.specs.Syntax.{Decls}
 use Rattle.c_syntax.specs.Sources.{Spells}
-use Rattle.c_parser_actions.specs.declared.action.Action.{Action}
+use Rattle.c_parser_moves.specs.declared.action.Action.{Action}
 use Rattle.c_parser_actions.specs.declared.postfix.PostfixError.{PostfixError}
 use Rattle.c_parser_actions.specs.declared.postfix.PostfixError.TheVariants as errors
 use Rattle.c_parser_actions.specs.Pieces.{PDecls, acted}

@@ -1,12 +1,5 @@
-pub mod Marks
-pub mod Words
 pub mod Ahead
 pub mod Pieces
 pub mod Builds
-pub mod Machine
-pub mod MachineExpr
-pub mod MachineDeclr
-pub mod MachineSource
-pub mod MachineSteps
 pub mod Seen
 pub mod Plans

@@ -3,8 +3,8 @@ use Rattle.std.specs.Prelude.{ℕ, List, [], ◌∷◌, Option, Some, None}
 use Rattle.c_syntax.specs.declared.declaration.Base.{Base}
 use Rattle.c_syntax.specs.declared.declaration.Base.TheVariants as bases
 use Rattle.c_syntax.specs.Syntax.{Expr, Exprs, MaybeExpr, Decl, Decls, Annots, Items, Item, Atom, Parts, Value, Values, Stmt, Entries, First, Name, Number, Char, Text, Binary, Assign, Cond, Prefix, Postfix, SizeofExpr, SizeofType, Cast, Index, Call, Member, Arrow, NoExprs, NoExpr, OneExpr, Declare, NoDecls, NoAnnots, Annotate, NoItems, OneFactor, TwoFactors, NameAtom, NumberAtom, ReturnAtom, SizeofAtom, NoParts, Pointer, Array, Params, Plain, Braces, NoValues, NoRest, Initial, Body, Members, Block, Expression, If, IfElse, While, Do, For, Break, Continue, Return, NoEntries, LocalEntry, StmtEntry, NoFirst, LocalFirst, ExprFirst, exprs_then, decls_then, annots_then, items_then, values_then, entries_then}
-use Rattle.c_parser_actions.specs.declared.action.Action.{Action}
-use Rattle.c_parser_actions.specs.declared.action.Action.TheVariants as acts
+use Rattle.c_parser_moves.specs.declared.action.Action.{Action}
+use Rattle.c_parser_moves.specs.declared.action.Action.TheVariants as acts
 
 -- a declarator has the offset of its name, or of its declaration, beside its parts; a type has the
 -- annotations before it

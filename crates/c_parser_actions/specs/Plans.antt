@@ -1,16 +1,16 @@
 -- What a plan of the parser does to the constructs that are open, as a move of the machine.
 use Rattle.std.specs.Prelude.{◌≡◌, List, [], ◌∷◌}
 use Rattle.c_lexer.specs.declared.token.Token.{Token}
-use Rattle.c_parser_actions.specs.declared.action.Action.{Action}
-use Rattle.c_parser_actions.specs.declared.frame.Frame.{Frame}
-use Rattle.c_parser_actions.specs.declared.frame.Next.{Next}
-use Rattle.c_parser_actions.specs.declared.frame.Next.TheVariants as nexts
+use Rattle.c_parser_moves.specs.declared.action.Action.{Action}
+use Rattle.c_parser_moves.specs.declared.frame.Frame.{Frame}
+use Rattle.c_parser_moves.specs.declared.frame.Next.{Next}
+use Rattle.c_parser_moves.specs.declared.frame.Next.TheVariants as nexts
 use Rattle.c_parser_actions.specs.declared.plan.Acts.{Acts}
 use Rattle.c_parser_actions.specs.declared.plan.Acts.TheVariants as acts
 use Rattle.c_parser_actions.specs.declared.plan.Plan.{Plan}
 use Rattle.c_parser_actions.specs.declared.plan.Plan.TheVariants as plans
-use Rattle.c_parser_actions.specs.Machine.{Move, move, fail, begin}
-use Rattle.c_parser_actions.specs.MachineSteps.{read_next}
+use Rattle.c_parser_moves.proofs.Machine.{Move, move, fail, begin}
+use Rattle.c_parser_moves.proofs.MachineSteps.{read_next}
 
 -- the actions, the newest first
 abbrev pub acts_of : Acts → List Action

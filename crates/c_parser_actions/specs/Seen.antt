@@ -2,11 +2,11 @@
 use Rattle.std.specs.Prelude.{◌≡◌, List, [], ◌∷◌, reverse, Option, MatchOption, Result, IfOk}
 use Rattle.std.specs.Borrow.{Bor}
 use Rattle.c_lexer.specs.declared.token.Token.{Token}
-use Rattle.c_parser_actions.specs.declared.frame.Frame.{Frame}
-use Rattle.c_parser_actions.specs.declared.frame.Next.{Next}
-use Rattle.c_parser_actions.specs.declared.action.Action.{Action}
+use Rattle.c_parser_moves.specs.declared.frame.Frame.{Frame}
+use Rattle.c_parser_moves.specs.declared.frame.Next.{Next}
+use Rattle.c_parser_moves.specs.declared.action.Action.{Action}
 use Rattle.c_parser_actions.specs.declared.parser.Parser.{Parser}
-use Rattle.c_parser_actions.specs.Machine.{Move, move, moved}
+use Rattle.c_parser_moves.proofs.Machine.{Move, move, moved}
 
 -- the actions so far, the newest first
 unfoldable pub acts_seen : Parser → List Action

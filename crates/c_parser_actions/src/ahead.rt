@@ -2,11 +2,11 @@
 
 ghost use Rattle.std.specs.Prelude.{◌≡◌, Some, IfOk, OnOk, length, reverse};
 ghost use Rattle.std.specs.List.{slice_get};
-ghost use Rattle.c_parser_actions.specs.Words.{lists};
+ghost use Rattle.c_parser_moves.specs.Words.{lists};
 ghost use Rattle.c_parser_actions.specs.Ahead.{Foretells, nearest as nearest_of, met};
 
-use crate::mark::{Punctuator, mark_kind, type_first};
 use c_lexer::Token;
+use c_parser_moves::{Punctuator, mark_kind, type_first};
 use std::alloc::{AllocError, Global};
 
 /// Whether a type follows the nearest of them.

@@ -1,18 +1,16 @@
 // The moves over annotations.
 
 ghost use Rattle.std.specs.Prelude.{IfOk};
-ghost use Rattle.c_parser_actions.specs.MachineDeclr.{annot_items, annot, annots_end, annot_end, atom_size, atom, factor, atom_end, items_end, item_end};
+ghost use Rattle.c_parser_moves.proofs.MachineDeclr.{annot_items, annot, annots_end, annot_end, atom_size, atom, factor, atom_end, items_end, item_end};
 ghost use Rattle.c_parser_actions.specs.Plans.{Plans};
 
-use crate::action::Action;
-use crate::frame::{Frame, Next, Target};
-use crate::mark::{Punctuator, mark_first};
 use crate::parser::skip_one;
 use crate::plan::{Acts, Plan};
 use c_lexer::{Kind, Text, Token, Word};
+use c_parser_moves::{Action, Frame, Next, Punctuator, Target, mark_first};
 use std::alloc::AllocError;
 
-#[tactic(auto, unfolding(crate::specs::MachineDeclr::annot_items))]
+#[tactic(auto, unfolding(c_parser_moves::proofs::MachineDeclr::annot_items))]
 fn start_items<'a>(
     what: Punctuator,
     from: u32,
@@ -29,7 +27,7 @@ fn start_items<'a>(
     }
 }
 
-#[tactic(auto, unfolding(crate::specs::MachineDeclr::annot))]
+#[tactic(auto, unfolding(c_parser_moves::proofs::MachineDeclr::annot))]
 pub fn start_annot<'a>(first: &'a Token, rest: &'a [Token]) -> Result<Plan<'a>, AllocError>
     ensures { IfOk result (λ p. Plans p (annot first.now.kind first.now.from rest.now)) }
 {
@@ -42,7 +40,7 @@ pub fn start_annot<'a>(first: &'a Token, rest: &'a [Token]) -> Result<Plan<'a>, 
     }
 }
 
-#[tactic(auto, unfolding(crate::specs::MachineDeclr::annots_end))]
+#[tactic(auto, unfolding(c_parser_moves::proofs::MachineDeclr::annots_end))]
 fn after_annot<'a>(what: Punctuator, target: Target, rest: &'a [Token]) -> Plan<'a>
     ensures { Plans result (annots_end what target rest.now) }
 {
@@ -62,7 +60,7 @@ fn after_annot<'a>(what: Punctuator, target: Target, rest: &'a [Token]) -> Plan<
     }
 }
 
-#[tactic(auto, unfolding(crate::specs::MachineDeclr::annot_end))]
+#[tactic(auto, unfolding(c_parser_moves::proofs::MachineDeclr::annot_end))]
 pub fn give_annot<'a>(frame: Frame, rest: &'a [Token]) -> Plan<'a>
     ensures { Plans result (annot_end frame rest.now) }
 {
@@ -72,7 +70,7 @@ pub fn give_annot<'a>(frame: Frame, rest: &'a [Token]) -> Plan<'a>
     }
 }
 
-#[tactic(auto, unfolding(crate::specs::MachineDeclr::atom_size))]
+#[tactic(auto, unfolding(c_parser_moves::proofs::MachineDeclr::atom_size))]
 fn start_atom_type<'a>(what: Punctuator, rest: &'a [Token]) -> Plan<'a>
     ensures { Plans result (atom_size what rest.now) }
 {
@@ -82,7 +80,7 @@ fn start_atom_type<'a>(what: Punctuator, rest: &'a [Token]) -> Plan<'a>
     }
 }
 
-#[tactic(auto, unfolding(crate::specs::MachineDeclr::atom))]
+#[tactic(auto, unfolding(c_parser_moves::proofs::MachineDeclr::atom))]
 pub fn start_atom<'a>(first: &'a Token, rest: &'a [Token]) -> Result<Plan<'a>, AllocError>
     ensures { IfOk result (λ p. Plans p (atom first.now.kind rest.now)) }
 {
@@ -102,7 +100,7 @@ pub fn start_atom<'a>(first: &'a Token, rest: &'a [Token]) -> Result<Plan<'a>, A
     }
 }
 
-#[tactic(auto, unfolding(crate::specs::MachineDeclr::factor))]
+#[tactic(auto, unfolding(c_parser_moves::proofs::MachineDeclr::factor))]
 fn after_factor<'a>(what: Punctuator, from: u32, whole: &'a [Token], rest: &'a [Token]) -> Plan<'a>
     ensures { Plans result (factor what from whole.now rest.now) }
 {
@@ -112,7 +110,7 @@ fn after_factor<'a>(what: Punctuator, from: u32, whole: &'a [Token], rest: &'a [
     }
 }
 
-#[tactic(auto, unfolding(crate::specs::MachineDeclr::atom_end))]
+#[tactic(auto, unfolding(c_parser_moves::proofs::MachineDeclr::atom_end))]
 pub fn give_atom<'a>(frame: Frame, rest: &'a [Token]) -> Plan<'a>
     ensures { Plans result (atom_end frame rest.now) }
 {
@@ -125,7 +123,7 @@ pub fn give_atom<'a>(frame: Frame, rest: &'a [Token]) -> Plan<'a>
     }
 }
 
-#[tactic(auto, unfolding(crate::specs::MachineDeclr::items_end))]
+#[tactic(auto, unfolding(c_parser_moves::proofs::MachineDeclr::items_end))]
 fn after_item<'a>(what: Punctuator, rest: &'a [Token]) -> Plan<'a>
     ensures { Plans result (items_end what rest.now) }
 {
@@ -138,7 +136,7 @@ fn after_item<'a>(what: Punctuator, rest: &'a [Token]) -> Plan<'a>
     }
 }
 
-#[tactic(auto, unfolding(crate::specs::MachineDeclr::item_end))]
+#[tactic(auto, unfolding(c_parser_moves::proofs::MachineDeclr::item_end))]
 pub fn give_item<'a>(frame: Frame, rest: &'a [Token]) -> Plan<'a>
     ensures { Plans result (item_end frame rest.now) }
 {

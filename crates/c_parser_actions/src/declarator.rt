@@ -1,20 +1,19 @@
 // The moves over declarators, and what follows them.
 
 ghost use Rattle.std.specs.Prelude.{◌≡◌, ◌∷◌, [], IfOk, Some, false};
-ghost use Rattle.c_parser_actions.specs.Machine.{move};
-ghost use Rattle.c_parser_actions.specs.MachineDeclr.{groups, unnamed, in_group, give_name, declr, params, direct, end_acts, end_next, with_value, with_body, named, param_end, type_end, type_closes, declared, named_group};
+ghost use Rattle.c_parser_moves.proofs.Machine.{move};
+ghost use Rattle.c_parser_moves.proofs.MachineDeclr.{groups, unnamed, in_group, give_name, declr, params, direct, end_acts, end_next, with_value, with_body, named, param_end, type_end, type_closes, declared, named_group};
 ghost use Rattle.c_parser_actions.specs.Plans.{Plans};
 ghost use Rattle.c_parser_actions.specs.Ahead.{Foretells};
 ghost use Rattle.c_syntax.specs.Levels.{lone_void};
 
-use crate::action::Action;
 use crate::ahead::annots_follow;
-use crate::frame::{DeclaredIn, Frame, Naming, Next};
-use crate::mark::{Punctuator, mark_first, void_first};
 use crate::parser::skip_one;
 use crate::plan::{Acts, Plan};
-use crate::words::after_consts;
 use c_lexer::{Kind, Sign, Text, Token};
+use c_parser_moves::{
+    Action, DeclaredIn, Frame, Naming, Next, Punctuator, after_consts, mark_first, void_first,
+};
 use std::alloc::AllocError;
 
 fn names_group(naming: Naming) -> bool
@@ -26,7 +25,7 @@ fn names_group(naming: Naming) -> bool
     }
 }
 
-#[tactic(auto, unfolding(crate::specs::MachineDeclr::groups))]
+#[tactic(auto, unfolding(c_parser_moves::proofs::MachineDeclr::groups))]
 fn opens_group(ahead: &[bool], naming: Naming, rest: &[Token]) -> bool
     requires { Foretells ahead.now rest.now }
     ensures { result ≡ groups naming rest.now }
@@ -46,7 +45,7 @@ fn opens_group(ahead: &[bool], naming: Naming, rest: &[Token]) -> bool
     }
 }
 
-#[tactic(auto, unfolding(crate::specs::MachineDeclr::unnamed))]
+#[tactic(auto, unfolding(c_parser_moves::proofs::MachineDeclr::unnamed))]
 fn without_name<'a>(naming: Naming, from: u32, rest: &'a [Token]) -> Plan<'a>
     ensures { Plans result (unnamed naming from rest.now) }
 {
@@ -56,7 +55,7 @@ fn without_name<'a>(naming: Naming, from: u32, rest: &'a [Token]) -> Plan<'a>
     }
 }
 
-#[tactic(auto, unfolding(crate::specs::MachineDeclr::give_name))]
+#[tactic(auto, unfolding(c_parser_moves::proofs::MachineDeclr::give_name))]
 fn with_name<'a>(
     naming: Naming,
     from: u32,
@@ -77,7 +76,7 @@ fn with_name<'a>(
     }
 }
 
-#[tactic(auto, unfolding(crate::specs::MachineDeclr::in_group))]
+#[tactic(auto, unfolding(c_parser_moves::proofs::MachineDeclr::in_group))]
 fn in_brackets<'a>(
     ahead: &[bool],
     naming: Naming,
@@ -95,7 +94,7 @@ fn in_brackets<'a>(
     }
 }
 
-#[tactic(auto, unfolding(crate::specs::MachineDeclr::declr))]
+#[tactic(auto, unfolding(c_parser_moves::proofs::MachineDeclr::declr))]
 pub fn start_declr<'a>(
     ahead: &[bool],
     naming: Naming,
@@ -123,7 +122,7 @@ pub fn start_declr<'a>(
     }
 }
 
-#[tactic(auto, unfolding(crate::specs::MachineDeclr::params))]
+#[tactic(auto, unfolding(c_parser_moves::proofs::MachineDeclr::params))]
 fn start_params<'a>(from: u32, rest: &'a [Token]) -> Plan<'a>
     ensures { Plans result (params (lone_void rest.now) from rest.now) }
 {
@@ -143,7 +142,7 @@ fn start_params<'a>(from: u32, rest: &'a [Token]) -> Plan<'a>
     }
 }
 
-#[tactic(auto, unfolding(crate::specs::MachineDeclr::direct))]
+#[tactic(auto, unfolding(c_parser_moves::proofs::MachineDeclr::direct))]
 pub fn after_direct<'a>(
     what: Punctuator,
     from: u32,
@@ -191,7 +190,7 @@ pub fn end_names<'a>(place: DeclaredIn, last: Action, rest: &'a [Token]) -> Plan
     }
 }
 
-#[tactic(auto, unfolding(crate::specs::MachineDeclr::with_value))]
+#[tactic(auto, unfolding(c_parser_moves::proofs::MachineDeclr::with_value))]
 fn start_value<'a>(place: DeclaredIn, rest: &'a [Token]) -> Plan<'a>
     ensures { Plans result (with_value place rest.now) }
 {
@@ -201,7 +200,7 @@ fn start_value<'a>(place: DeclaredIn, rest: &'a [Token]) -> Plan<'a>
     }
 }
 
-#[tactic(auto, unfolding(crate::specs::MachineDeclr::with_body))]
+#[tactic(auto, unfolding(c_parser_moves::proofs::MachineDeclr::with_body))]
 fn start_body<'a>(place: DeclaredIn, first: bool, rest: &'a [Token]) -> Plan<'a>
     ensures { Plans result (with_body place first rest.now) }
 {
@@ -211,7 +210,7 @@ fn start_body<'a>(place: DeclaredIn, first: bool, rest: &'a [Token]) -> Plan<'a>
     }
 }
 
-#[tactic(auto, unfolding(crate::specs::MachineDeclr::named))]
+#[tactic(auto, unfolding(c_parser_moves::proofs::MachineDeclr::named))]
 fn after_name<'a>(
     what: Punctuator,
     place: DeclaredIn,
@@ -237,7 +236,7 @@ fn after_name<'a>(
     }
 }
 
-#[tactic(auto, unfolding(crate::specs::MachineDeclr::param_end))]
+#[tactic(auto, unfolding(c_parser_moves::proofs::MachineDeclr::param_end))]
 fn after_param<'a>(what: Punctuator, from: u32, rest: &'a [Token]) -> Plan<'a>
     ensures { Plans result (param_end what from rest.now) }
 {
@@ -266,7 +265,7 @@ fn after_param<'a>(what: Punctuator, from: u32, rest: &'a [Token]) -> Plan<'a>
     }
 }
 
-#[tactic(auto, unfolding(crate::specs::MachineDeclr::type_end))]
+#[tactic(auto, unfolding(c_parser_moves::proofs::MachineDeclr::type_end))]
 fn end_type<'a>(frame: Frame, rest: &'a [Token]) -> Plan<'a>
     ensures { Plans result (type_end frame rest.now) }
 {
@@ -298,7 +297,7 @@ fn end_type<'a>(frame: Frame, rest: &'a [Token]) -> Plan<'a>
     }
 }
 
-#[tactic(auto, unfolding(crate::specs::MachineDeclr::type_closes))]
+#[tactic(auto, unfolding(c_parser_moves::proofs::MachineDeclr::type_closes))]
 fn close_type<'a>(what: Punctuator, frame: Frame, rest: &'a [Token]) -> Plan<'a>
     ensures { Plans result (type_closes what frame rest.now) }
 {
@@ -308,7 +307,7 @@ fn close_type<'a>(what: Punctuator, frame: Frame, rest: &'a [Token]) -> Plan<'a>
     }
 }
 
-#[tactic(auto, unfolding(crate::specs::MachineDeclr::declared))]
+#[tactic(auto, unfolding(c_parser_moves::proofs::MachineDeclr::declared))]
 pub fn give_declr<'a>(frame: Frame, rest: &'a [Token]) -> Plan<'a>
     ensures { Plans result (declared frame rest.now) }
 {

@@ -1,22 +1,21 @@
 // The moves over expressions.
 
 ghost use Rattle.std.specs.Prelude.{IfOk};
-ghost use Rattle.c_parser_actions.specs.MachineExpr.{bracket, size, start_sign, start, call, field, after, climb, give, do_end, at_comma, at_close, at_bracket, at_colon, at_semicolon, closes, value};
-ghost use Rattle.c_parser_actions.specs.Marks.{mark_at, IsLow};
+ghost use Rattle.c_parser_moves.proofs.MachineExpr.{bracket, size, start_sign, start, call, field, after, climb, give, do_end, at_comma, at_close, at_bracket, at_colon, at_semicolon, closes, value};
+ghost use Rattle.c_parser_moves.specs.Marks.{mark_at, IsLow};
 ghost use Rattle.c_parser_actions.specs.Plans.{Plans};
 ghost use Rattle.c_syntax.specs.Levels.{begins_type, opens_type};
 
-use crate::action::Action;
-use crate::frame::{Frame, Next};
-use crate::mark::{
-    After, Punctuator, after_first, mark_first, open_type_first, prefix_sign, type_first,
-};
 use crate::parser::skip_one;
 use crate::plan::{Acts, Plan};
 use c_lexer::{Kind, Sign, Token, Word};
+use c_parser_moves::{
+    Action, After, Frame, Next, Punctuator, after_first, mark_first, open_type_first, prefix_sign,
+    type_first,
+};
 use std::alloc::AllocError;
 
-#[tactic(auto, unfolding(crate::specs::MachineExpr::bracket))]
+#[tactic(auto, unfolding(c_parser_moves::proofs::MachineExpr::bracket))]
 fn open_bracket<'a>(from: u32, rest: &'a [Token]) -> Plan<'a>
     ensures { Plans result (bracket (begins_type rest.now) from rest.now) }
 {
@@ -27,7 +26,7 @@ fn open_bracket<'a>(from: u32, rest: &'a [Token]) -> Plan<'a>
     }
 }
 
-#[tactic(auto, unfolding(crate::specs::MachineExpr::size))]
+#[tactic(auto, unfolding(c_parser_moves::proofs::MachineExpr::size))]
 fn start_sizeof<'a>(from: u32, rest: &'a [Token]) -> Plan<'a>
     ensures { Plans result (size (opens_type rest.now) from rest.now) }
 {
@@ -43,7 +42,7 @@ fn start_sizeof<'a>(from: u32, rest: &'a [Token]) -> Plan<'a>
     }
 }
 
-#[tactic(auto, unfolding(crate::specs::MachineExpr::start_sign))]
+#[tactic(auto, unfolding(c_parser_moves::proofs::MachineExpr::start_sign))]
 fn start_with_sign<'a>(sign: Sign, from: u32, rest: &'a [Token]) -> Plan<'a>
     ensures { Plans result (start_sign sign from rest.now) }
 {
@@ -59,7 +58,7 @@ fn start_with_sign<'a>(sign: Sign, from: u32, rest: &'a [Token]) -> Plan<'a>
     }
 }
 
-#[tactic(auto, unfolding(crate::specs::MachineExpr::start))]
+#[tactic(auto, unfolding(c_parser_moves::proofs::MachineExpr::start))]
 pub fn start_operand<'a>(first: &'a Token, rest: &'a [Token]) -> Result<Plan<'a>, AllocError>
     ensures { IfOk result (λ p. Plans p (start first.now.kind first.now.from rest.now)) }
 {
@@ -102,7 +101,7 @@ pub fn start_operand<'a>(first: &'a Token, rest: &'a [Token]) -> Result<Plan<'a>
     }
 }
 
-#[tactic(auto, unfolding(crate::specs::MachineExpr::call))]
+#[tactic(auto, unfolding(c_parser_moves::proofs::MachineExpr::call))]
 fn start_call<'a>(from: u32, rest: &'a [Token]) -> Plan<'a>
     ensures { Plans result (call (mark_at rest.now) from rest.now) }
 {
@@ -116,7 +115,7 @@ fn start_call<'a>(from: u32, rest: &'a [Token]) -> Plan<'a>
     }
 }
 
-#[tactic(auto, unfolding(crate::specs::MachineExpr::field_name, crate::specs::MachineExpr::field))]
+#[tactic(auto, unfolding(c_parser_moves::proofs::MachineExpr::field_name, c_parser_moves::proofs::MachineExpr::field))]
 fn read_field<'a>(dot: bool, from: u32, rest: &'a [Token]) -> Result<Plan<'a>, AllocError>
     ensures { IfOk result (λ p. Plans p (field dot from rest.now)) }
 {
@@ -144,7 +143,7 @@ fn read_field<'a>(dot: bool, from: u32, rest: &'a [Token]) -> Result<Plan<'a>, A
     }
 }
 
-#[tactic(auto, unfolding(crate::specs::MachineExpr::after))]
+#[tactic(auto, unfolding(c_parser_moves::proofs::MachineExpr::after))]
 pub fn after_operand<'a>(
     what: After,
     from: u32,
@@ -169,7 +168,7 @@ pub fn after_operand<'a>(
     }
 }
 
-#[tactic(auto, unfolding(crate::specs::MachineExpr::climb, crate::specs::MachineExpr::close))]
+#[tactic(auto, unfolding(c_parser_moves::proofs::MachineExpr::climb, c_parser_moves::proofs::MachineExpr::close))]
 fn climb_on<'a>(
     what: After,
     wanted: u8,
@@ -202,7 +201,7 @@ fn climb_on<'a>(
     }
 }
 
-#[tactic(auto, unfolding(crate::specs::MachineExpr::give))]
+#[tactic(auto, unfolding(c_parser_moves::proofs::MachineExpr::give))]
 pub fn give_operand<'a>(frame: Frame, level: u8, rest: &'a [Token]) -> Plan<'a>
     ensures { Plans result (give frame level rest.now) }
 {
@@ -220,7 +219,7 @@ pub fn give_operand<'a>(frame: Frame, level: u8, rest: &'a [Token]) -> Plan<'a>
     }
 }
 
-#[tactic(auto, unfolding(crate::specs::MachineExpr::do_end))]
+#[tactic(auto, unfolding(c_parser_moves::proofs::MachineExpr::do_end))]
 fn end_do<'a>(what: Punctuator, from: u32, rest: &'a [Token]) -> Plan<'a>
     ensures { Plans result (do_end what from rest.now) }
 {
@@ -232,7 +231,7 @@ fn end_do<'a>(what: Punctuator, from: u32, rest: &'a [Token]) -> Plan<'a>
     }
 }
 
-#[tactic(auto, unfolding(crate::specs::MachineExpr::at_comma))]
+#[tactic(auto, unfolding(c_parser_moves::proofs::MachineExpr::at_comma))]
 fn close_comma<'a>(frame: Frame, rest: &'a [Token]) -> Plan<'a>
     ensures { Plans result (at_comma frame rest.now) }
 {
@@ -242,7 +241,7 @@ fn close_comma<'a>(frame: Frame, rest: &'a [Token]) -> Plan<'a>
     }
 }
 
-#[tactic(auto, unfolding(crate::specs::MachineExpr::at_close))]
+#[tactic(auto, unfolding(c_parser_moves::proofs::MachineExpr::at_close))]
 fn close_round<'a>(frame: Frame, rest: &'a [Token]) -> Plan<'a>
     ensures { Plans result (at_close frame rest.now) }
 {
@@ -270,7 +269,7 @@ fn close_round<'a>(frame: Frame, rest: &'a [Token]) -> Plan<'a>
     }
 }
 
-#[tactic(auto, unfolding(crate::specs::MachineExpr::at_bracket))]
+#[tactic(auto, unfolding(c_parser_moves::proofs::MachineExpr::at_bracket))]
 fn close_square<'a>(frame: Frame, rest: &'a [Token]) -> Plan<'a>
     ensures { Plans result (at_bracket frame rest.now) }
 {
@@ -281,7 +280,7 @@ fn close_square<'a>(frame: Frame, rest: &'a [Token]) -> Plan<'a>
     }
 }
 
-#[tactic(auto, unfolding(crate::specs::MachineExpr::at_colon))]
+#[tactic(auto, unfolding(c_parser_moves::proofs::MachineExpr::at_colon))]
 fn close_colon<'a>(frame: Frame, rest: &'a [Token]) -> Plan<'a>
     ensures { Plans result (at_colon frame rest.now) }
 {
@@ -291,7 +290,7 @@ fn close_colon<'a>(frame: Frame, rest: &'a [Token]) -> Plan<'a>
     }
 }
 
-#[tactic(auto, unfolding(crate::specs::MachineExpr::at_semicolon))]
+#[tactic(auto, unfolding(c_parser_moves::proofs::MachineExpr::at_semicolon))]
 fn close_semicolon<'a>(frame: Frame, rest: &'a [Token]) -> Plan<'a>
     ensures { Plans result (at_semicolon frame rest.now) }
 {
@@ -318,7 +317,7 @@ fn close_semicolon<'a>(frame: Frame, rest: &'a [Token]) -> Plan<'a>
     }
 }
 
-#[tactic(auto, unfolding(crate::specs::MachineExpr::closes))]
+#[tactic(auto, unfolding(c_parser_moves::proofs::MachineExpr::closes))]
 fn close_with<'a>(what: Punctuator, frame: Frame, rest: &'a [Token]) -> Plan<'a>
     ensures { Plans result (closes what frame rest.now) }
 {
@@ -332,7 +331,7 @@ fn close_with<'a>(what: Punctuator, frame: Frame, rest: &'a [Token]) -> Plan<'a>
     }
 }
 
-#[tactic(auto, unfolding(crate::specs::MachineExpr::value))]
+#[tactic(auto, unfolding(c_parser_moves::proofs::MachineExpr::value))]
 pub fn give_value<'a>(frame: Frame, rest: &'a [Token]) -> Plan<'a>
     ensures { Plans result (value frame rest.now) }
 {

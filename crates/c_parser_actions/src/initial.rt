@@ -1,17 +1,15 @@
 // The moves over the values of declarations.
 
-ghost use Rattle.c_parser_actions.specs.MachineSource.{initial, braces_on, braces_end, init_end, value_end};
+ghost use Rattle.c_parser_moves.proofs.MachineSource.{initial, braces_on, braces_end, init_end, value_end};
 ghost use Rattle.c_parser_actions.specs.Plans.{Plans};
 
-use crate::action::Action;
 use crate::declarator::end_names;
-use crate::frame::{DeclaredIn, Frame, Naming, Next};
-use crate::mark::{Punctuator, mark_first};
 use crate::parser::skip_one;
 use crate::plan::{Acts, Plan};
 use c_lexer::Token;
+use c_parser_moves::{Action, DeclaredIn, Frame, Naming, Next, Punctuator, mark_first};
 
-#[tactic(auto, unfolding(crate::specs::MachineSource::initial))]
+#[tactic(auto, unfolding(c_parser_moves::proofs::MachineSource::initial))]
 pub fn start_initial<'a>(
     what: Punctuator,
     from: u32,
@@ -33,7 +31,7 @@ pub fn start_initial<'a>(
     }
 }
 
-#[tactic(auto, unfolding(crate::specs::MachineSource::braces_on))]
+#[tactic(auto, unfolding(c_parser_moves::proofs::MachineSource::braces_on))]
 fn more_braces<'a>(what: Punctuator, from: u32, whole: &'a [Token], rest: &'a [Token]) -> Plan<'a>
     ensures { Plans result (braces_on what from whole.now rest.now) }
 {
@@ -56,7 +54,7 @@ fn more_braces<'a>(what: Punctuator, from: u32, whole: &'a [Token], rest: &'a [T
     }
 }
 
-#[tactic(auto, unfolding(crate::specs::MachineSource::braces_end))]
+#[tactic(auto, unfolding(c_parser_moves::proofs::MachineSource::braces_end))]
 fn after_inner<'a>(what: Punctuator, from: u32, rest: &'a [Token]) -> Plan<'a>
     ensures { Plans result (braces_end what from rest.now) }
 {
@@ -73,7 +71,7 @@ fn after_inner<'a>(what: Punctuator, from: u32, rest: &'a [Token]) -> Plan<'a>
     }
 }
 
-#[tactic(auto, unfolding(crate::specs::MachineSource::init_end))]
+#[tactic(auto, unfolding(c_parser_moves::proofs::MachineSource::init_end))]
 fn after_init<'a>(what: Punctuator, place: DeclaredIn, rest: &'a [Token]) -> Plan<'a>
     ensures { Plans result (init_end what place rest.now) }
 {
@@ -91,7 +89,7 @@ fn after_init<'a>(what: Punctuator, place: DeclaredIn, rest: &'a [Token]) -> Pla
     }
 }
 
-#[tactic(auto, unfolding(crate::specs::MachineSource::value_end))]
+#[tactic(auto, unfolding(c_parser_moves::proofs::MachineSource::value_end))]
 pub fn give_initial<'a>(frame: Frame, rest: &'a [Token]) -> Plan<'a>
     ensures { Plans result (value_end frame rest.now) }
 {

@@ -1,21 +1,19 @@
 // The steps over operands and values, which are most of all: they do what is to be done without a plan.
 
-ghost use Rattle.c_parser_actions.specs.MachineExpr.{give};
-ghost use Rattle.c_parser_actions.specs.MachineSteps.{given, read_next, taken};
-ghost use Rattle.c_parser_actions.specs.declared.frame.Frame.TheVariants.{Climb};
-ghost use Rattle.c_parser_actions.specs.declared.frame.Next.TheVariants as nexts;
+ghost use Rattle.c_parser_moves.proofs.MachineExpr.{give};
+ghost use Rattle.c_parser_moves.proofs.MachineSteps.{given, read_next, taken};
+ghost use Rattle.c_parser_moves.specs.declared.frame.Frame.TheVariants.{Climb};
+ghost use Rattle.c_parser_moves.specs.declared.frame.Next.TheVariants as nexts;
 ghost use Rattle.c_parser_actions.specs.Seen.{Goes};
 
-use crate::action::Action;
 use crate::expression::{after_operand, give_operand, give_value, start_operand};
-use crate::frame::{Frame, Next};
-use crate::mark::{After, after_first};
 use crate::parser::{Parser, Went, skip_one};
 use c_lexer::{Kind, Token};
+use c_parser_moves::{Action, After, Frame, Next, after_first};
 
 impl Parser {
     /// Reads the first token of an operand, which may be all of it.
-    #[tactic(auto, unfolding(crate::specs::MachineSteps::take_next, crate::specs::MachineExpr::start))]
+    #[tactic(auto, unfolding(c_parser_moves::proofs::MachineSteps::take_next, c_parser_moves::proofs::MachineExpr::start))]
     pub fn read_operand<'a>(&mut self, rest: &'a [Token]) -> Went<'a>
         ensures { Goes result self.old self.new (taken nexts.Operand rest.now) }
     {
@@ -32,7 +30,7 @@ impl Parser {
     }
 
     /// Goes on by what follows an expression of level 15, which began at `from`.
-    #[tactic(auto, unfolding(crate::specs::MachineSteps::read_next, crate::specs::MachineExpr::after))]
+    #[tactic(auto, unfolding(c_parser_moves::proofs::MachineSteps::read_next, c_parser_moves::proofs::MachineExpr::after))]
     pub fn read_after<'a>(&mut self, from: u32, rest: &'a [Token]) -> Went<'a>
         ensures { Goes result self.old self.new (read_next (nexts.After from) rest.now) }
     {
@@ -45,7 +43,7 @@ impl Parser {
     }
 
     /// Gives an operand of a level to the expression that it is in, which wanted one of another level and began at `from`.
-    #[tactic(auto, unfolding(crate::specs::MachineExpr::give, crate::specs::MachineExpr::climb, crate::specs::MachineExpr::close))]
+    #[tactic(auto, unfolding(c_parser_moves::proofs::MachineExpr::give, c_parser_moves::proofs::MachineExpr::climb, c_parser_moves::proofs::MachineExpr::close))]
     fn climb<'a>(&mut self, wanted: u8, from: u32, level: u8, rest: &'a [Token]) -> Went<'a>
         ensures { Goes result self.old self.new (give (Climb wanted from) level rest.now) }
     {
@@ -60,7 +58,7 @@ impl Parser {
     }
 
     /// Gives an operand of a level to the construct that was opened last.
-    #[tactic(auto, unfolding(crate::specs::MachineSteps::give_next))]
+    #[tactic(auto, unfolding(c_parser_moves::proofs::MachineSteps::give_next))]
     pub fn give_level<'a>(&mut self, level: u8, rest: &'a [Token]) -> Went<'a>
         ensures { Goes result self.old self.new (given (nexts.Done level) rest.now) }
     {
@@ -72,7 +70,7 @@ impl Parser {
     }
 
     /// Gives an expression to the construct that was opened last.
-    #[tactic(auto, unfolding(crate::specs::MachineSteps::give_next, crate::specs::MachineExpr::value))]
+    #[tactic(auto, unfolding(c_parser_moves::proofs::MachineSteps::give_next, c_parser_moves::proofs::MachineExpr::value))]
     pub fn give_whole<'a>(&mut self, rest: &'a [Token]) -> Went<'a>
         ensures { Goes result self.old self.new (given nexts.Value rest.now) }
     {

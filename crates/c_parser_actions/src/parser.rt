@@ -1,16 +1,14 @@
 // The state of the parser.
 
 ghost use Rattle.std.specs.Prelude.{◌≡◌, ◌++◌, ◌∷◌, [], List, OnOk, IfOk, reverse};
-ghost use Rattle.c_parser_actions.specs.Machine.{Move, begin, tail};
-ghost use Rattle.c_parser_actions.specs.declared.frame.Frame.{Frame as Construct};
+ghost use Rattle.c_parser_moves.proofs.Machine.{Move, begin, tail};
+ghost use Rattle.c_parser_moves.specs.declared.frame.Frame.{Frame as Construct};
 ghost use Rattle.c_parser_actions.specs.Plans.{Plans, acts_of, planned};
 ghost use Rattle.c_parser_actions.specs.Seen.{Goes, IsTop, acts_seen, opens_seen};
 
-use crate::action::Action;
-use crate::frame::{Frame, Next};
-use crate::mark::from_first;
 use crate::plan::{Acts, Plan};
 use c_lexer::Token;
+use c_parser_moves::{Action, Frame, Next, from_first};
 use std::alloc::AllocError;
 
 /// What comes next, and the tokens after it.

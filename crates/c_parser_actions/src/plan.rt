@@ -1,8 +1,7 @@
 // What a step of the parser is to do.
 
-use crate::action::Action;
-use crate::frame::{Frame, Next};
 use c_lexer::Token;
+use c_parser_moves::{Action, Frame, Next};
 
 /// The actions of a step, in order.
 #[derive(Drop)]

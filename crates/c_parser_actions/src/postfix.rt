@@ -1,15 +1,14 @@
 // Whole token lists.
 
 ghost use Rattle.std.specs.Prelude.{◌≡◌, IfOk, IfErr};
-ghost use Rattle.c_parser_actions.specs.MachineSteps.{works};
+ghost use Rattle.c_parser_moves.proofs.MachineSteps.{works};
 ghost use Rattle.c_parser_actions.specs.Builds.{Found, Only, Refused};
 
-use crate::action::Action;
 use crate::ahead::look_ahead;
-use crate::frame::Next;
 use crate::parser::Parser;
 use crate::refusal::Step;
 use c_lexer::Token;
+use c_parser_moves::{Action, Next};
 use std::alloc::{AllocError, Global};
 
 /// Why tokens have no postfix form.

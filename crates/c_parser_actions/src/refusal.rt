@@ -1,9 +1,8 @@
 // Where tokens can't go on.
 
-use crate::frame::{Frame, Next};
 use crate::specifier::at_top;
-use crate::words::words_read;
 use c_lexer::{Kind, Sign, Token, Word};
+use c_parser_moves::{Frame, Next, words_read};
 use std::alloc::AllocError;
 
 /// A step of the parser: what came next, the construct that was opened last, and the tokens that were left.

@@ -1,17 +1,16 @@
 // The moves over specifiers, and the annotations before them.
 
 ghost use Rattle.std.specs.Prelude.{◌≡◌, IfOk, Some, false};
-ghost use Rattle.c_parser_actions.specs.MachineDeclr.{annotated, is_top, placed, targeted, typed};
+ghost use Rattle.c_parser_moves.proofs.MachineDeclr.{annotated, is_top, placed, targeted, typed};
 ghost use Rattle.c_parser_actions.specs.Plans.{Plans};
-ghost use Rattle.c_parser_actions.specs.Words.{take_specs};
+ghost use Rattle.c_parser_moves.specs.Words.{take_specs};
 ghost use Rattle.c_syntax.specs.Levels.{from_of};
 
-use crate::action::Action;
-use crate::frame::{DeclaredIn, Frame, Naming, Next, Target};
-use crate::mark::{Punctuator, from_first};
 use crate::plan::{Acts, Plan};
-use crate::words::specs;
 use c_lexer::Token;
+use c_parser_moves::{
+    Action, DeclaredIn, Frame, Naming, Next, Punctuator, Target, from_first, specs,
+};
 use c_syntax::Base;
 use std::alloc::AllocError;
 
@@ -24,7 +23,7 @@ pub fn at_top(target: Target) -> bool
     }
 }
 
-#[tactic(auto, unfolding(crate::specs::MachineDeclr::typed))]
+#[tactic(auto, unfolding(c_parser_moves::proofs::MachineDeclr::typed))]
 pub fn start_type<'a>(rest: &'a [Token]) -> Result<Plan<'a>, AllocError>
     ensures { IfOk result (λ p. Plans p
         (typed (take_specs false rest.now) (from_of rest.now))) }
@@ -42,7 +41,7 @@ pub fn start_type<'a>(rest: &'a [Token]) -> Result<Plan<'a>, AllocError>
     }
 }
 
-#[tactic(auto, unfolding(crate::specs::MachineDeclr::targeted))]
+#[tactic(auto, unfolding(c_parser_moves::proofs::MachineDeclr::targeted))]
 fn begin_target<'a>(base: Base, target: Target, rest: &'a [Token]) -> Plan<'a>
     ensures { Plans result (targeted (Some (base, rest.now)) target) }
 {
@@ -63,7 +62,7 @@ fn begin_target<'a>(base: Base, target: Target, rest: &'a [Token]) -> Plan<'a>
     }
 }
 
-#[tactic(auto, unfolding(crate::specs::MachineDeclr::targeted))]
+#[tactic(auto, unfolding(c_parser_moves::proofs::MachineDeclr::targeted))]
 pub fn start_target<'a>(target: Target, rest: &'a [Token]) -> Result<Plan<'a>, AllocError>
     ensures { IfOk result
         (λ p. Plans p (targeted (take_specs (is_top target) rest.now) target)) }
@@ -75,7 +74,7 @@ pub fn start_target<'a>(target: Target, rest: &'a [Token]) -> Result<Plan<'a>, A
 }
 
 /// Names are to be read that share this type.
-#[tactic(auto, unfolding(crate::specs::MachineDeclr::placed))]
+#[tactic(auto, unfolding(c_parser_moves::proofs::MachineDeclr::placed))]
 fn begin_names<'a>(base: Base, place: DeclaredIn, rest: &'a [Token]) -> Plan<'a>
     ensures { Plans result (placed (Some (base, rest.now)) place) }
 {
@@ -99,7 +98,7 @@ fn begin_names<'a>(base: Base, place: DeclaredIn, rest: &'a [Token]) -> Plan<'a>
     }
 }
 
-#[tactic(auto, unfolding(crate::specs::MachineDeclr::placed))]
+#[tactic(auto, unfolding(c_parser_moves::proofs::MachineDeclr::placed))]
 pub fn start_names<'a>(place: DeclaredIn, rest: &'a [Token]) -> Result<Plan<'a>, AllocError>
     ensures { IfOk result (λ p. Plans p (placed (take_specs false rest.now) place)) }
 {
@@ -109,7 +108,7 @@ pub fn start_names<'a>(place: DeclaredIn, rest: &'a [Token]) -> Result<Plan<'a>,
     }
 }
 
-#[tactic(auto, unfolding(crate::specs::MachineDeclr::annotated))]
+#[tactic(auto, unfolding(c_parser_moves::proofs::MachineDeclr::annotated))]
 pub fn start_annotated<'a>(
     what: Punctuator,
     target: Target,

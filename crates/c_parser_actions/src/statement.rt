@@ -1,17 +1,15 @@
 // The moves over statements.
 
-ghost use Rattle.c_parser_actions.specs.MachineSource.{condition, for_head, leaf, returned, stmt, do_while, done, block_end, entry, for_first, for_test, for_step};
+ghost use Rattle.c_parser_moves.proofs.MachineSource.{condition, for_head, leaf, returned, stmt, do_while, done, block_end, entry, for_first, for_test, for_step};
 ghost use Rattle.c_parser_actions.specs.Plans.{Plans};
 ghost use Rattle.c_parser_actions.specs.Seen.{Goes};
 
-use crate::action::Action;
-use crate::frame::{DeclaredIn, Frame, Next};
-use crate::mark::{Begin, Punctuator, else_first, mark_first};
 use crate::parser::{Parser, Went, skip_one};
 use crate::plan::{Acts, Plan};
 use c_lexer::{Kind, Token, Word};
+use c_parser_moves::{Action, Begin, DeclaredIn, Frame, Next, Punctuator, else_first, mark_first};
 
-#[tactic(auto, unfolding(crate::specs::MachineSource::condition))]
+#[tactic(auto, unfolding(c_parser_moves::proofs::MachineSource::condition))]
 fn start_condition<'a>(what: Punctuator, frame: Frame, rest: &'a [Token]) -> Plan<'a>
     ensures { Plans result (condition what frame rest.now) }
 {
@@ -21,7 +19,7 @@ fn start_condition<'a>(what: Punctuator, frame: Frame, rest: &'a [Token]) -> Pla
     }
 }
 
-#[tactic(auto, unfolding(crate::specs::MachineSource::for_head))]
+#[tactic(auto, unfolding(c_parser_moves::proofs::MachineSource::for_head))]
 fn start_for<'a>(what: Punctuator, from: u32, rest: &'a [Token]) -> Plan<'a>
     ensures { Plans result (for_head what from rest.now) }
 {
@@ -31,7 +29,7 @@ fn start_for<'a>(what: Punctuator, from: u32, rest: &'a [Token]) -> Plan<'a>
     }
 }
 
-#[tactic(auto, unfolding(crate::specs::MachineSource::leaf))]
+#[tactic(auto, unfolding(c_parser_moves::proofs::MachineSource::leaf))]
 fn end_break<'a>(what: Punctuator, from: u32, rest: &'a [Token]) -> Plan<'a>
     ensures { Plans result (leaf what (Action.Break from) rest.now) }
 {
@@ -41,7 +39,7 @@ fn end_break<'a>(what: Punctuator, from: u32, rest: &'a [Token]) -> Plan<'a>
     }
 }
 
-#[tactic(auto, unfolding(crate::specs::MachineSource::leaf))]
+#[tactic(auto, unfolding(c_parser_moves::proofs::MachineSource::leaf))]
 fn end_continue<'a>(what: Punctuator, from: u32, rest: &'a [Token]) -> Plan<'a>
     ensures { Plans result (leaf what (Action.Continue from) rest.now) }
 {
@@ -51,7 +49,7 @@ fn end_continue<'a>(what: Punctuator, from: u32, rest: &'a [Token]) -> Plan<'a>
     }
 }
 
-#[tactic(auto, unfolding(crate::specs::MachineSource::returned))]
+#[tactic(auto, unfolding(c_parser_moves::proofs::MachineSource::returned))]
 fn start_return<'a>(what: Punctuator, from: u32, whole: &'a [Token], rest: &'a [Token]) -> Plan<'a>
     ensures { Plans result (returned what from whole.now rest.now) }
 {
@@ -67,7 +65,7 @@ fn start_return<'a>(what: Punctuator, from: u32, whole: &'a [Token], rest: &'a [
     }
 }
 
-#[tactic(auto, unfolding(crate::specs::MachineSource::stmt))]
+#[tactic(auto, unfolding(c_parser_moves::proofs::MachineSource::stmt))]
 pub fn start_stmt<'a>(what: Begin, from: u32, whole: &'a [Token], rest: &'a [Token]) -> Plan<'a>
     ensures { Plans result (stmt what from whole.now rest.now) }
 {
@@ -100,7 +98,7 @@ pub fn start_stmt<'a>(what: Begin, from: u32, whole: &'a [Token], rest: &'a [Tok
     }
 }
 
-#[tactic(auto, unfolding(crate::specs::MachineSource::do_on, crate::specs::MachineSource::do_while))]
+#[tactic(auto, unfolding(c_parser_moves::proofs::MachineSource::do_on, c_parser_moves::proofs::MachineSource::do_while))]
 fn after_do<'a>(from: u32, rest: &'a [Token]) -> Plan<'a>
     ensures { Plans result (do_while from rest.now) }
 {
@@ -115,7 +113,7 @@ fn after_do<'a>(from: u32, rest: &'a [Token]) -> Plan<'a>
     }
 }
 
-#[tactic(auto, unfolding(crate::specs::MachineSource::done))]
+#[tactic(auto, unfolding(c_parser_moves::proofs::MachineSource::done))]
 fn end_then<'a>(from: u32, rest: &'a [Token]) -> Plan<'a>
     ensures { Plans result (done (Frame.IfThen from) rest.now) }
 {
@@ -126,7 +124,7 @@ fn end_then<'a>(from: u32, rest: &'a [Token]) -> Plan<'a>
     }
 }
 
-#[tactic(auto, unfolding(crate::specs::MachineSource::done))]
+#[tactic(auto, unfolding(c_parser_moves::proofs::MachineSource::done))]
 pub fn give_stmt<'a>(frame: Frame, rest: &'a [Token]) -> Plan<'a>
     ensures { Plans result (done frame rest.now) }
 {
@@ -148,7 +146,7 @@ pub fn give_stmt<'a>(frame: Frame, rest: &'a [Token]) -> Plan<'a>
     }
 }
 
-#[tactic(auto, unfolding(crate::specs::MachineSource::for_first))]
+#[tactic(auto, unfolding(c_parser_moves::proofs::MachineSource::for_first))]
 pub fn first_part<'a>(
     what: Punctuator,
     typed: bool,
@@ -170,7 +168,7 @@ pub fn first_part<'a>(
     }
 }
 
-#[tactic(auto, unfolding(crate::specs::MachineSource::for_test))]
+#[tactic(auto, unfolding(c_parser_moves::proofs::MachineSource::for_test))]
 pub fn test_part<'a>(what: Punctuator, from: u32, whole: &'a [Token], rest: &'a [Token]) -> Plan<'a>
     ensures { Plans result (for_test what from whole.now rest.now) }
 {
@@ -180,7 +178,7 @@ pub fn test_part<'a>(what: Punctuator, from: u32, whole: &'a [Token], rest: &'a 
     }
 }
 
-#[tactic(auto, unfolding(crate::specs::MachineSource::for_step))]
+#[tactic(auto, unfolding(c_parser_moves::proofs::MachineSource::for_step))]
 pub fn step_part<'a>(what: Punctuator, from: u32, whole: &'a [Token], rest: &'a [Token]) -> Plan<'a>
     ensures { Plans result (for_step what from whole.now rest.now) }
 {
@@ -198,7 +196,7 @@ pub fn step_part<'a>(what: Punctuator, from: u32, whole: &'a [Token], rest: &'a 
 }
 
 impl Parser {
-    #[tactic(auto, unfolding(crate::specs::MachineSource::block_end))]
+    #[tactic(auto, unfolding(c_parser_moves::proofs::MachineSource::block_end))]
     fn end_block<'a>(&mut self, rest: &'a [Token]) -> Went<'a>
         ensures { Goes result self.old self.new (block_end rest.now) }
     {
@@ -215,7 +213,7 @@ impl Parser {
         }
     }
 
-    #[tactic(auto, unfolding(crate::specs::MachineSource::entry))]
+    #[tactic(auto, unfolding(c_parser_moves::proofs::MachineSource::entry))]
     pub fn next_entry<'a>(
         &mut self,
         what: Punctuator,

@@ -1,7 +1,7 @@
 // The steps of the parser.
 
 ghost use Rattle.std.specs.Prelude.{IfOk};
-ghost use Rattle.c_parser_actions.specs.MachineSteps.{step, give_next, given, take_next, taken, read_next};
+ghost use Rattle.c_parser_moves.proofs.MachineSteps.{step, give_next, given, take_next, taken, read_next};
 ghost use Rattle.c_parser_actions.specs.Plans.{Plans, read_ahead};
 ghost use Rattle.c_parser_actions.specs.Seen.{Goes};
 ghost use Rattle.c_parser_actions.specs.Ahead.{Foretells};
@@ -9,18 +9,19 @@ ghost use Rattle.c_parser_actions.specs.Ahead.{Foretells};
 use crate::annotation::{give_annot, give_atom, give_item, start_annot, start_atom};
 use crate::declarator::{after_direct, give_declr, start_declr};
 use crate::expression::{after_operand, give_operand, give_value, start_operand};
-use crate::frame::{Frame, Next, Target};
 use crate::initial::{give_initial, start_initial};
-use crate::mark::{after_first, begin_kind, from_first, mark_first, type_first};
 use crate::parser::{Parser, Went, skip_one};
 use crate::plan::{Acts, Plan};
 use crate::specifier::{start_annotated, start_names, start_target, start_type};
 use crate::statement::{first_part, give_stmt, start_stmt, step_part, test_part};
 use c_lexer::Token;
+use c_parser_moves::{
+    Frame, Next, Target, after_first, begin_kind, from_first, mark_first, type_first,
+};
 use std::alloc::AllocError;
 
 /// Gives what has been read to the construct that wants it.
-#[tactic(auto, unfolding(crate::specs::MachineSteps::give_next))]
+#[tactic(auto, unfolding(c_parser_moves::proofs::MachineSteps::give_next))]
 fn give<'a>(next: Next, frame: Frame, rest: &'a [Token]) -> Plan<'a>
     ensures { Plans result (give_next next frame rest.now) }
 {
@@ -38,7 +39,7 @@ fn give<'a>(next: Next, frame: Frame, rest: &'a [Token]) -> Plan<'a>
 }
 
 /// Reads a token that must be there.
-#[tactic(auto, unfolding(crate::specs::MachineSteps::take_next))]
+#[tactic(auto, unfolding(c_parser_moves::proofs::MachineSteps::take_next))]
 fn take<'a>(
     ahead: &[bool],
     next: Next,
@@ -60,7 +61,7 @@ fn take<'a>(
 }
 
 /// Goes on by what the rest begins with, where no construct is taken off for it.
-#[tactic(auto, unfolding(crate::specs::MachineSteps::read_next, crate::specs::Plans::read_ahead))]
+#[tactic(auto, unfolding(c_parser_moves::proofs::MachineSteps::read_next, crate::specs::Plans::read_ahead))]
 fn plan_ahead<'a>(next: Next, rest: &'a [Token]) -> Result<Plan<'a>, AllocError>
     ensures { IfOk result (λ p. Plans p (read_ahead next rest.now)) }
 {
@@ -86,7 +87,7 @@ fn plan_ahead<'a>(next: Next, rest: &'a [Token]) -> Result<Plan<'a>, AllocError>
 
 impl Parser {
     /// Goes on by what the rest begins with, if anything.
-    #[tactic(auto, unfolding(crate::specs::MachineSteps::read_next, crate::specs::Plans::read_ahead))]
+    #[tactic(auto, unfolding(c_parser_moves::proofs::MachineSteps::read_next, crate::specs::Plans::read_ahead))]
     fn read<'a>(&mut self, next: Next, rest: &'a [Token]) -> Went<'a>
         ensures { Goes result self.old self.new (read_next next rest.now) }
     {
@@ -123,7 +124,7 @@ impl Parser {
 
     /// One step, by what the table has of the tokens ahead.
     #[inline(always)]
-    #[tactic(auto, unfolding(crate::specs::MachineSteps::step))]
+    #[tactic(auto, unfolding(c_parser_moves::proofs::MachineSteps::step))]
     pub fn step<'a>(&mut self, ahead: &[bool], next: Next, rest: &'a [Token]) -> Went<'a>
         requires { Foretells ahead.now rest.now }
         ensures { Goes result self.old self.new (step next rest.now) }

@@ -1,20 +1,18 @@
 // The moves over whole sources.
 
 ghost use Rattle.std.specs.Prelude.{IfOk};
-ghost use Rattle.c_parser_actions.specs.MachineSource.{struct_end, member_end, top, defines, tops};
+ghost use Rattle.c_parser_moves.proofs.MachineSource.{struct_end, member_end, top, defines, tops};
 ghost use Rattle.c_parser_actions.specs.Plans.{Plans};
 ghost use Rattle.c_parser_actions.specs.Seen.{Goes};
 
-use crate::action::Action;
-use crate::frame::{DeclaredIn, Frame, Next, Target};
-use crate::mark::{Punctuator, mark_first};
 use crate::parser::{Parser, Went, skip_one};
 use crate::plan::{Acts, Plan};
 use crate::specifier::start_annotated;
 use c_lexer::{Kind, Sign, Token, Word};
+use c_parser_moves::{Action, DeclaredIn, Frame, Next, Punctuator, Target, mark_first};
 use std::alloc::AllocError;
 
-#[tactic(auto, unfolding(crate::specs::MachineSource::top, crate::specs::MachineSource::defines))]
+#[tactic(auto, unfolding(c_parser_moves::proofs::MachineSource::top, c_parser_moves::proofs::MachineSource::defines))]
 fn start_top<'a>(rest: &'a [Token]) -> Result<Plan<'a>, AllocError>
     ensures { IfOk result (λ p. Plans p (top (defines rest.now) rest.now)) }
 {
@@ -36,7 +34,7 @@ fn start_top<'a>(rest: &'a [Token]) -> Result<Plan<'a>, AllocError>
 }
 
 impl Parser {
-    #[tactic(auto, unfolding(crate::specs::MachineSource::struct_end))]
+    #[tactic(auto, unfolding(c_parser_moves::proofs::MachineSource::struct_end))]
     fn end_struct<'a>(&mut self, what: Punctuator, rest: &'a [Token]) -> Went<'a>
         ensures { Goes result self.old self.new (struct_end what rest.now) }
     {
@@ -56,7 +54,7 @@ impl Parser {
         }
     }
 
-    #[tactic(auto, unfolding(crate::specs::MachineSource::member_end))]
+    #[tactic(auto, unfolding(c_parser_moves::proofs::MachineSource::member_end))]
     pub fn next_member<'a>(
         &mut self,
         what: Punctuator,
@@ -77,7 +75,7 @@ impl Parser {
         self.go(start_top(rest))
     }
 
-    #[tactic(auto, unfolding(crate::specs::MachineSource::tops))]
+    #[tactic(auto, unfolding(c_parser_moves::proofs::MachineSource::tops))]
     pub fn next_top<'a>(&mut self, rest: &'a [Token]) -> Went<'a>
         ensures { Goes result self.old self.new (tops rest.now) }
     {

@@ -3,7 +3,7 @@ use Rattle.std.proofs.Common.{◌≡◌, ◌∷◌, ℕ, ◌-◌, ◌<◌, ◌�
 use Rattle.std.proofs.lemmas.Bool.{leb-true, leb-false}
 use Rattle.c_syntax.specs.Syntax.{Decls}
 use Rattle.c_syntax.specs.Depth.{LieDecls}
-use Rattle.c_parser_actions.specs.declared.action.Action.{Action}
+use Rattle.c_parser_moves.specs.declared.action.Action.{Action}
 use Rattle.c_parser_actions.specs.Pieces.{Piece, PDecls, acted}
 use Rattle.c_parser_depth.specs.declared.chain.Chain.{Chain}
 use Rattle.c_parser_depth.specs.Chains.{top, deep_end}

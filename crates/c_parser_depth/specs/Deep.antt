@@ -2,7 +2,7 @@
 use Rattle.std.specs.Prelude.{ℕ, ◌<◌, ◌≤◌, List}
 use Rattle.c_syntax.specs.Syntax.{Decls}
 use Rattle.c_syntax.specs.Depth.{LieDecls}
-use Rattle.c_parser_actions.specs.declared.action.Action.{Action}
+use Rattle.c_parser_moves.specs.declared.action.Action.{Action}
 use Rattle.c_parser_actions.specs.Builds.{Builds}
 
 -- no node of the source is held by more than 200 others

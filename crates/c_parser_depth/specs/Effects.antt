@@ -1,7 +1,7 @@
 -- What an action does to the pieces on the stack, as far as chains of nodes go.
 use Rattle.std.specs.Prelude.{List, ◌∷◌, Some, None}
-use Rattle.c_parser_actions.specs.declared.action.Action.{Action}
-use Rattle.c_parser_actions.specs.declared.action.Action.TheVariants as acts
+use Rattle.c_parser_moves.specs.declared.action.Action.{Action}
+use Rattle.c_parser_moves.specs.declared.action.Action.TheVariants as acts
 use Rattle.c_parser_depth.specs.declared.chain.Chain.{Chain}
 use Rattle.c_parser_depth.specs.declared.effect.Effect.{Effect}
 use Rattle.c_parser_depth.specs.declared.effect.Effect.TheVariants.{Join, Declare, AddName, EndSpecs, DropSpecs}

@@ -5,7 +5,7 @@ ghost use Rattle.c_parser_depth.specs.Deep.{OfBuilt, IsShallow, IsDeepAt};
 
 use crate::chains::Chains;
 use crate::effect::effect_of;
-use c_parser_actions::Action;
+use c_parser_moves::Action;
 use std::alloc::{AllocError, Global};
 
 /// The offset of a node of the source that these actions build which more than 200 others hold, where there is one.

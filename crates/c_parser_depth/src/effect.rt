@@ -3,7 +3,7 @@
 ghost use Rattle.std.specs.Prelude.{◌≡◌};
 ghost use Rattle.c_parser_depth.specs.Effects.{effect};
 
-use c_parser_actions::Action;
+use c_parser_moves::Action;
 
 /// What becomes of the pieces at the top of the stack.
 #[derive(Clone, Copy)]

@@ -3,8 +3,8 @@ use Rattle.std.proofs.Common.{◌≡◌, ℕ, ◌+◌, ◌<◌, ◌≤◌, Bool,
 use Rattle.std.proofs.lemmas.List.{take_more, reverse-append, take_all}
 use Rattle.c_syntax.specs.declared.declaration.Base.TheVariants as bases
 use Rattle.c_syntax.specs.Syntax.{Decl, Decls, Declare, NoAnnots, Annotate, NoParts, Members, LocalEntry, StmtEntry, exprs_then, decls_then, annots_then, items_then, values_then, entries_then}
-use Rattle.c_parser_actions.specs.declared.action.Action.{Action}
-use Rattle.c_parser_actions.specs.declared.action.Action.TheVariants as acts
+use Rattle.c_parser_moves.specs.declared.action.Action.{Action}
+use Rattle.c_parser_moves.specs.declared.action.Action.TheVariants as acts
 use Rattle.c_parser_actions.specs.Pieces.{Piece, PExpr, PExprs, PMaybe, PDeclr, PSpecs, PDecl, PDecls, PAnnots, PAnnot, PItem, PAtom, PValue, PValues, PEntries, PStmt, PFirst, PTag, act, acted}
 use Rattle.c_parser_nodes.specs.Counts.{capped, expr_nodes, exprs_nodes, maybe_nodes, decl_nodes, decls_nodes, annots_nodes, items_nodes, item_nodes, atom_nodes, parts_nodes, value_nodes, values_nodes, stmt_nodes, entries_nodes, first_nodes, list_offset, list_offset_of, is_same_list, top_nodes, tops_nodes, IsCount}
 use Rattle.c_parser_nodes.specs.declared.tally.Tally.{Tally}

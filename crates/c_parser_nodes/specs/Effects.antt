@@ -1,7 +1,7 @@
 -- What an action does to the pieces on the stack, as far as counts of nodes go.
 use Rattle.std.specs.Prelude.{◌+◌, List, ◌∷◌, None}
-use Rattle.c_parser_actions.specs.declared.action.Action.{Action}
-use Rattle.c_parser_actions.specs.declared.action.Action.TheVariants as acts
+use Rattle.c_parser_moves.specs.declared.action.Action.{Action}
+use Rattle.c_parser_moves.specs.declared.action.Action.TheVariants as acts
 use Rattle.c_parser_nodes.specs.Counts.{capped}
 use Rattle.c_parser_nodes.specs.declared.effect.Effect.{Effect}
 use Rattle.c_parser_nodes.specs.declared.effect.Effect.TheVariants.{Join, Keep, Annotation, Extend, Declare, AddName, EndSpecs, DropSpecs, AddStruct}

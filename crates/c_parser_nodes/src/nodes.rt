@@ -5,7 +5,7 @@ ghost use Rattle.c_parser_nodes.specs.Counts.{IsCount};
 
 use crate::effect::effect_of;
 use crate::tallies::Tallies;
-use c_parser_actions::Action;
+use c_parser_moves::Action;
 use std::alloc::{AllocError, Global};
 
 /// How many nodes the source has that these actions build: its statements, expressions and values in braces, and of each declarator its

@@ -6,7 +6,7 @@ use Rattle.c_syntax.specs.declared.declaration.Value.TheViews.{out-roll-Value}
 use Rattle.c_syntax.specs.declared.declaration.Value.TheOpen.{Value-F}
 use Rattle.c_syntax.specs.Nodes.{Nodes}
 use Rattle.c_syntax.specs.Syntax.{Braces}
-use Rattle.c_parser_actions.specs.declared.action.Action.TheVariants as acts
+use Rattle.c_parser_moves.specs.declared.action.Action.TheVariants as acts
 use Rattle.c_parser_actions.specs.Pieces.{Piece as Tree, act}
 use Rattle.c_parser_tree.specs.Stacks.{Stacks, push_value}
 use Rattle.c_parser_tree.specs.declared.builder.Builder.{Builder}

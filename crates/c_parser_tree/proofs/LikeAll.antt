@@ -1,6 +1,6 @@
 -- Each action does to pieces with numbers what it does to trees.
-use Rattle.c_parser_actions.specs.declared.action.Action.{Action}
-use Rattle.c_parser_actions.specs.declared.action.Action.TheVariants as acts
+use Rattle.c_parser_moves.specs.declared.action.Action.{Action}
+use Rattle.c_parser_moves.specs.declared.action.Action.TheVariants as acts
 use Rattle.c_parser_tree.specs.Made.{made_leaf, made_part, made_pair, made_mixed, made_exprs, made_declr, made_decl, made_list, made_annot, made_item, made_value, made_entry, made_stmt, made_control}
 use Rattle.c_parser_tree.proofs.Likewise.{Likewise}
 use Rattle.c_parser_tree.proofs.LikeExpr.{like_name, like_number, like_char, like_text, like_prefix, like_postfix, like_sizeof_expr, like_sizeof_type, like_member, like_arrow, like_binary, like_assign, like_cond, like_cast, like_index, like_call, like_no_exprs, like_add_expr, like_no_expr, like_one_expr}

@@ -4,7 +4,7 @@ use Rattle.c_syntax.specs.declared.declaration.Atom.TheVariants as atoms
 use Rattle.c_syntax.specs.declared.declaration.Value.TheViews.{roll-Value, out-roll-Value}
 use Rattle.c_syntax.specs.declared.declaration.Value.TheOpen.{Value-F}
 use Rattle.c_syntax.specs.Syntax as c
-use Rattle.c_parser_actions.specs.declared.action.Action.TheVariants as acts
+use Rattle.c_parser_moves.specs.declared.action.Action.TheVariants as acts
 use Rattle.c_parser_tree.specs.Made.{made_annot, made_item, made_value}
 use Rattle.c_parser_tree.specs.Stacked as on
 use Rattle.c_parser_tree.proofs.Ends.{annots_end, items_end, values_end}

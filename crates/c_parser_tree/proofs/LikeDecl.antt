@@ -13,7 +13,7 @@ use Rattle.c_syntax.specs.declared.declaration.Rest.TheVariants as rests
 use Rattle.c_syntax.specs.Nodes.{Nodes}
 use Rattle.c_syntax.specs.Stands.{StandParts, StandsRest}
 use Rattle.c_syntax.specs.Syntax as c
-use Rattle.c_parser_actions.specs.declared.action.Action.TheVariants as acts
+use Rattle.c_parser_moves.specs.declared.action.Action.TheVariants as acts
 use Rattle.c_parser_actions.specs.Pieces.{Piece as Tree, PDecl, PSpecs}
 use Rattle.c_parser_tree.specs.declared.piece.Declarator.{Declarator}
 use Rattle.c_parser_tree.specs.declared.piece.Shared.{Shared}

@@ -4,7 +4,7 @@ use Rattle.c_lexer.specs.declared.token.Sign.{Sign}
 use Rattle.c_lexer.specs.declared.token.Suffix.{Suffix}
 use Rattle.c_syntax.specs.declared.expression.ExprKind.TheVariants as exprs
 use Rattle.c_syntax.specs.Syntax as c
-use Rattle.c_parser_actions.specs.declared.action.Action.TheVariants as acts
+use Rattle.c_parser_moves.specs.declared.action.Action.TheVariants as acts
 use Rattle.c_parser_tree.specs.Nodes.{with_expr}
 use Rattle.c_parser_tree.specs.Made.{made_leaf, made_part, made_pair, made_mixed, made_exprs}
 use Rattle.c_parser_tree.specs.Stacked as on

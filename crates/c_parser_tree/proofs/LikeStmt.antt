@@ -4,7 +4,7 @@ use Rattle.c_syntax.specs.declared.statement.StmtKind.TheVariants as stmts
 use Rattle.c_syntax.specs.declared.statement.Entry.TheVariants as entries
 use Rattle.c_syntax.specs.declared.statement.First.TheVariants as firsts
 use Rattle.c_syntax.specs.Syntax as c
-use Rattle.c_parser_actions.specs.declared.action.Action.TheVariants as acts
+use Rattle.c_parser_moves.specs.declared.action.Action.TheVariants as acts
 use Rattle.c_parser_tree.specs.Nodes.{with_stmt}
 use Rattle.c_parser_tree.specs.Made.{made_entry, made_stmt, made_control}
 use Rattle.c_parser_tree.specs.Stacked as on

@@ -8,7 +8,7 @@ use Rattle.c_syntax.specs.Nodes.{Nodes, decl_at}
 use Rattle.c_syntax.specs.Syntax.{Annots}
 use Rattle.c_parser_tree.specs.declared.piece.Shared.{Shared}
 use Rattle.c_parser_tree.specs.declared.piece.Shared.TheVariants as shares
-use Rattle.c_parser_actions.specs.declared.action.Action.{Action}
+use Rattle.c_parser_moves.specs.declared.action.Action.{Action}
 use Rattle.c_parser_actions.specs.Pieces.{Piece as Tree, PBroken, act}
 use Rattle.c_parser_tree.specs.Built.{Built, words_of}
 use Rattle.c_parser_tree.specs.Stacks.{Stacks}

@@ -4,8 +4,8 @@ use Rattle.std.proofs.lemmas.List.{reverse-append}
 use Rattle.c_syntax.specs.Nodes.{Nodes}
 use Rattle.c_syntax.specs.Stands.{Holds}
 use Rattle.c_syntax.specs.Syntax.{Decls}
-use Rattle.c_parser_actions.specs.declared.action.Action.{Action}
-use Rattle.c_parser_actions.specs.declared.action.Action.TheVariants as acts
+use Rattle.c_parser_moves.specs.declared.action.Action.{Action}
+use Rattle.c_parser_moves.specs.declared.action.Action.TheVariants as acts
 use Rattle.c_parser_actions.specs.Builds.{Builds}
 use Rattle.c_parser_actions.specs.Pieces.{Piece as Tree, PDecls, act, acted}
 use Rattle.c_parser_tree.specs.declared.builder.Builder.{Builder}

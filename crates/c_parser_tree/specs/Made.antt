@@ -10,8 +10,8 @@ use Rattle.c_syntax.specs.declared.declaration.Rest.TheVariants as rests
 use Rattle.c_syntax.specs.declared.declaration.Value.{roll-Value}
 use Rattle.c_syntax.specs.declared.declaration.Value.TheOpen.{Value-F}
 use Rattle.c_syntax.specs.Nodes.{Nodes}
-use Rattle.c_parser_actions.specs.declared.action.Action.{Action}
-use Rattle.c_parser_actions.specs.declared.action.Action.TheVariants as acts
+use Rattle.c_parser_moves.specs.declared.action.Action.{Action}
+use Rattle.c_parser_moves.specs.declared.action.Action.TheVariants as acts
 use Rattle.c_parser_tree.specs.declared.piece.Shared.TheVariants as shares
 use Rattle.c_parser_tree.specs.Built.{Built, taking, puts, put_expr, put_stmt, add_part, declare, with_struct, add_expr, add_decl, add_annot, add_item, add_value, add_entry}
 use Rattle.c_parser_tree.specs.Stacks.{Stacks, push_exprs, push_maybe, push_declarator, push_shared, push_decls, push_annots, push_annot, push_item, push_atom, push_value, push_values, push_entries, push_first, push_tag}

@@ -14,7 +14,7 @@ use Rattle.c_syntax.specs.declared.statement.First.{First as Begin}
 use Rattle.c_syntax.specs.Nodes.{Nodes}
 use Rattle.c_syntax.specs.Syntax.{Expr, Exprs, MaybeExpr, Decl, Decls, Annots, Items, Item as Factors, Atom, Parts, Value, Values, Stmt, Entries, First}
 use Rattle.c_syntax.specs.Stands.{Stands, StandExprs, StandsMaybe, StandsDecl, StandDecls, StandAnnots, StandsItem, StandItems, StandsAtom, StandParts, StandsValue, StandValues, StandsStmt, StandEntries, StandsFirst, Holds}
-use Rattle.c_parser_actions.specs.declared.action.Action.{Action}
+use Rattle.c_parser_moves.specs.declared.action.Action.{Action}
 use Rattle.c_parser_actions.specs.Pieces.{Piece as Tree, PExpr, PExprs, PMaybe, PDeclr, PSpecs, PDecl, PDecls, PAnnots, PAnnot, PItem, PAtom, PValue, PValues, PEntries, PStmt, PFirst, PTag, PBroken, act}
 use Rattle.c_parser_tree.specs.declared.builder.Builder.{Builder}
 use Rattle.c_parser_tree.specs.declared.builder.BuildError.{BuildError}

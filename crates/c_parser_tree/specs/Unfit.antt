@@ -1,7 +1,7 @@
 -- What refusing actions promises.
 use Rattle.std.specs.Prelude.{List}
 use Rattle.c_syntax.specs.Syntax.{Decls}
-use Rattle.c_parser_actions.specs.declared.action.Action.{Action}
+use Rattle.c_parser_moves.specs.declared.action.Action.{Action}
 use Rattle.c_parser_actions.specs.Builds.{Builds}
 use Rattle.c_parser_tree.specs.declared.builder.BuildError.{BuildError}
 use Rattle.c_parser_tree.specs.declared.builder.BuildError.TheVariants as errors

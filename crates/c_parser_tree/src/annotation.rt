@@ -4,7 +4,7 @@ ghost use Rattle.c_parser_tree.specs.IsMade.{Makes};
 ghost use Rattle.c_parser_tree.specs.Made.{made_annot, made_item, made_value};
 
 use crate::builder::{BuildError, Builder, empty};
-use c_parser_actions::Action;
+use c_parser_moves::Action;
 use c_syntax::{Annot, Atom, Item, Value};
 
 impl Builder {

@@ -10,7 +10,7 @@ ghost use Rattle.c_parser_tree.specs.Stacked.{Steps, IsFinished};
 ghost use Rattle.c_parser_tree.specs.Unfit.{IsUnfit};
 
 use crate::builder::{BuildError, Builder};
-use c_parser_actions::Action;
+use c_parser_moves::Action;
 use c_syntax::{Tree, Value};
 use std::alloc::Global;
 

@@ -8,7 +8,7 @@ ghost use Rattle.c_parser_tree.specs.Seen.{nodes_seen, stack_seen};
 
 use crate::builder::{BuildError, Builder, empty, with_last};
 use crate::piece::{Declarator, Shared, Tag};
-use c_parser_actions::Action;
+use c_parser_moves::Action;
 use c_syntax::{Base, Decl, DeclId, Part, PartKind, Rest, Seq, SharedSeq};
 
 impl Builder {

@@ -4,7 +4,7 @@ ghost use Rattle.c_parser_tree.specs.IsMade.{Makes};
 ghost use Rattle.c_parser_tree.specs.Made.{made_entry, made_stmt, made_control};
 
 use crate::builder::{BuildError, Builder, empty};
-use c_parser_actions::Action;
+use c_parser_moves::Action;
 use c_syntax::{Entry, First, StmtKind};
 
 impl Builder {

@@ -1,6 +1,6 @@
 use Rattle.std.proofs.Common.{◌≡◌, ◌+◌, ◌-◌, [], ◌∷◌, ◌++◌, drop, reverse, arith}
 use Rattle.c_syntax.specs.Levels.{begins_type}
-use Rattle.c_parser_actions.specs.Marks.{mark_of}
+use Rattle.c_parser_moves.specs.Marks.{mark_of}
 use Rattle.c_parser_actions.specs.Ahead.{nearest, met}
 use Rattle.c_parser_actions.proofs.Foretold.{told_more}
 use Rattle.c_parser_actions.proofs.ahead.look_ahead.Goals as goal

@@ -1,7 +1,7 @@
 use Rattle.std.proofs.Common.{[], ◌∷◌, List, reverse, ap, sym, ◌∙◌}
-use Rattle.c_parser_actions.specs.declared.action.Action.{Action}
-use Rattle.c_parser_actions.specs.declared.action.Action.TheVariants as acts
-use Rattle.c_parser_actions.specs.declared.frame.Frame.{Frame}
+use Rattle.c_parser_moves.specs.declared.action.Action.{Action}
+use Rattle.c_parser_moves.specs.declared.action.Action.TheVariants as acts
+use Rattle.c_parser_moves.specs.declared.frame.Frame.{Frame}
 use Rattle.c_parser_actions.specs.Pieces.{acted}
 use Rattle.c_parser_actions.specs.Seen.{acts_seen, opens_seen}
 use Rattle.c_parser_actions.proofs.Foretold.{run_foretold}

@@ -1,6 +1,6 @@
 use Rattle.std.proofs.Common.{[], ℕ, ◌≤◌, length, take, List, Option, IfSome, IfNone, reverse, ap, subst, sym, ◌∙◌}
 use Rattle.std.proofs.lemmas.List.{take_all}
-use Rattle.c_parser_actions.specs.declared.action.Action.{Action}
+use Rattle.c_parser_moves.specs.declared.action.Action.{Action}
 use Rattle.c_parser_actions.specs.Pieces.{acted}
 use Rattle.c_parser_depth.specs.declared.chain.Chain.{Chain}
 use Rattle.c_parser_depth.specs.declared.effect.Effect.{Effect}

@@ -1,6 +1,6 @@
 use Rattle.std.proofs.Common.{◌≡◌, ◌∙◌, List, [], ◌∷◌, length, reverse, Result, Ok, Err, IfErr, IsErrAnd, sym, ap, rules, arith}
 use Rattle.std.specs.Vec.Iter.{into_iter_items}
-use Rattle.c_parser_actions.specs.declared.action.Action.{Action}
+use Rattle.c_parser_moves.specs.declared.action.Action.{Action}
 use Rattle.c_parser_actions.specs.Pieces.{act, acted}
 use Rattle.c_syntax.specs.Nodes.{Nodes}
 use Rattle.c_parser_tree.specs.declared.builder.BuildError.{BuildError}

@@ -1,4 +1,4 @@
-use Rattle.c_parser_actions.specs.MachineSteps.{give_next}
+use Rattle.c_parser_moves.proofs.MachineSteps.{give_next}
 use Rattle.c_parser_actions.proofs.Newest.{newest_goes}
 use Rattle.c_parser_actions.proofs.parser.Parser.give_newest.Goals as goal
 

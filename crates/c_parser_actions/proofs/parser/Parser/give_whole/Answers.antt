@@ -1,5 +1,5 @@
-use Rattle.c_parser_actions.specs.declared.frame.Next.TheVariants as nexts
-use Rattle.c_parser_actions.specs.MachineSteps.{give_next}
+use Rattle.c_parser_moves.specs.declared.frame.Next.TheVariants as nexts
+use Rattle.c_parser_moves.proofs.MachineSteps.{give_next}
 use Rattle.c_parser_actions.proofs.Newest.{newest_goes}
 use Rattle.c_parser_actions.proofs.parser.Parser.give_whole.Goals as goal
 

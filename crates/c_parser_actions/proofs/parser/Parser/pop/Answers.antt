@@ -1,7 +1,7 @@
 use Rattle.std.proofs.Common.{◌≡◌, ◌<◌, ◌-◌, ◌↔◌, ℕ, zero, suc, [], ◌∷◌, ◌++◌, MatchOption, Option, Some, None, List, IsSome, take, reverse, refl, append-nil, arith}
 use Rattle.std.specs.Option.{option_to_list}
 use Rattle.std.proofs.lemmas.List.{reverse-append}
-use Rattle.c_parser_actions.specs.declared.frame.Frame.{Frame}
+use Rattle.c_parser_moves.specs.declared.frame.Frame.{Frame}
 use Rattle.c_parser_actions.specs.Seen.{acts_seen, opens_seen}
 use Rattle.c_parser_actions.proofs.parser.Parser.pop.Goals as goal
 

@@ -1,10 +1,10 @@
 use Rattle.std.proofs.Common.{◌≡◌, List, IfOk, refl, subst}
 use Rattle.c_lexer.specs.declared.token.Token.{Token}
-use Rattle.c_parser_actions.specs.declared.frame.Frame.{Frame}
-use Rattle.c_parser_actions.specs.declared.frame.Next.{Next}
-use Rattle.c_parser_actions.specs.declared.frame.Next.TheVariants as nexts
-use Rattle.c_parser_actions.specs.Machine.{Move, moved}
-use Rattle.c_parser_actions.specs.MachineSteps.{read_next}
+use Rattle.c_parser_moves.specs.declared.frame.Frame.{Frame}
+use Rattle.c_parser_moves.specs.declared.frame.Next.{Next}
+use Rattle.c_parser_moves.specs.declared.frame.Next.TheVariants as nexts
+use Rattle.c_parser_moves.proofs.Machine.{Move, moved}
+use Rattle.c_parser_moves.proofs.MachineSteps.{read_next}
 use Rattle.c_parser_actions.specs.Plans.{read_ahead}
 use Rattle.c_parser_actions.specs.Seen.{acts_seen, opens_seen, seen}
 use Rattle.c_parser_actions.proofs.parser.Parser.read.Goals as goal

@@ -6,22 +6,22 @@ use Rattle.c_lexer.specs.declared.token.Kind.{Kind}
 use Rattle.c_lexer.specs.declared.token.Kind.TheVariants as kinds
 use Rattle.c_lexer.specs.declared.token.Token.{Token}
 use Rattle.c_syntax.specs.Levels.{begins_else, from_of}
-use Rattle.c_parser_actions.specs.declared.mark.Punctuator.{Punctuator}
-use Rattle.c_parser_actions.specs.declared.mark.Punctuator.TheVariants as marks
-use Rattle.c_parser_actions.specs.declared.mark.Begin.{Begin}
-use Rattle.c_parser_actions.specs.declared.mark.Begin.TheVariants as begins
-use Rattle.c_parser_actions.specs.declared.frame.Naming.TheVariants as namings
-use Rattle.c_parser_actions.specs.declared.frame.Target.TheVariants as targets
-use Rattle.c_parser_actions.specs.declared.frame.DeclaredIn.{DeclaredIn}
-use Rattle.c_parser_actions.specs.declared.frame.DeclaredIn.TheVariants as places
-use Rattle.c_parser_actions.specs.declared.frame.Frame.{Frame}
-use Rattle.c_parser_actions.specs.declared.frame.Frame.TheVariants as frames
-use Rattle.c_parser_actions.specs.declared.frame.Next.TheVariants as nexts
-use Rattle.c_parser_actions.specs.declared.action.Action.{Action}
-use Rattle.c_parser_actions.specs.declared.action.Action.TheVariants as acts
-use Rattle.c_parser_actions.specs.Marks.{mark_at}
-use Rattle.c_parser_actions.specs.Machine.{Move, move, fail, tail, begin}
-use Rattle.c_parser_actions.specs.MachineDeclr.{end_acts, end_next, annotated}
+use Rattle.c_parser_moves.specs.declared.mark.Punctuator.{Punctuator}
+use Rattle.c_parser_moves.specs.declared.mark.Punctuator.TheVariants as marks
+use Rattle.c_parser_moves.specs.declared.mark.Begin.{Begin}
+use Rattle.c_parser_moves.specs.declared.mark.Begin.TheVariants as begins
+use Rattle.c_parser_moves.specs.declared.frame.Naming.TheVariants as namings
+use Rattle.c_parser_moves.specs.declared.frame.Target.TheVariants as targets
+use Rattle.c_parser_moves.specs.declared.frame.DeclaredIn.{DeclaredIn}
+use Rattle.c_parser_moves.specs.declared.frame.DeclaredIn.TheVariants as places
+use Rattle.c_parser_moves.specs.declared.frame.Frame.{Frame}
+use Rattle.c_parser_moves.specs.declared.frame.Frame.TheVariants as frames
+use Rattle.c_parser_moves.specs.declared.frame.Next.TheVariants as nexts
+use Rattle.c_parser_moves.specs.declared.action.Action.{Action}
+use Rattle.c_parser_moves.specs.declared.action.Action.TheVariants as acts
+use Rattle.c_parser_moves.specs.Marks.{mark_at}
+use Rattle.c_parser_moves.proofs.Machine.{Move, move, fail, tail, begin}
+use Rattle.c_parser_moves.proofs.MachineDeclr.{end_acts, end_next, annotated}
 
 unfoldable pub initial : Punctuator → ℕ → List Token → List Token → List Frame → Move
 initial marks.OpenBrace f all ts K = move nexts.Initial (acts.NoValues ∷ []) ts (frames.Braces f ∷ K)

@@ -1,7 +1,7 @@
 // What the parser tells tokens apart by.
 
 ghost use Rattle.std.specs.Prelude.{◌≡◌};
-ghost use Rattle.c_parser_actions.specs.Marks.{mark_of, mark_at, after_sign, after_at, begin_of, IsLow};
+ghost use Rattle.c_parser_moves.specs.Marks.{mark_of, mark_at, after_sign, after_at, begin_of, IsLow};
 ghost use Rattle.c_syntax.specs.Levels.{is_prefix, is_type_word, is_type_kind, begins_type, opens_type, lone_void, begins_else, from_of};
 
 use c_lexer::{Kind, Sign, Token, Word};

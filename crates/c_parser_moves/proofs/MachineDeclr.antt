@@ -7,23 +7,23 @@ use Rattle.c_lexer.specs.declared.token.Kind.TheVariants as kinds
 use Rattle.c_lexer.specs.declared.token.Token.{Token}
 use Rattle.c_syntax.specs.declared.declaration.Base.{Base}
 use Rattle.c_syntax.specs.Levels.{lone_void}
-use Rattle.c_parser_actions.specs.declared.mark.Punctuator.{Punctuator}
-use Rattle.c_parser_actions.specs.declared.mark.Punctuator.TheVariants as marks
-use Rattle.c_parser_actions.specs.declared.frame.Naming.{Naming}
-use Rattle.c_parser_actions.specs.declared.frame.Naming.TheVariants as namings
-use Rattle.c_parser_actions.specs.declared.frame.Target.{Target}
-use Rattle.c_parser_actions.specs.declared.frame.Target.TheVariants as targets
-use Rattle.c_parser_actions.specs.declared.frame.DeclaredIn.{DeclaredIn}
-use Rattle.c_parser_actions.specs.declared.frame.DeclaredIn.TheVariants as places
-use Rattle.c_parser_actions.specs.declared.frame.Frame.{Frame}
-use Rattle.c_parser_actions.specs.declared.frame.Frame.TheVariants as frames
-use Rattle.c_parser_actions.specs.declared.frame.Next.{Next}
-use Rattle.c_parser_actions.specs.declared.frame.Next.TheVariants as nexts
-use Rattle.c_parser_actions.specs.declared.action.Action.{Action}
-use Rattle.c_parser_actions.specs.declared.action.Action.TheVariants as acts
-use Rattle.c_parser_actions.specs.Marks.{mark_at}
-use Rattle.c_parser_actions.specs.Words.{skip_consts, lists}
-use Rattle.c_parser_actions.specs.Machine.{Move, move, fail, tail, begin}
+use Rattle.c_parser_moves.specs.declared.mark.Punctuator.{Punctuator}
+use Rattle.c_parser_moves.specs.declared.mark.Punctuator.TheVariants as marks
+use Rattle.c_parser_moves.specs.declared.frame.Naming.{Naming}
+use Rattle.c_parser_moves.specs.declared.frame.Naming.TheVariants as namings
+use Rattle.c_parser_moves.specs.declared.frame.Target.{Target}
+use Rattle.c_parser_moves.specs.declared.frame.Target.TheVariants as targets
+use Rattle.c_parser_moves.specs.declared.frame.DeclaredIn.{DeclaredIn}
+use Rattle.c_parser_moves.specs.declared.frame.DeclaredIn.TheVariants as places
+use Rattle.c_parser_moves.specs.declared.frame.Frame.{Frame}
+use Rattle.c_parser_moves.specs.declared.frame.Frame.TheVariants as frames
+use Rattle.c_parser_moves.specs.declared.frame.Next.{Next}
+use Rattle.c_parser_moves.specs.declared.frame.Next.TheVariants as nexts
+use Rattle.c_parser_moves.specs.declared.action.Action.{Action}
+use Rattle.c_parser_moves.specs.declared.action.Action.TheVariants as acts
+use Rattle.c_parser_moves.specs.Marks.{mark_at}
+use Rattle.c_parser_moves.specs.Words.{skip_consts, lists}
+use Rattle.c_parser_moves.proofs.Machine.{Move, move, fail, tail, begin}
 
 abbrev pub named_group : Naming → Bool
 named_group namings.Never = false

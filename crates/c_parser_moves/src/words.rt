@@ -1,7 +1,7 @@
 // What is read without a construct that stays open.
 
 ghost use Rattle.std.specs.Prelude.{◌≡◌, IfOk, Option, List, false};
-ghost use Rattle.c_parser_actions.specs.Words.{put_word, take_words, take_specs, skip_consts, step_of, Becomes, SpecsAre, WordsAre};
+ghost use Rattle.c_parser_moves.specs.Words.{put_word, take_words, take_specs, skip_consts, step_of, words_taken, Becomes, SpecsAre, WordsAre};
 ghost use Rattle.c_syntax.specs.TypeWords.{with_core, with_word, with_tag, base_of, no_words as no_words_yet, put_sign};
 
 use c_lexer::{Kind, Text, Token, Word};
@@ -193,14 +193,20 @@ pub fn after_consts(tokens: &[Token]) -> &[Token]
 }
 
 /// How many tokens at the prefix are words of one type.
-pub fn words_read(top: bool, tokens: &[Token]) -> Result<usize, AllocError> {
+pub fn words_read(top: bool, tokens: &[Token]) -> Result<usize, AllocError>
+    ensures { IfOk result (λ count. count ≡ words_taken top false no_words_yet tokens.now) }
+{
     let mut words = no_words();
     let mut pending = false;
-    for (at, token) in tokens.iter().enumerate() {
-        match put(&mut words, top, pending, &token.kind)? {
+    let mut count = 0;
+    let mut rest = tokens;
+    while let [first, others @ ..] = rest {
+        match put(&mut words, top, pending, &first.kind)? {
             Took::More(wants_name) => pending = wants_name,
-            _ => return Ok(at),
+            Took::Refused | Took::Ended => return Ok(count),
         }
+        count += 1;
+        rest = others;
     }
-    Ok(tokens.len())
+    Ok(count)
 }

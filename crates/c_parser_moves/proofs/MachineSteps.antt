@@ -2,17 +2,17 @@
 use Rattle.std.specs.Prelude.{Bool, true, false, List, [], ◌∷◌}
 use Rattle.c_lexer.specs.declared.token.Token.{Token}
 use Rattle.c_syntax.specs.Levels.{begins_type, from_of}
-use Rattle.c_parser_actions.specs.declared.frame.Target.TheVariants as targets
-use Rattle.c_parser_actions.specs.declared.frame.Frame.{Frame}
-use Rattle.c_parser_actions.specs.declared.frame.Frame.TheVariants as frames
-use Rattle.c_parser_actions.specs.declared.frame.Next.{Next}
-use Rattle.c_parser_actions.specs.declared.frame.Next.TheVariants as nexts
-use Rattle.c_parser_actions.specs.Marks.{mark_at, after_at, begin_of}
-use Rattle.c_parser_actions.specs.Words.{take_specs}
-use Rattle.c_parser_actions.specs.Machine.{Move, move, fail, tail}
-use Rattle.c_parser_actions.specs.MachineExpr.{start, after, give, value}
-use Rattle.c_parser_actions.specs.MachineDeclr.{declr, direct, declared, typed, targeted, is_top, placed, annotated, annot, annot_end, atom, atom_end, item_end}
-use Rattle.c_parser_actions.specs.MachineSource.{initial, value_end, stmt, done, entry, for_first, for_test, for_step, member_end, tops}
+use Rattle.c_parser_moves.specs.declared.frame.Target.TheVariants as targets
+use Rattle.c_parser_moves.specs.declared.frame.Frame.{Frame}
+use Rattle.c_parser_moves.specs.declared.frame.Frame.TheVariants as frames
+use Rattle.c_parser_moves.specs.declared.frame.Next.{Next}
+use Rattle.c_parser_moves.specs.declared.frame.Next.TheVariants as nexts
+use Rattle.c_parser_moves.specs.Marks.{mark_at, after_at, begin_of}
+use Rattle.c_parser_moves.specs.Words.{take_specs}
+use Rattle.c_parser_moves.proofs.Machine.{Move, move, fail, tail}
+use Rattle.c_parser_moves.proofs.MachineExpr.{start, after, give, value}
+use Rattle.c_parser_moves.proofs.MachineDeclr.{declr, direct, declared, typed, targeted, is_top, placed, annotated, annot, annot_end, atom, atom_end, item_end}
+use Rattle.c_parser_moves.proofs.MachineSource.{initial, value_end, stmt, done, entry, for_first, for_test, for_step, member_end, tops}
 
 -- what has been read is given to the construct that wants it
 unfoldable pub give_next : Next → Frame → List Token → List Frame → Move

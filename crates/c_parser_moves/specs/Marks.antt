@@ -7,12 +7,12 @@ use Rattle.c_lexer.specs.declared.token.Word.TheVariants as words
 use Rattle.c_lexer.specs.declared.token.Kind.{Kind}
 use Rattle.c_lexer.specs.declared.token.Kind.TheVariants as kinds
 use Rattle.c_lexer.specs.declared.token.Token.{Token}
-use Rattle.c_parser_actions.specs.declared.mark.Punctuator.{Punctuator}
-use Rattle.c_parser_actions.specs.declared.mark.Punctuator.TheVariants as marks
-use Rattle.c_parser_actions.specs.declared.mark.After.{After}
-use Rattle.c_parser_actions.specs.declared.mark.After.TheVariants as afters
-use Rattle.c_parser_actions.specs.declared.mark.Begin.{Begin}
-use Rattle.c_parser_actions.specs.declared.mark.Begin.TheVariants as begins
+use Rattle.c_parser_moves.specs.declared.mark.Punctuator.{Punctuator}
+use Rattle.c_parser_moves.specs.declared.mark.Punctuator.TheVariants as marks
+use Rattle.c_parser_moves.specs.declared.mark.After.{After}
+use Rattle.c_parser_moves.specs.declared.mark.After.TheVariants as afters
+use Rattle.c_parser_moves.specs.declared.mark.Begin.{Begin}
+use Rattle.c_parser_moves.specs.declared.mark.Begin.TheVariants as begins
 
 abbrev pub sign_mark : Sign → Punctuator
 sign_mark signs.OpenParenthesis = marks.Open

@@ -9,11 +9,11 @@ use Rattle.c_syntax.specs.declared.declaration.Base.{Base}
 use Rattle.c_syntax.specs.declared.specifier.Specifiers.{Specifiers}
 use Rattle.c_syntax.specs.Levels.{begins_type}
 use Rattle.c_syntax.specs.TypeWords.{no_words, with_word, with_tag, base_of}
-use Rattle.c_parser_actions.specs.declared.mark.Punctuator.{Punctuator}
-use Rattle.c_parser_actions.specs.declared.mark.Punctuator.TheVariants as marks
-use Rattle.c_parser_actions.specs.Marks.{mark_of}
-use Rattle.c_parser_actions.specs.declared.words.Took.{Took}
-use Rattle.c_parser_actions.specs.declared.words.Took.TheVariants as tooks
+use Rattle.c_parser_moves.specs.declared.mark.Punctuator.{Punctuator}
+use Rattle.c_parser_moves.specs.declared.mark.Punctuator.TheVariants as marks
+use Rattle.c_parser_moves.specs.Marks.{mark_of}
+use Rattle.c_parser_moves.specs.declared.words.Took.{Took}
+use Rattle.c_parser_moves.specs.declared.words.Took.TheVariants as tooks
 
 -- what one more token does to the words of a type: no type has them, or it is none of them, or they go on,
 -- where the flag says that struct wants its name
@@ -63,6 +63,16 @@ abbrev pub take_words : Bool → Bool → Specifiers → List Token → Option (
 take_words top true r [] = None
 take_words top false r [] = Some (r, [])
 take_words top p r (t ∷ ts) = next_word (put_word t.kind top p r) (t ∷ ts) (λ q s. take_words top q s ts)
+
+abbrev pub with_next : Step → (Bool → Specifiers → ℕ) → ℕ
+with_next Refused go = 0
+with_next (Ended r) go = 0
+with_next (More p s) go = suc (go p s)
+
+-- how many tokens at the prefix are words of a type, whether or not a type has these words
+abbrev pub words_taken : Bool → Bool → Specifiers → List Token → ℕ
+words_taken top p r [] = 0
+words_taken top p r (t ∷ ts) = with_next (put_word t.kind top p r) (λ q s. words_taken top q s ts)
 
 abbrev pub with_rest : Option Base → List Token → Option (Base × List Token)
 with_rest None ts = None

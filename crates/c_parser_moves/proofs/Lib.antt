@@ -1,0 +1,5 @@
+pub mod Machine
+pub mod MachineExpr
+pub mod MachineDeclr
+pub mod MachineSource
+pub mod MachineSteps
