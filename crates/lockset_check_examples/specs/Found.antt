@@ -32,7 +32,8 @@ by_annotations may_run p (Broken from rule) = None
 
 abbrev by_outcome : (may_run : ℕ → Bool) → Decls → Outcome → Option (List LockFinding)
 by_outcome may_run ds (limits.Typed p) = by_annotations may_run p (annotations ds p)
-by_outcome may_run ds _ = None
+by_outcome may_run ds (limits.Rule from rule) = None
+by_outcome may_run ds (limits.Limit which) = None
 
 -- what is found where these functions may run; None of a source that breaks a rule of types or annotations
 abbrev pub found_where : (may_run : ℕ → Bool) → List Decl → Option (List LockFinding)
