@@ -98,11 +98,11 @@ happened past w t index keys row mid new h lt lm isi isr same told =
           (cases_eq t j);
       rows = λ j u lj below. set_row w.rows t j u row (learned (knows past) (place t past) (occurrence t keys) u) (knows past (OfThread j) u) lt (isr u below) (h.rows j u (omega (arith, length-set w.rows t row)) below);
       keys = λ k u below. told_row (is_named keys (name k)) (is_among keys k) u row (row_in mid (name k)) (row_in new (name k)) (learned (knows past) (place t past) (occurrence t keys) u) (knows past (OfKey k) u) (named_among keys k) (told (name k)) (isr u below) (same (name k) u below ∙ h.keys k u below);
-      seen = record { sound = λ s v x i e f. h.seen.sound s v x i e f; below = λ v u x. h.seen.below v u x; complete = λ v u x n l. h.seen.complete v u x n l };
+      seen = record { sound = λ s v x i e f. h.seen.sound s v x i e f; below = λ v u x. h.seen.below v u x; complete = λ v u x n o l. h.seen.complete v u x n o l };
     }
 
 none_seen : (epochs : Bool → ℕ → ℕ → ℕ) → ((v : Bool) (u x : ℕ) → epochs v u x ≡ 0) → IsLastSeen [] epochs []
-none_seen epochs z = record { sound = λ s v x i e f. absurd i; below = λ v u x. omega (arith, z v u x); complete = λ v u x n l. absurd (zeros v n l) }
+none_seen epochs z = record { sound = λ s v x i e f. absurd i; below = λ v u x. omega (arith, z v u x); complete = λ v u x n o l. absurd (zeros v n l) }
   where
     zeros : (v : Bool) (n : ℕ) → n < cond v 0 0 → ⊥
     zeros true n l = omega (arith, l)

@@ -3,6 +3,7 @@ use Rattle.std.proofs.Common.{◌≡◌, ℕ, suc, zero, ◌+◌, ◌<◌, ◌�
 use Rattle.std.proofs.Math.ListN.{set}
 use Rattle.std.proofs.lemmas.Bool.{and_parts}
 use Rattle.marks.specs.declared.range.Range.{Range}
+use Rattle.marks.specs.Places.{is_constant}
 use Rattle.marks.specs.Ranges.{covers}
 use Rattle.logical_clock.specs.Events.{Occurrence}
 use Rattle.race_watch.specs.declared.seen.Seen.{Seen}
@@ -37,6 +38,9 @@ last_place write u x (Happened m ∷ past) = go (eqb m.thread u) (last_made writ
     go : (b : Bool) → last write u x (Happened m ∷ past) ≡ last write u x past → last write u x past ≤ suc (place u past) → last write u x (Happened m ∷ past) ≤ suc (cond b (suc (place u past)) (place u past))
     go true e h = omega (arith, e, h)
     go false e h = omega (arith, e, h)
+
+pub true_not_false : true ≡ false → ⊥
+true_not_false e = absurd cc
 
 and_true : (a b c : Bool) → a ≡ true → b ≡ true → c ≡ true → (a && (b && c)) ≡ true
 and_true true true true p q r = refl
@@ -86,8 +90,8 @@ last_seen_more past old new epochs t range w n is h p = record { sound = sound; 
             let z = last_step write s.thread x t range w past ∙ ap (λ b. cond b (suc (place s.thread past)) (last write s.thread x past)) hit in
             omega (arith, z, ap (λ (y : Seen). y.place) k, ap (λ (y : Seen). place y.thread past) k, is)
 
-    complete : (write : Bool) (u x k : ℕ) → k < last write u x (Accessed t range w ∷ past) → Found new write u x k ⊎ (k < epochs write u x)
-    complete write u x k lt = go (eqb t u && ((write || w) && covers range x)) refl (last_step write u x t range w past)
+    complete : (write : Bool) (u x k : ℕ) → is_constant x ≡ false → k < last write u x (Accessed t range w ∷ past) → Found new write u x k ⊎ (k < epochs write u x)
+    complete write u x k free lt = go (eqb t u && ((write || w) && covers range x)) refl (last_step write u x t range w past)
       where
         go : (b : Bool) → (eqb t u && ((write || w) && covers range x)) ≡ b → last write u x (Accessed t range w ∷ past) ≡ cond b (suc (place u past)) (last write u x past) → Found new write u x k ⊎ (k < epochs write u x)
         go true e z =
@@ -95,7 +99,7 @@ last_seen_more past old new epochs t range w n is h p = record { sound = sound; 
             let b = and_parts (write || w) (covers range x) a.1 in
             let same = eqb-true t u a.0 in
             inl (record { one = record { thread = t; place = n; range = range; write = w }; one_in = p.has; of = same; counts = b.0; covered = b.1; later = omega (arith, lt, z, is, ap (λ y. place y past) same) })
-        go false e z = ⊎_elim (λ f. inl (moved f)) inr (h.complete write u x k (omega (arith, lt, z)))
+        go false e z = ⊎_elim (λ f. inl (moved f)) inr (h.complete write u x k free (omega (arith, lt, z)))
           where
             moved : Found old write u x k → Found new write u x k
             moved f =
@@ -125,14 +129,32 @@ last_epochs_more past seen old new t range w n is h p = record { sound = sound; 
             omega (arith, k, m, is, ap (λ y. place y past) (eqb-true t u a.0))
         go false e k m = omega (arith, k, m, h.below write u x)
 
-    complete : (write : Bool) (u x k : ℕ) → k < last write u x (Accessed t range w ∷ past) → Found seen write u x k ⊎ (k < new write u x)
-    complete write u x k lt = go (eqb t u && ((write || w) && covers range x)) refl (last_step write u x t range w past) (p write u x)
+    complete : (write : Bool) (u x k : ℕ) → is_constant x ≡ false → k < last write u x (Accessed t range w ∷ past) → Found seen write u x k ⊎ (k < new write u x)
+    complete write u x k free lt = go (eqb t u && ((write || w) && covers range x)) refl (last_step write u x t range w past) (p write u x)
       where
         go : (b : Bool) → (eqb t u && ((write || w) && covers range x)) ≡ b → last write u x (Accessed t range w ∷ past) ≡ cond b (suc (place u past)) (last write u x past) → new write u x ≡ cond b (suc n) (old write u x) → Found seen write u x k ⊎ (k < new write u x)
         go true e z m =
             let a = and_parts (eqb t u) ((write || w) && covers range x) e in
             inr (omega (arith, lt, z, m, is, ap (λ y. place y past) (eqb-true t u a.0)))
-        go false e z m = ⊎_elim (λ f. inl f) (λ l. inr (omega (arith, l, m))) (h.complete write u x k (omega (arith, lt, z)))
+        go false e z m = ⊎_elim (λ f. inl f) (λ l. inr (omega (arith, l, m))) (h.complete write u x k free (omega (arith, lt, z)))
+
+-- an access of constants, of which nothing is kept
+
+pub last_constants_more : (past : List Told) (seen : List Seen) (epochs : Bool → ℕ → ℕ → ℕ) (t : ℕ) (range : Range) (w : Bool) → IsLastSeen seen epochs past → ((x : ℕ) → covers range x ≡ true → is_constant x ≡ true) → IsLastSeen seen epochs (Accessed t range w ∷ past)
+last_constants_more past seen epochs t range w h all = record { sound = sound; below = λ write u x. omega (arith, h.below write u x, last_grows write u x t range w past); complete = complete }
+  where
+    sound : (s : Seen) (write : Bool) (x : ℕ) → In s seen → (write || s.write) ≡ true → covers s.range x ≡ true → s.place < last write s.thread x (Accessed t range w ∷ past)
+    sound s write x i e f = omega (arith, h.sound s write x i e f, last_grows write s.thread x t range w past)
+
+    complete : (write : Bool) (u x k : ℕ) → is_constant x ≡ false → k < last write u x (Accessed t range w ∷ past) → Found seen write u x k ⊎ (k < epochs write u x)
+    complete write u x k free lt = go (eqb t u && ((write || w) && covers range x)) refl (last_step write u x t range w past)
+      where
+        go : (b : Bool) → (eqb t u && ((write || w) && covers range x)) ≡ b → last write u x (Accessed t range w ∷ past) ≡ cond b (suc (place u past)) (last write u x past) → Found seen write u x k ⊎ (k < epochs write u x)
+        go true e z =
+            let a = and_parts (eqb t u) ((write || w) && covers range x) e in
+            let b = and_parts (write || w) (covers range x) a.1 in
+            absurd (true_not_false (sym (all x b.1) ∙ free))
+        go false e z = h.complete write u x k free (omega (arith, lt, z))
 
 -- where the thread's epochs stand at its place already, they are those after the access
 pub settled_put : (past : List Told) (seen : List Seen) (epochs : Bool → ℕ → ℕ → ℕ) (t : ℕ) (range : Range) (w : Bool) (n : ℕ) → n ≡ place t past → IsLastSeen seen epochs past → ((u x : ℕ) → epochs false u x ≤ epochs true u x) → ((x : ℕ) → covers range x ≡ true → epochs (not w) t x ≡ n + 1) → ArePut epochs epochs (record { thread = t; place = n; range = range; write = w })

@@ -4,6 +4,7 @@ use Rattle.std.specs.Prelude.{not, ltb, nat_le, nat_lt}
 use Rattle.std.proofs.lemmas.Bool.{and_parts}
 use Rattle.std.proofs.lemmas.Bool.Decides.{nat_tests}
 use Rattle.marks.specs.declared.range.Range.{Range}
+use Rattle.marks.specs.Places.{is_constant}
 use Rattle.marks.specs.Ranges.{covers, IsInRange}
 use Rattle.causal_order.specs.Order.{Link, OfThread}
 use Rattle.logical_clock.specs.Events.{Occurrence, has}
@@ -102,8 +103,8 @@ quiet_access past t range w none q write s u x ne k small lt = by_step (eqb t s 
     by_step false false d e f g = omega (arith, g, q write s u x ne k small (omega (arith, lt, own, f, before)))
 
 -- what stands for one past stands for another: the last accesses are the same
-pub same_last : (seen : List Seen) (epochs : Bool → ℕ → ℕ → ℕ) (past other : List Told) (write : Bool) (u x n : ℕ) → IsLastSeen seen epochs past → IsLastSeen seen epochs other → n < last write u x past → n < last write u x other
-same_last seen epochs past other write u x n h g lt = ⊎_elim in_list by_epoch (h.complete write u x n lt)
+pub same_last : (seen : List Seen) (epochs : Bool → ℕ → ℕ → ℕ) (past other : List Told) (write : Bool) (u x n : ℕ) → IsLastSeen seen epochs past → IsLastSeen seen epochs other → is_constant x ≡ false → n < last write u x past → n < last write u x other
+same_last seen epochs past other write u x n h g free lt = ⊎_elim in_list by_epoch (h.complete write u x n free lt)
   where
     in_list : Found seen write u x n → n < last write u x other
     in_list f = subst (λ y. n < last write y x other) f.of (omega (arith, g.sound f.one write x f.one_in f.counts f.covered, f.later))

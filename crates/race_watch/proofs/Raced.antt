@@ -4,6 +4,7 @@ use Rattle.std.specs.Prelude.{slice_index}
 use Rattle.std.specs.List.{All}
 use Rattle.std.proofs.lemmas.Bool.Decides.{nat_tests}
 use Rattle.marks.specs.declared.range.Range.{Range}
+use Rattle.marks.specs.Places.{is_constant}
 use Rattle.marks.specs.Ranges.{IsInRange, covers}
 use Rattle.causal_order.specs.Order.{OfThread}
 use Rattle.race_watch.specs.declared.seen.Seen.{Seen}
@@ -22,7 +23,7 @@ use Rattle.race_watch.specs.Stands.{IsNoted, Found}
 use Rattle.race_watch.specs.Tables.{at, listed, cells_of, AreTables, HasEpoch, HasHit, IsLeastOf, ArePut}
 use Rattle.race_watch.proofs.Epochs.{known_area, known_thread, no_constant, listed_is}
 use Rattle.race_watch.proofs.Quiet.{in_it, same_last, quiet_access}
-use Rattle.race_watch.proofs.Last.{last, last_place, last_seen_more, last_epochs_more, settled_put}
+use Rattle.race_watch.proofs.Last.{last, last_place, last_seen_more, last_epochs_more, last_constants_more, settled_put, true_not_false}
 
 pub all_in : (P : Seen → Type 0) (xs : List Seen) (s : Seen) → All P xs → In s xs → P s
 all_in P [] s h i = absurd i
@@ -68,7 +69,7 @@ raced_at seen t past a x u k l (inr h) =
     }
 
 hit_at : (seen : List Seen) (t : Tables) (past : List Told) (a : Tested) (x u : ℕ) → Known past a → Keeps past seen t → x < 2 ^ 64 → IsRaced a.thread a.write past x u → HasHit a seen x u ⊎ HasEpoch a (at t) x u
-hit_at seen t past a x u k l lt h = ⊎_elim in_list by_epoch (l.is.complete a.write u x n h.unknown)
+hit_at seen t past a x u k l lt h = ⊎_elim in_list by_epoch (l.is.complete a.write u x n h.no_constant h.unknown)
   where
     n : ℕ
     n = knows past (OfThread a.thread) u
@@ -126,8 +127,8 @@ settled_no_race past w ts t range write n h r e k lt lm is all x u i v =
     let epoch : listed (cells_of ts) (not write) t x ≡ n + 1 = listed_is ts (not write) t x k ∙ all x (covered range x i) in
     let low : place t r.past < last (not write) t x r.past = omega (arith, l0.is.below (not write) t x, epoch, is, r.stands.made t lm) in
     let q = r.quiet write t u x v.other v.no_constant i.2 (omega (arith, low, turned write (touched t x r.past) (wrote t x r.past))) in
-    let p : knows past (OfThread t) u < last write u x r.past = same_last w.seen (listed (cells_of ts)) past r.past write u x _ l.is l0.is v.unknown in
-    let small : u < 32 = ⊎_elim (λ (f : Found w.seen write u x (knows past (OfThread t) u)). subst (λ y. y < 32) f.of (l.few f.one f.one_in)) (λ m. few_epochs ts k write u x _ m) (l.is.complete write u x _ v.unknown) in
+    let p : knows past (OfThread t) u < last write u x r.past = same_last w.seen (listed (cells_of ts)) past r.past write u x _ l.is l0.is v.no_constant v.unknown in
+    let small : u < 32 = ⊎_elim (λ (f : Found w.seen write u x (knows past (OfThread t) u)). subst (λ y. y < 32) f.of (l.few f.one f.one_in)) (λ m. few_epochs ts k write u x _ m) (l.is.complete write u x _ v.no_constant v.unknown) in
     omega (arith, p, q, h.rows t u lt small, r.stands.rows t u lt small)
   where
     turned : (b : Bool) (m n : ℕ) → cond (not b) m n ≡ cond b n m
@@ -152,7 +153,7 @@ by_put past w seen epochs t range write n h lt is p =
     in_list : Puts w.seen seen (access t n range write) × ((v : Bool) (u x : ℕ) → listed epochs v u x ≡ listed w.epochs v u x) → IsLastSeen seen (listed epochs) (Accessed t range write ∷ past)
     in_list q =
         let g = last_seen_more past w.seen seen (listed w.epochs) t range write n (is ∙ h.made t lt) h.seen q.0 in
-        record { sound = g.sound; below = λ v u x. omega (arith, g.below v u x, q.1 v u x); complete = λ v u x k l. ⊎_elim (λ f. inl f) (λ m. inr (omega (arith, m, q.1 v u x))) (g.complete v u x k l) }
+        record { sound = g.sound; below = λ v u x. omega (arith, g.below v u x, q.1 v u x); complete = λ v u x k o l. ⊎_elim (λ f. inl f) (λ m. inr (omega (arith, m, q.1 v u x))) (g.complete v u x k o l) }
 
     by_epoch : (seen ≡ w.seen) × ArePut (listed w.epochs) (listed epochs) (access t n range write) → IsLastSeen seen (listed epochs) (Accessed t range write ∷ past)
     by_epoch q = subst (λ l. IsLastSeen l (listed epochs) (Accessed t range write ∷ past)) (sym q.0) (last_epochs_more past w.seen (listed w.epochs) (listed epochs) t range write n (is ∙ h.made t lt) h.seen q.1)
@@ -225,3 +226,18 @@ reached_by w seen a b t range write n (Err y) h e k l lt lm is none p q s = same
 pub each_ok : (r : Result Unit WatchError) (P Q : List Told → Type 0) → ((past : List Told) → P past → OnOk r (Q past)) → OnOk r ((past : List Told) → P past → Q past)
 each_ok (Ok x) P Q h = h
 each_ok (Err e) P Q h = tt
+
+-- constants race with nothing
+
+pub constants_no_race : (past : List Told) (t : ℕ) (range : Range) (write : Bool) → ((x : ℕ) → covers range x ≡ true → is_constant x ≡ true) → NoRace past t range write
+constants_no_race past t range write all x u i v = true_not_false (sym (all x (covered range x i)) ∙ v.no_constant)
+
+pub constants_stand : (past : List Told) (w : WatchState) (t : ℕ) (range : Range) (write : Bool) → Stands past w → ((x : ℕ) → covers range x ≡ true → is_constant x ≡ true) → Stands (Accessed t range write ∷ past) w
+constants_stand past w t range write h all =
+    record {
+      events = h.events;
+      made = h.made;
+      rows = h.rows;
+      keys = h.keys;
+      seen = last_constants_more past w.seen (listed w.epochs) t range write h.seen all;
+    }

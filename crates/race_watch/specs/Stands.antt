@@ -32,15 +32,14 @@ event_count [] = 0
 event_count (Accessed t range write ∷ past) = event_count past
 event_count (Happened m ∷ past) = event_count past + 1
 
--- the accesses that were seen and the epochs stand for the last access of each byte by each thread, that
--- counts where it races
--- with reads too, or with writes alone
+-- the accesses that were seen and the epochs stand for the last access by each thread of each byte that is no
+-- constant, that counts where it races with reads too, or with writes alone
 pub record IsLastSeen (seen : List Seen) (epochs : Bool → ℕ → ℕ → ℕ) (past : List Told) : Type 0 where
   pub sound : (s : Seen) (write : Bool) (x : ℕ) → In s seen → (write || s.write) ≡ true →
       covers s.range x ≡ true → s.place < (if write then touched s.thread x past else wrote s.thread x past)
   pub below : (write : Bool) (u x : ℕ) → epochs write u x ≤ (if write then touched u x past
       else wrote u x past)
-  pub complete : (write : Bool) (u x n : ℕ) → n < (if write then touched u x past else wrote u x past) →
+  pub complete : (write : Bool) (u x n : ℕ) → is_constant x ≡ false → n < (if write then touched u x past else wrote u x past) →
       Found seen write u x n ⊎ (n < epochs write u x)
 
 -- the watch was told this

@@ -1,9 +1,9 @@
 //! The first byte at which an access races with an earlier one.
 
-ghost use Rattle.std.specs.Prelude.{◌≡◌, ◌<◌, false, length};
+ghost use Rattle.std.specs.Prelude.{◌≡◌, ◌<◌, ℕ, false, length, true, IsTrue};
 ghost use Rattle.std.specs.List.{All};
 ghost use Rattle.marks.specs.Places.{is_constant};
-ghost use Rattle.marks.specs.Ranges.{IsInRange, IsFirstIn};
+ghost use Rattle.marks.specs.Ranges.{covers, IsInRange, IsFirstIn};
 ghost use Rattle.race_watch.specs.Hits.{Hits, IsFirstHit, earlier};
 ghost use Rattle.race_watch.specs.declared.seen.Seen.{Seen};
 
@@ -22,6 +22,15 @@ fn first_shared(mine: Range, other: Range) -> Option<u64>
         return Some(REPLAY_GLOBALS);
     }
     None
+}
+
+/// Whether the range is one of constants alone, which are read alone.
+pub fn has_constants_alone(range: Range) -> bool
+    ensures { IsTrue result → (x : ℕ) → covers range x ≡ true → is_constant x ≡ true }
+{
+    range.addr >= CONSTANTS.addr
+        && range.addr < REPLAY_GLOBALS
+        && range.len <= REPLAY_GLOBALS - range.addr
 }
 
 /// An access that is to be tested: its thread, how many events of each thread it knows, its bytes, and whether it writes them.

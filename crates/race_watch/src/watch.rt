@@ -9,7 +9,7 @@ ghost use Rattle.race_watch.specs.Stands.{Stands, AnswersBy, WasTold, WasToldNoM
 
 use crate::access::{first_race, is_settled, note};
 use crate::error::WatchError;
-use crate::first::Tested;
+use crate::first::{Tested, has_constants_alone};
 use crate::known::{Row, learn_keys, tell_keys};
 use crate::seen::Seen;
 use crate::tables::Tables;
@@ -41,7 +41,7 @@ pub struct Watch {
     rows: Vec<Row>,
     /// By key, how many events of each thread the last event with the key tells of.
     keys: BTreeMap<KeyName, Row>,
-    /// Accesses that leave the areas of replay code, and the epochs of all others.
+    /// Accesses that leave the areas of replay code and the constants, and the epochs of those in its areas.
     seen: Vec<Seen>,
     tables: Tables,
 }
@@ -117,7 +117,7 @@ impl Watch {
         self.access_anew(thread, range, write)
     }
 
-    // An access that is tested and kept.
+    // An access that is tested and kept, but for constants: none races there, so nothing is kept of it.
     #[inline(never)]
     fn access_anew(&mut self, thread: u8, range: Range, write: bool) -> Result<(), WatchError>
         requires { thread < length self.old.rows }
@@ -127,6 +127,9 @@ impl Watch {
         ensures events { self.new.events ≡ self.old.events }
         ensures threads { length self.new.rows ≡ length self.old.rows }
     {
+        if has_constants_alone(range) {
+            return Ok(());
+        }
         if let Err(race) = self.test(thread, range, write) {
             return Err(race);
         }

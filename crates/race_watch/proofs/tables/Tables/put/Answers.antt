@@ -1,4 +1,4 @@
-use Rattle.std.proofs.Common.{◌≡◌, ◌≤◌, ◌<◌, ◌+◌, ◌∙◌, ◌&&◌, ◌||◌, cond, Bool, true, false, nat_le, nat_lt, eqb, refl, sym, subst, arith}
+use Rattle.std.proofs.Common.{◌≡◌, ◌∙◌, ◌&&◌, ◌||◌, cond, Bool, true, false, nat_le, nat_lt, eqb, refl, sym, subst, arith}
 use Rattle.race_watch.specs.declared.tables.Tables.{Tables}
 use Rattle.race_watch.specs.Tables.{at}
 use Rattle.race_watch.proofs.Epochs.{cells_same, filled_by, put_read, put_write, put_unused, still_unused}
