@@ -39,8 +39,8 @@ fn refuse(found: Vec<LockFinding>) -> Result<(), GuardError>
 /// mutex is held, and no pointer to it is made. The flags say which functions may run, above the cut or below it, in the order of
 /// the source, so from number 16 on; those without one don't.
 ///
-/// It takes time linear in the program and in the findings but for their order, for starts of bodies, ways and loops, which copy one
-/// bit for each mutex that is known, and for their ends and for calls of functions whose callers hold mutexes, which compare as many.
+/// It takes time linear in the program and in the findings but for their order, for ends of ways and loops, which go over what
+/// changed on them, and for starts of bodies and calls of functions whose callers hold mutexes, which go over these by words of 64.
 pub fn guard(
     alloc: Global,
     program: &TypedProgram,
