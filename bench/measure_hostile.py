@@ -7,6 +7,8 @@ import resource
 import subprocess
 import sys
 
+from timing import measured
+
 HERE = os.path.dirname(os.path.abspath(__file__))
 SIZES = [12_000, 100_000, 1_000_000]
 
@@ -18,11 +20,8 @@ def limited():
 
 def run(program, source):
     """Processor seconds, status and peak bytes of a check."""
-    words = [program, "check", source, "top"]
-    quiet = subprocess.DEVNULL
-    child = subprocess.Popen(words, stdout=quiet, stderr=quiet, preexec_fn=limited)
-    _, status, usage = os.wait4(child.pid, 0)
-    return usage.ru_utime + usage.ru_stime, os.waitstatus_to_exitcode(status), usage.ru_maxrss * 1024
+    _, seconds, status, memory = measured([program, "check", source, "top"], os.devnull, limited)
+    return seconds, status, memory
 
 
 def main():

@@ -59,10 +59,7 @@ LARGE = [
 
 def spent(words, out):
     """The processor time, the exit status and the peak memory in bytes of a program."""
-    with open(out, "wb") as file:
-        child = subprocess.Popen(words, stdout=file, stderr=subprocess.DEVNULL)
-    _, status, usage = os.wait4(child.pid, 0)
-    return usage.ru_utime + usage.ru_stime, os.waitstatus_to_exitcode(status), usage.ru_maxrss * 1024
+    return measured(words, out)[1:]
 
 
 def plain(source):
