@@ -18,6 +18,7 @@ static long cell_of(uint64_t addr) {
 
 // Whether the access races; it is kept where it doesn't.
 __attribute__((noinline)) static int access_at(int thread, uint64_t addr, int len, int write) {
+    if (addr < 0x10000000) return 0;
     long cell = cell_of(addr);
     uint32_t epoch = made[thread] + 1;
     uint32_t *own = write ? wrote[thread] : touched[thread];
@@ -63,9 +64,12 @@ static int races_of(const char *word, long count) {
         } else if (word[0] == 'p') {
             thread = round / 8192 % 4, write = round % 2 == 0;
             addr = 0x20000000 + 0x10000ul * thread + 8 * (round % 8192);
+        } else if (word[0] == 'w') {
+            thread = round / 65536 % 4, write = 1, makes = round % 65536 == 65535, next = 1;
+            addr = 0x10000000 + 8 * (round % 65536);
         } else {
             thread = round / 8192 % 4, write = 0;
-            addr = 0x10000000 + 8 * (round % 8192);
+            addr = (word[0] == 'c' ? 0x100000 : 0x10000000) + 8 * (round % 8192);
         }
         races += access_at(thread, addr, 8, write);
         if (makes) event(thread);
@@ -102,10 +106,31 @@ static void clocks_of(uint64_t different) {
     printf("clock %u tickets %lu\n", clock, sum);
 }
 
+// The events of clocks_of, told to vector clocks by thread and by key.
+static void events_of(uint64_t different) {
+    static uint32_t rows[8][32], counts[8];
+    uint32_t(*keyed[2])[32];
+    for (int class = 0; class < 2; class++) keyed[class] = calloc(different, sizeof(uint32_t[32]));
+    for (uint32_t round = 0; round < 1000000; round++) {
+        uint64_t at = round * 2654435761ul;
+        uint64_t keys[2] = {at % different, at / 7 % different};
+        uint32_t *row = rows[round % 8];
+        for (int class = 0; class < 2; class++)
+            for (int i = 0; i < 32; i++)
+                if (keyed[class][keys[class]][i] > row[i]) row[i] = keyed[class][keys[class]][i];
+        uint32_t made = ++counts[round % 8];
+        if (made > row[round % 8]) row[round % 8] = made;
+        for (int class = 0; class < 2; class++) memcpy(keyed[class][keys[class]], row, sizeof rows[0]);
+    }
+    printf("events %u\n", counts[0] + counts[1] + counts[2] + counts[3] + counts[4] + counts[5] + counts[6] + counts[7]);
+}
+
 int main(int words, char **word) {
     if (words < 3) return 2;
     if (strcmp(word[1], "clocks") == 0)
         clocks_of(strtoul(word[2], 0, 10));
+    else if (strcmp(word[1], "events") == 0)
+        events_of(strtoul(word[2], 0, 10));
     else
         printf("races %d\n", races_of(word[1], atol(word[2])));
     return 0;

@@ -7,13 +7,13 @@ use logical_clock::{Class, Clocks, Key, Stamp};
 use std::alloc::{AllocError, Global};
 
 /// How many events there are.
-const EVENTS: u32 = 1_000_000;
+pub const EVENTS: u32 = 1_000_000;
 
 /// How many threads make them, in turn.
-const THREADS: u8 = 8;
+pub const THREADS: u8 = 8;
 
 /// The keys of an event: one of each of two classes, in a scattered order.
-fn keys(round: u32, different: u64) -> [Key; 2]
+pub fn keys(round: u32, different: u64) -> [Key; 2]
     requires { 0 < different }
     ensures { AreDistinct result }
 {

@@ -2,6 +2,7 @@
 
 ghost use Rattle.std.specs.Prelude.{◌<◌};
 
+use crate::clocks::{EVENTS, THREADS, keys};
 use memory_map::Range;
 use race_watch::{Watch, WatchError};
 use run_events::{Class, Key};
@@ -18,6 +19,10 @@ pub enum Case {
     Passes,
     /// All read the same 64 KiB of globals, with an event after each pass.
     Reads,
+    /// Each in turn writes the same 512 KiB of globals, with two events after each pass.
+    Writes,
+    /// All read the same 64 KiB of constants, with an event after each pass.
+    Constants,
 }
 
 /// An access, and whether its thread makes an event after it, and the next thread one after that.
@@ -77,6 +82,26 @@ fn access_of(case: Case, round: u32) -> Access
                 next: false,
             }
         }
+        Case::Writes => {
+            let slot = u64::from(round % 65_536);
+            Access {
+                thread: (round / 65_536 % 4) as u8,
+                addr: 0x1000_0000 + 8 * slot,
+                write: true,
+                event: round % 65_536 == 65_535,
+                next: true,
+            }
+        }
+        Case::Constants => {
+            let slot = u64::from(round % 8192);
+            Access {
+                thread: (round / 8192 % 4) as u8,
+                addr: 0x10_0000 + 8 * slot,
+                write: false,
+                event: round % 8192 == 8191,
+                next: false,
+            }
+        }
     }
 }
 
@@ -111,4 +136,17 @@ pub fn over_watch(alloc: Global, case: Case, accesses: u32) -> Result<u32, Watch
         }
     }
     Ok(races)
+}
+
+/// Tells a watch of as many events as `over_clocks` makes, with the same keys. Gives how many there were.
+pub fn over_events(alloc: Global, different: u64) -> Result<u32, WatchError>
+    requires { 0 < different }
+{
+    let mut watch = Watch::new(alloc, THREADS).map_err(|_| WatchError::Memory)?;
+    for round in 0..EVENTS {
+        watch
+            .event((round % 8) as u8, &keys(round, different))
+            .map_err(|_| WatchError::Memory)?;
+    }
+    Ok(EVENTS)
 }
