@@ -20,7 +20,11 @@ FILES = {
     "notes": lines("# a note of some words, as a person writes them\n"),
     "one schedule": "schedule" + " 0*7 1*5" * ((MOST - 9) // 8) + "\n",
     "one schedule of threads": "schedule" + " 3" * ((MOST - 9) // 2) + "\n",
+    "one schedule of two digits": "schedule" + " 10" * ((MOST - 9) // 3) + "\n",
+    "one schedule of 31*11": "schedule" + " 31*11" * ((MOST - 9) // 6) + "\n",
     "answers without bytes": lines("answer read 0 -\n"),
+    "answers of two names": lines("answer read 0 -\nanswer poll 0 -\n"),
+    "answers of 900 names": lines("".join(f"answer f{number} 0 -\n" for number in range(100, 1000))),
     "answers of 16 bytes": lines("answer read 16 000102030405060708090a0b0c0d0e0f\n"),
     "one long answer": "answer read 1 " + "5a" * ((MOST - 15) // 2) + "\n",
 }
@@ -43,7 +47,7 @@ def main():
                 best[word] = min(best[word], seconds)
         times = "  ".join(f"{word} {best[word] * 1e3:6.2f} ms" for word in words)
         ratios = "  ".join(f"{word} {best['read'] / best[word]:5.2f}" for word in ("plain", "wc"))
-        print(f"{name:24} {times}  ratio to {ratios}")
+        print(f"{name:26} {times}  ratio to {ratios}")
 
 
 main()

@@ -1,5 +1,6 @@
-// What bench_scripts does, in plain C: reads a system file, whose one function is `read` with one piece, into a list of turns and
-// a list of answers that own their pieces, and prints how many turns and answers there are. `script.sh` compiles and times it.
+// What bench_scripts does, in plain C: reads a system file, whose functions are `read`, `poll` and `f100` to `f999` with one piece
+// each, into a list of turns and a list of answers that own their pieces, and prints how many turns and answers there are.
+// `script.sh` compiles and times it.
 #include <stdint.h>
 #include <stdio.h>
 #include <stdlib.h>
@@ -12,6 +13,22 @@ struct answer { uint16_t func; uint64_t result; struct piece *pieces; size_t cou
 static struct turn *turns;
 static struct answer *answers;
 static size_t turn_count, turn_room, answer_count, answer_room;
+
+// The functions by a sum over their names: the first place that is empty ends those of a sum.
+enum { ROOM = 8192, LONGEST = 8 };
+static char names[ROOM][LONGEST];
+
+static unsigned place_of(const char *name, size_t len) {
+    unsigned sum = 0;
+    for (size_t i = 0; i < len; i++) sum = sum * 31 + (unsigned char)name[i];
+    sum %= ROOM;
+    while (names[sum][0] && (strlen(names[sum]) != len || memcmp(names[sum], name, len) != 0)) sum = (sum + 1) % ROOM;
+    return sum;
+}
+
+static void know(const char *name) {
+    strcpy(names[place_of(name, strlen(name))], name);
+}
 
 static void wrong(long line) {
     printf("line %ld\n", line);
@@ -48,10 +65,12 @@ static int schedule(const char *at, const char *end) {
     }
 }
 
-// Whether this is an answer of `read`.
+// Whether this is an answer of a function that is known.
 static int answer(const char *at, const char *end) {
     uint64_t result;
-    if (end - at < 5 || memcmp(at, "read ", 5) != 0 || !(at = number(at + 5, end, 0, 2147483647, &result))) return 0;
+    const char *blank = memchr(at, ' ', end - at);
+    if (!blank || blank == at || !names[place_of(at, blank - at)][0]) return 0;
+    if (!(at = number(blank + 1, end, 0, 2147483647, &result))) return 0;
     if (at == end || *at++ != ' ' || at == end) return 0;
     struct piece *piece = malloc(sizeof *piece);
     *piece = (struct piece){NULL, 0};
@@ -73,6 +92,13 @@ int main(int words, char **word) {
     if (words < 2) return 2;
     FILE *file = fopen(word[1], "rb");
     if (!file) return 1;
+    know("read");
+    know("poll");
+    for (int number = 100; number < 1000; number++) {
+        char name[LONGEST];
+        snprintf(name, sizeof name, "f%d", number);
+        know(name);
+    }
     char *bytes = malloc(1 << 20);
     const char *at = bytes, *all = bytes + fread(bytes, 1, 1 << 20, file);
     for (long line = 1; at < all; line++) {

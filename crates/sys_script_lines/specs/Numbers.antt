@@ -1,5 +1,5 @@
 -- Decimal numbers without a sign or leading zeros.
-use Rattle.std.specs.Prelude.{ℕ, ◌+◌, ◌*◌, ◌-◌, ◌==◌, Bool, ◌&&◌, nat_le, if◌then◌else◌, List, [], ◌∷◌, Option, Some, None}
+use Rattle.std.specs.Prelude.{◌≡◌, ℕ, ◌+◌, ◌*◌, ◌-◌, ◌==◌, Bool, ◌&&◌, nat_le, if◌then◌else◌, List, [], ◌∷◌, ◌++◌, Option, Some, None}
 use Rattle.std.specs.Option.{option_and_then}
 
 -- a byte that is one of the ten digits
@@ -23,3 +23,9 @@ within least most n = if nat_le least n && nat_le n most then Some n else None
 
 abbrev pub number_in : (least most : ℕ) → List ℕ → Option ℕ
 number_in least most text = option_and_then (within least most) (number text)
+
+-- the text begins with the digits of a number, and this follows them
+pub record IsLeading (text : List ℕ) (n : ℕ) (rest : List ℕ) : Type 0 where
+  pub digits : List ℕ
+  pub text_is : text ≡ digits ++ rest
+  pub number_is : number digits ≡ Some n

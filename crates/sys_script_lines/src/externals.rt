@@ -1,7 +1,7 @@
 //! The functions that a system file answers.
 
-ghost use Rattle.std.specs.Prelude.{◌≡◌, ℕ, List, [], None, Some, OnOk, OnErr, if◌then◌else◌};
-ghost use Rattle.std.specs.Option.{option_copied, option_or};
+ghost use Rattle.std.specs.Prelude.{◌≡◌, ℕ, List, [], None, Some, IfSome, OnOk, OnErr, if◌then◌else◌};
+ghost use Rattle.std.specs.Option.{option_copied, option_map, option_or};
 ghost use Rattle.std.specs.Str.{bytes_eq};
 ghost use Rattle.sys_script_lines.specs.Externals.{external_named, only_named};
 
@@ -70,5 +70,26 @@ impl Externals {
         ensures { result ≡ external_named name.now self.now }
     {
         self.by_name.get(name).copied()
+    }
+
+    /// The function that was put in at this place, where its name is this one.
+    #[inline(always)]
+    pub(crate) fn at(&self, place: usize, name: &[u8]) -> Option<External>
+        ensures { IfSome result (λ e. external_named name.now self.now ≡ Some e) }
+    {
+        let (key, external) = self.by_name.get_index(place)?;
+        if key.as_slice() == name {
+            Some(*external)
+        } else {
+            None
+        }
+    }
+
+    /// The function of this name, and its place.
+    pub(crate) fn place_of(&self, name: &[u8]) -> Option<(usize, External)>
+        ensures { option_map (λ x. x.1) result ≡ external_named name.now self.now }
+    {
+        let (place, _, external) = self.by_name.get_full(name)?;
+        Some((place, *external))
     }
 }

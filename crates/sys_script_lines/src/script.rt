@@ -25,7 +25,7 @@ pub fn read_lines(
     ensures { IsRead (script_of (named_in externals.now) bytes.now) result }
 {
     let mut said = Said::new(alloc);
-    let mut finder = Finder::new(externals, b"".as_slice());
+    let mut finder = Finder::new(externals);
     let mut rest = bytes;
     let mut number = 1;
     while let Some((line, after)) = cut_far(rest, b'\n') {

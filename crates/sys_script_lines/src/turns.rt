@@ -1,9 +1,10 @@
 //! The turns of a schedule.
 
-ghost use Rattle.std.specs.Prelude.{◌≡◌, ◌∷◌, ◌<◌, [], length, IfSome, IfNone};
+ghost use Rattle.std.specs.Prelude.{◌≡◌, ◌∷◌, ◌<◌, ◌≤◌, ℕ, List, [], length, IfSome, IfNone};
 ghost use Rattle.std.specs.Option.{option_and_then};
 ghost use Rattle.sys_script_lines.specs.Each.{before, each};
 ghost use Rattle.sys_script_lines.specs.Says.{Says};
+ghost use Rattle.sys_script_lines.specs.Numbers.{IsLeading};
 ghost use Rattle.sys_script_lines.specs.Parts.{parts};
 ghost use Rattle.sys_script_lines.specs.Turns.{thread, turn};
 
@@ -15,7 +16,7 @@ use std::alloc::Global;
 use system_side::Schedule;
 
 /// How many steps one turn has at most.
-const MOST_STEPS: u64 = 1_000_000;
+const MOST_STEPS: u32 = 1_000_000;
 
 /// The number of a thread.
 fn thread(text: &[u8]) -> Option<u8>
@@ -36,43 +37,78 @@ fn turn(word: &[u8]) -> Option<(u8, u32)>
         }
         Some((before, after)) => {
             let thread = thread(before)?;
-            let steps = number(after, 1, MOST_STEPS)?;
+            let steps = number(after, 1, u64::from(MOST_STEPS))?;
             Some((thread, steps as u32))
         }
     }
 }
 
-/// The turn with which the words begin, and what follows the blank after it, where the turn is one digit, the thread's.
+/// The number with one digit more, the first of the text, and what follows that digit. No digit goes on a 0, nor on a number that
+/// is greater than any number of steps.
 #[inline(always)]
-fn one_digit(words: &[u8]) -> Option<((u8, u32), &[u8])>
-    ensures turn { IfSome result (λ x. each turn (parts 32 words.now) ≡
-        before (each turn (parts 32 x.1.now)) x.0) }
-    ensures shorter { IfSome result (λ x. length x.1.now < length words.now) }
+fn with_next(number: u32, text: &[u8]) -> Option<(u32, &[u8])>
+    ensures leading { (all : List ℕ) → IsLeading all number text.now →
+        IfSome result (λ x. IsLeading all x.0 x.1.now) }
+    ensures shorter { IfSome result (λ x. length x.1.now < length text.now) }
 {
-    if words.len() > 1 && words[1] == b' ' && words[0].is_ascii_digit() {
-        Some(((words[0] - b'0', 1), &words[2..]))
-    } else {
-        None
+    match text {
+        [digit, after @ ..] if digit.is_ascii_digit() && number > 0 && number <= MOST_STEPS => {
+            Some((number * 10 + u32::from(*digit - b'0'), after))
+        }
+        _ => None,
     }
 }
 
-/// The same, where the turn is a digit, `*` and a digit.
+/// The number with which the text begins, and what follows it.
 #[inline(always)]
-fn two_digits(words: &[u8]) -> Option<((u8, u32), &[u8])>
+fn leading(text: &[u8]) -> Option<(u32, &[u8])>
+    ensures leading { IfSome result (λ x. IsLeading text.now x.0 x.1.now) }
+    ensures shorter { IfSome result (λ x. length x.1.now < length text.now) }
+{
+    let (mut number, mut rest) = match text {
+        [digit, after @ ..] if digit.is_ascii_digit() => (u32::from(*digit - b'0'), after),
+        _ => return None,
+    };
+    while let Some((more, after)) = with_next(number, rest) {
+        number = more;
+        rest = after;
+    }
+    Some((number, rest))
+}
+
+/// The number of steps with which the text begins, and what follows the blank after it.
+#[inline(always)]
+fn leading_steps(text: &[u8]) -> Option<(u32, &[u8])>
+    ensures leading { IfSome result (λ x. IsLeading text.now x.0 (32 ∷ x.1.now)) }
+    ensures range { IfSome result (λ x. (1 ≤ x.0) × (x.0 ≤ 1000000)) }
+    ensures shorter { IfSome result (λ x. length x.1.now < length text.now) }
+{
+    let (steps, rest) = leading(text)?;
+    match rest {
+        [b' ', after @ ..] if 1 <= steps && steps <= MOST_STEPS => Some((steps, after)),
+        _ => None,
+    }
+}
+
+/// The turn with which the words begin, and what follows the blank after it, by one look at each byte. `None` where no blank ends
+/// the turn, and where the first word is no turn.
+#[inline(always)]
+fn leading_turn(words: &[u8]) -> Option<((u8, u32), &[u8])>
     ensures turn { IfSome result (λ x. each turn (parts 32 words.now) ≡
         before (each turn (parts 32 x.1.now)) x.0) }
     ensures shorter { IfSome result (λ x. length x.1.now < length words.now) }
 {
-    if words.len() > 3
-        && words[1] == b'*'
-        && words[3] == b' '
-        && words[2] != b'0'
-        && words[2].is_ascii_digit()
-        && words[0].is_ascii_digit()
-    {
-        Some(((words[0] - b'0', u32::from(words[2] - b'0')), &words[4..]))
-    } else {
-        None
+    let (thread, rest) = leading(words)?;
+    if thread >= u32::from(LOG_THREADS) {
+        return None;
+    }
+    match rest {
+        [b' ', after @ ..] => Some(((thread as u8, 1), after)),
+        [b'*', steps @ ..] => {
+            let (steps, after) = leading_steps(steps)?;
+            Some(((thread as u8, steps), after))
+        }
+        _ => None,
     }
 }
 
@@ -85,10 +121,7 @@ fn first_turn(words: &[u8]) -> Option<(Option<(u8, u32)>, &[u8])>
     ensures last { IfNone result (parts 32 words.now ≡ words.now ∷ []) }
     ensures shorter { IfSome result (λ x. length x.1.now < length words.now) }
 {
-    if let Some((turn, after)) = one_digit(words) {
-        return Some((Some(turn), after));
-    }
-    if let Some((turn, after)) = two_digits(words) {
+    if let Some((turn, after)) = leading_turn(words) {
         return Some((Some(turn), after));
     }
     let (word, after) = cut(words, b' ')?;
