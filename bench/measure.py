@@ -4,18 +4,20 @@ over the size of the log."""
 import os
 import sys
 
-from timing import timed
+from timing import measured, timed
 
 
 def main():
     program, log, scratch = sys.argv[1:]
     printed = os.path.join(scratch, "printed")
-    seconds, status, memory = min(timed([program, "order", log], printed) for _ in range(3))
+    words = [program, "order", log]
+    seconds, status = min(timed(words, printed) for _ in range(3))
+    _, _, memory = measured(words, printed)
     size = os.path.getsize(log)
     line = f"{os.path.basename(log):14} {size:>9} bytes  status {status}  {seconds:6.2f} s"
     if os.path.getsize(printed) > 1000:
         words = ["sort", "-n", "--parallel=1", printed]
-        sorting, _, _ = min(timed(words, os.path.join(scratch, "sorted")) for _ in range(3))
+        sorting, _ = min(timed(words, os.path.join(scratch, "sorted")) for _ in range(3))
         line += f"  time / sort {seconds / sorting:6.2f}"
     else:
         line += "  no output to sort "

@@ -4,7 +4,7 @@ annotations, each the best of runs that were made in turn, and its peak memory o
 import os
 import sys
 
-from timing import timed
+from timing import measured, timed
 
 
 RUNS = 21
@@ -17,8 +17,9 @@ def main():
     for _ in range(RUNS):
         checks.append(timed([program, "check", source, "top"], printed))
         compilations.append(timed(["gcc", "-fsyntax-only", "-x", "c", plain], printed))
-    seconds, status, memory = min(checks)
-    gcc_seconds, gcc_status, _ = min(compilations)
+    seconds, status = min(checks)
+    gcc_seconds, gcc_status = min(compilations)
+    _, _, memory = measured([program, "check", source, "top"], printed)
     if gcc_status != 0:
         sys.exit("gcc refuses the text")
     size = os.path.getsize(source)

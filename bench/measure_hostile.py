@@ -20,7 +20,7 @@ def limited():
 
 def run(program, source):
     """Processor seconds, status and peak bytes of a check."""
-    _, seconds, status, memory = measured([program, "check", source, "top"], os.devnull, limited)
+    seconds, status, memory = measured([program, "check", source, "top"], os.devnull, limited)
     return seconds, status, memory
 
 

@@ -4,7 +4,7 @@ first over the bytes that are accessed, less that of the least case. What a prog
 import os
 import sys
 
-from timing import timed
+from timing import measured, timed
 
 CASES = [
     ("clocks", 1, None),
@@ -27,10 +27,11 @@ def best(words, printed):
     """The least time of a few runs, what they print, and the peak memory."""
     least = float("inf")
     for _ in range(5):
-        seconds, status, memory = timed(words, printed)
+        seconds, status = timed(words, printed)
         if status != 0:
             sys.exit(f"{' '.join(words)} ended with {status}")
         least = min(least, seconds)
+    _, _, memory = measured(words, printed)
     with open(printed) as file:
         return least, file.read(), memory
 

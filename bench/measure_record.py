@@ -8,6 +8,8 @@ import re
 import subprocess
 import sys
 
+from timing import measured
+
 RUNS = 3
 HERE = os.path.dirname(os.path.abspath(__file__))
 
@@ -59,7 +61,7 @@ LARGE = [
 
 def spent(words, out):
     """The processor time, the exit status and the peak memory in bytes of a program."""
-    return measured(words, out)[1:]
+    return measured(words, out)
 
 
 def plain(source):

@@ -41,7 +41,7 @@ def main():
         best = dict.fromkeys(words, float("inf"))
         for _ in range(21):
             for word, command in words.items():
-                seconds, status, _ = timed(command, printed)
+                seconds, status = timed(command, printed)
                 if status != 0:
                     sys.exit(f"{command} ended with {status}")
                 best[word] = min(best[word], seconds)

@@ -84,7 +84,7 @@ def measured(program, word, loops, scratch):
     for _ in range(3):
         for name in words:
             printed = os.path.join(scratch, name)
-            seconds, status, _ = timed(words[name], printed)
+            seconds, status = timed(words[name], printed)
             if status != 0:
                 sys.exit(f"{' '.join(words[name])} ended with {status}")
             best[name] = min(best[name], seconds)
