@@ -9,6 +9,7 @@ use Rattle.c_parser_actions.specs.declared.plan.Acts.{Acts}
 use Rattle.c_parser_actions.specs.declared.plan.Acts.TheVariants as acts
 use Rattle.c_parser_actions.specs.declared.plan.Plan.{Plan}
 use Rattle.c_parser_actions.specs.declared.plan.Plan.TheVariants as plans
+use Rattle.c_parser_actions.specs.declared.plan.Then.TheVariants as thens
 use Rattle.c_parser_moves.proofs.Machine.{Move, move, fail, begin}
 use Rattle.c_parser_moves.proofs.MachineSteps.{read_next}
 
@@ -23,9 +24,9 @@ acts_of (acts.Four a b c d) = d ∷ c ∷ b ∷ a ∷ []
 -- what the plan makes of the constructs that are open
 abbrev pub planned : Plan → List Frame → Move
 planned (plans.Refuse ts) K = fail ts.now K
-planned (plans.Go a n ts) K = move n (acts_of a) ts.now K
-planned (plans.Open a o n ts) K = move n (acts_of a) ts.now (o ∷ K)
-planned (plans.Read a o m ts) K = begin m (acts_of a) ts.now (o ∷ K)
+planned (plans.Do a (thens.Go n) ts) K = move n (acts_of a) ts.now K
+planned (plans.Do a (thens.Open o n) ts) K = move n (acts_of a) ts.now (o ∷ K)
+planned (plans.Do a (thens.Read o m) ts) K = begin m (acts_of a) ts.now (o ∷ K)
 planned (plans.ReadIn p o m ts) K = begin m [] ts.now (o ∷ p ∷ K)
 
 -- the plan is this move, whatever is open

@@ -5,7 +5,7 @@ ghost use Rattle.c_parser_moves.proofs.MachineDeclr.{annot_items, annot, annots_
 ghost use Rattle.c_parser_actions.specs.Plans.{Plans};
 
 use crate::parser::skip_one;
-use crate::plan::{Acts, Plan};
+use crate::plan::{Acts, Plan, Then};
 use c_lexer::{Kind, Text, Token, Word};
 use c_parser_moves::{Action, Frame, Next, Punctuator, Target, mark_first};
 use std::alloc::AllocError;
@@ -22,8 +22,8 @@ fn start_items<'a>(
 {
     let acts = Acts::One(Action::AnnotName(from, name.share()?));
     match what {
-        Punctuator::Open => Ok(Plan::Open(acts, Frame::Items, Next::Item, rest)),
-        _ => Ok(Plan::Go(acts, Next::AnnotDone, whole)),
+        Punctuator::Open => Ok(Plan::Do(acts, Then::Open(Frame::Items, Next::Item), rest)),
+        _ => Ok(Plan::Do(acts, Then::Go(Next::AnnotDone), whole)),
     }
 }
 
@@ -46,15 +46,18 @@ fn after_annot<'a>(what: Punctuator, target: Target, rest: &'a [Token]) -> Plan<
 {
     match what {
         Punctuator::Comma => {
-            Plan::Open(
+            Plan::Do(
                 Acts::One(Action::AddAnnot),
-                Frame::Annots(target),
-                Next::Annot,
+                Then::Open(Frame::Annots(target), Next::Annot),
                 rest,
             )
         }
         Punctuator::CloseBracket => {
-            Plan::Go(Acts::One(Action::AddAnnot), Next::Specs(target), rest)
+            Plan::Do(
+                Acts::One(Action::AddAnnot),
+                Then::Go(Next::Specs(target)),
+                rest,
+            )
         }
         _ => Plan::Refuse(rest),
     }
@@ -75,7 +78,11 @@ fn start_atom_type<'a>(what: Punctuator, rest: &'a [Token]) -> Plan<'a>
     ensures { Plans result (atom_size what rest.now) }
 {
     match what {
-        Punctuator::Open => Plan::Open(Acts::None, Frame::SizeofAtom, Next::TypeName, rest),
+        Punctuator::Open => Plan::Do(
+            Acts::None,
+            Then::Open(Frame::SizeofAtom, Next::TypeName),
+            rest,
+        ),
         _ => Plan::Refuse(rest),
     }
 }
@@ -87,13 +94,25 @@ pub fn start_atom<'a>(first: &'a Token, rest: &'a [Token]) -> Result<Plan<'a>, A
     match &first.kind {
         Kind::Name(name) => {
             let name = name.share()?;
-            Ok(Plan::Go(Acts::One(Action::NameAtom(name)), Next::AtomDone, rest))
+            Ok(Plan::Do(
+                Acts::One(Action::NameAtom(name)),
+                Then::Go(Next::AtomDone),
+                rest,
+            ))
         }
         Kind::Number { value, .. } => {
-            Ok(Plan::Go(Acts::One(Action::NumberAtom(*value)), Next::AtomDone, rest))
+            Ok(Plan::Do(
+                Acts::One(Action::NumberAtom(*value)),
+                Then::Go(Next::AtomDone),
+                rest,
+            ))
         }
         Kind::Word(Word::Return) => {
-            Ok(Plan::Go(Acts::One(Action::ReturnAtom), Next::AtomDone, rest))
+            Ok(Plan::Do(
+                Acts::One(Action::ReturnAtom),
+                Then::Go(Next::AtomDone),
+                rest,
+            ))
         }
         Kind::Word(Word::Sizeof) => Ok(start_atom_type(mark_first(rest), skip_one(rest))),
         _ => Ok(Plan::Refuse(rest)),
@@ -105,8 +124,16 @@ fn after_factor<'a>(what: Punctuator, from: u32, whole: &'a [Token], rest: &'a [
     ensures { Plans result (factor what from whole.now rest.now) }
 {
     match what {
-        Punctuator::Star => Plan::Open(Acts::None, Frame::SecondFactor(from), Next::Atom, rest),
-        _ => Plan::Go(Acts::One(Action::OneFactor(from)), Next::ItemDone, whole),
+        Punctuator::Star => Plan::Do(
+            Acts::None,
+            Then::Open(Frame::SecondFactor(from), Next::Atom),
+            rest,
+        ),
+        _ => Plan::Do(
+            Acts::One(Action::OneFactor(from)),
+            Then::Go(Next::ItemDone),
+            whole,
+        ),
     }
 }
 
@@ -117,7 +144,11 @@ pub fn give_atom<'a>(frame: Frame, rest: &'a [Token]) -> Plan<'a>
     match frame {
         Frame::FirstFactor(from) => after_factor(mark_first(rest), from, rest, skip_one(rest)),
         Frame::SecondFactor(from) => {
-            Plan::Go(Acts::One(Action::TwoFactors(from)), Next::ItemDone, rest)
+            Plan::Do(
+                Acts::One(Action::TwoFactors(from)),
+                Then::Go(Next::ItemDone),
+                rest,
+            )
         }
         _ => Plan::Refuse(rest),
     }
@@ -129,9 +160,13 @@ fn after_item<'a>(what: Punctuator, rest: &'a [Token]) -> Plan<'a>
 {
     match what {
         Punctuator::Comma => {
-            Plan::Open(Acts::One(Action::AddItem), Frame::Items, Next::Item, rest)
+            Plan::Do(
+                Acts::One(Action::AddItem),
+                Then::Open(Frame::Items, Next::Item),
+                rest,
+            )
         }
-        Punctuator::Close => Plan::Go(Acts::One(Action::AddItem), Next::AnnotDone, rest),
+        Punctuator::Close => Plan::Do(Acts::One(Action::AddItem), Then::Go(Next::AnnotDone), rest),
         _ => Plan::Refuse(rest),
     }
 }

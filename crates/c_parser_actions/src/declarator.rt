@@ -9,7 +9,7 @@ ghost use Rattle.c_syntax.specs.Levels.{lone_void};
 
 use crate::ahead::annots_follow;
 use crate::parser::skip_one;
-use crate::plan::{Acts, Plan};
+use crate::plan::{Acts, Plan, Then};
 use c_lexer::{Kind, Sign, Text, Token};
 use c_parser_moves::{
     Action, DeclaredIn, Frame, Naming, Next, Punctuator, after_consts, mark_first, void_first,
@@ -51,7 +51,11 @@ fn without_name<'a>(naming: Naming, from: u32, rest: &'a [Token]) -> Plan<'a>
 {
     match naming {
         Naming::Always => Plan::Refuse(rest),
-        _ => Plan::Go(Acts::One(Action::Nameless(from)), Next::Direct, rest),
+        _ => Plan::Do(
+            Acts::One(Action::Nameless(from)),
+            Then::Go(Next::Direct),
+            rest,
+        ),
     }
 }
 
@@ -71,7 +75,11 @@ fn with_name<'a>(
         Naming::Never => Ok(without_name(naming, from, whole)),
         _ => {
             let name = name.share()?;
-            Ok(Plan::Go(Acts::One(Action::Named(at, name)), Next::Direct, rest))
+            Ok(Plan::Do(
+                Acts::One(Action::Named(at, name)),
+                Then::Go(Next::Direct),
+                rest,
+            ))
         }
     }
 }
@@ -88,7 +96,11 @@ fn in_brackets<'a>(
     ensures { Plans result (in_group (groups naming rest.now) naming from whole.now rest.now) }
 {
     if opens_group(ahead, naming, rest) {
-        Plan::Open(Acts::None, Frame::Grouped, Next::Declr(naming, from), rest)
+        Plan::Do(
+            Acts::None,
+            Then::Open(Frame::Grouped, Next::Declr(naming, from)),
+            rest,
+        )
     } else {
         without_name(naming, from, whole)
     }
@@ -110,10 +122,9 @@ pub fn start_declr<'a>(
     match &first.kind {
         Kind::Name(name) => with_name(naming, from, first.from, name, whole, rest),
         Kind::Sign(Sign::Star) => {
-            Ok(Plan::Open(
+            Ok(Plan::Do(
                 Acts::None,
-                Frame::Pointer(first.from),
-                Next::Declr(naming, from),
+                Then::Open(Frame::Pointer(first.from), Next::Declr(naming, from)),
                 after_consts(rest),
             ))
         }
@@ -127,16 +138,15 @@ fn start_params<'a>(from: u32, rest: &'a [Token]) -> Plan<'a>
     ensures { Plans result (params (lone_void rest.now) from rest.now) }
 {
     if void_first(rest) {
-        Plan::Go(
+        Plan::Do(
             Acts::Two(Action::NoDecls, Action::Params(from)),
-            Next::Direct,
+            Then::Go(Next::Direct),
             skip_one(skip_one(rest)),
         )
     } else {
-        Plan::Open(
+        Plan::Do(
             Acts::One(Action::NoDecls),
-            Frame::Params(from),
-            Next::Param,
+            Then::Open(Frame::Params(from), Next::Param),
             rest,
         )
     }
@@ -152,9 +162,9 @@ pub fn after_direct<'a>(
     ensures { Plans result (direct what from whole.now rest.now) }
 {
     match what {
-        Punctuator::OpenBracket => Plan::Read(Acts::None, Frame::Length(from), 3, rest),
+        Punctuator::OpenBracket => Plan::Do(Acts::None, Then::Read(Frame::Length(from), 3), rest),
         Punctuator::Open => start_params(from, rest),
-        _ => Plan::Go(Acts::None, Next::DeclrDone, whole),
+        _ => Plan::Do(Acts::None, Then::Go(Next::DeclrDone), whole),
     }
 }
 
@@ -163,28 +173,28 @@ pub fn end_names<'a>(place: DeclaredIn, last: Action, rest: &'a [Token]) -> Plan
     ensures { Plans result (move (end_next place) (end_acts place (last ∷ [])) rest.now) }
 {
     match place {
-        DeclaredIn::Top => Plan::Go(
+        DeclaredIn::Top => Plan::Do(
             Acts::Three(last, Action::AddName, Action::EndSpecs),
-            Next::Top,
+            Then::Go(Next::Top),
             rest,
         ),
         DeclaredIn::Local => {
-            Plan::Go(
+            Plan::Do(
                 Acts::Four(last, Action::AddName, Action::EndSpecs, Action::AddLocal),
-                Next::Entry,
+                Then::Go(Next::Entry),
                 rest,
             )
         }
         DeclaredIn::For(from) => {
-            Plan::Go(
+            Plan::Do(
                 Acts::Four(last, Action::AddName, Action::EndSpecs, Action::LocalFirst),
-                Next::ForTest(from),
+                Then::Go(Next::ForTest(from)),
                 rest,
             )
         }
-        DeclaredIn::Member => Plan::Go(
+        DeclaredIn::Member => Plan::Do(
             Acts::Three(last, Action::AddName, Action::EndSpecs),
-            Next::MemberEnd,
+            Then::Go(Next::MemberEnd),
             rest,
         ),
     }
@@ -196,7 +206,11 @@ fn start_value<'a>(place: DeclaredIn, rest: &'a [Token]) -> Plan<'a>
 {
     match place {
         DeclaredIn::Member => Plan::Refuse(rest),
-        _ => Plan::Open(Acts::None, Frame::Init(place), Next::Initial, rest),
+        _ => Plan::Do(
+            Acts::None,
+            Then::Open(Frame::Init(place), Next::Initial),
+            rest,
+        ),
     }
 }
 
@@ -205,7 +219,7 @@ fn start_body<'a>(place: DeclaredIn, first: bool, rest: &'a [Token]) -> Plan<'a>
     ensures { Plans result (with_body place first rest.now) }
 {
     match (place, first) {
-        (DeclaredIn::Top, true) => Plan::Open(Acts::None, Frame::Body, Next::Stmt, rest),
+        (DeclaredIn::Top, true) => Plan::Do(Acts::None, Then::Open(Frame::Body, Next::Stmt), rest),
         _ => Plan::Refuse(rest),
     }
 }
@@ -223,10 +237,9 @@ fn after_name<'a>(
     match what {
         Punctuator::Assign => start_value(place, rest),
         Punctuator::Comma => {
-            Plan::Open(
+            Plan::Do(
                 Acts::Two(Action::Declare, Action::AddName),
-                Frame::Names(place, false),
-                Next::Declr(Naming::Always, 0),
+                Then::Open(Frame::Names(place, false), Next::Declr(Naming::Always, 0)),
                 rest,
             )
         }
@@ -242,22 +255,21 @@ fn after_param<'a>(what: Punctuator, from: u32, rest: &'a [Token]) -> Plan<'a>
 {
     match what {
         Punctuator::Comma => {
-            Plan::Open(
+            Plan::Do(
                 Acts::Three(Action::Declare, Action::AddName, Action::EndSpecs),
-                Frame::Params(from),
-                Next::Param,
+                Then::Open(Frame::Params(from), Next::Param),
                 rest,
             )
         }
         Punctuator::Close => {
-            Plan::Go(
+            Plan::Do(
                 Acts::Four(
                     Action::Declare,
                     Action::AddName,
                     Action::EndSpecs,
                     Action::Params(from),
                 ),
-                Next::Direct,
+                Then::Go(Next::Direct),
                 rest,
             )
         }
@@ -270,26 +282,25 @@ fn end_type<'a>(frame: Frame, rest: &'a [Token]) -> Plan<'a>
     ensures { Plans result (type_end frame rest.now) }
 {
     match frame {
-        Frame::Grouped => Plan::Go(Acts::None, Next::Direct, rest),
+        Frame::Grouped => Plan::Do(Acts::None, Then::Go(Next::Direct), rest),
         Frame::CastType(from) => {
-            Plan::Open(
+            Plan::Do(
                 Acts::Two(Action::Declare, Action::DropSpecs),
-                Frame::Cast(from),
-                Next::Operand,
+                Then::Open(Frame::Cast(from), Next::Operand),
                 rest,
             )
         }
         Frame::SizeofType(from) => {
-            Plan::Go(
+            Plan::Do(
                 Acts::Three(Action::Declare, Action::DropSpecs, Action::SizeofType(from)),
-                Next::Done(14),
+                Then::Go(Next::Done(14)),
                 rest,
             )
         }
         Frame::SizeofAtom => {
-            Plan::Go(
+            Plan::Do(
                 Acts::Three(Action::Declare, Action::DropSpecs, Action::SizeofAtom),
-                Next::AtomDone,
+                Then::Go(Next::AtomDone),
                 rest,
             )
         }
@@ -315,7 +326,11 @@ pub fn give_declr<'a>(frame: Frame, rest: &'a [Token]) -> Plan<'a>
     let others = skip_one(rest);
     match frame {
         Frame::Pointer(from) => {
-            Plan::Go(Acts::One(Action::Pointer(from)), Next::DeclrDone, rest)
+            Plan::Do(
+                Acts::One(Action::Pointer(from)),
+                Then::Go(Next::DeclrDone),
+                rest,
+            )
         }
         Frame::Names(place, first) => after_name(mark, place, first, rest, others),
         Frame::Params(from) => after_param(mark, from, others),

@@ -7,7 +7,7 @@ ghost use Rattle.c_parser_actions.specs.Plans.{Plans};
 ghost use Rattle.c_syntax.specs.Levels.{begins_type, opens_type};
 
 use crate::parser::skip_one;
-use crate::plan::{Acts, Plan};
+use crate::plan::{Acts, Plan, Then};
 use c_lexer::{Kind, Sign, Token, Word};
 use c_parser_moves::{
     Action, After, Frame, Next, Punctuator, after_first, mark_first, open_type_first, prefix_sign,
@@ -20,9 +20,13 @@ fn open_bracket<'a>(from: u32, rest: &'a [Token]) -> Plan<'a>
     ensures { Plans result (bracket (begins_type rest.now) from rest.now) }
 {
     if type_first(rest) {
-        Plan::Open(Acts::None, Frame::CastType(from), Next::TypeName, rest)
+        Plan::Do(
+            Acts::None,
+            Then::Open(Frame::CastType(from), Next::TypeName),
+            rest,
+        )
     } else {
-        Plan::Read(Acts::None, Frame::Group(from), 1, rest)
+        Plan::Do(Acts::None, Then::Read(Frame::Group(from), 1), rest)
     }
 }
 
@@ -31,14 +35,17 @@ fn start_sizeof<'a>(from: u32, rest: &'a [Token]) -> Plan<'a>
     ensures { Plans result (size (opens_type rest.now) from rest.now) }
 {
     if open_type_first(rest) {
-        Plan::Open(
+        Plan::Do(
             Acts::None,
-            Frame::SizeofType(from),
-            Next::TypeName,
+            Then::Open(Frame::SizeofType(from), Next::TypeName),
             skip_one(rest),
         )
     } else {
-        Plan::Open(Acts::None, Frame::Sizeof(from), Next::Operand, rest)
+        Plan::Do(
+            Acts::None,
+            Then::Open(Frame::Sizeof(from), Next::Operand),
+            rest,
+        )
     }
 }
 
@@ -50,7 +57,11 @@ fn start_with_sign<'a>(sign: Sign, from: u32, rest: &'a [Token]) -> Plan<'a>
         Sign::OpenParenthesis => open_bracket(from, rest),
         _ => {
             if prefix_sign(sign) {
-                Plan::Open(Acts::None, Frame::Prefix(from, sign), Next::Operand, rest)
+                Plan::Do(
+                    Acts::None,
+                    Then::Open(Frame::Prefix(from, sign), Next::Operand),
+                    rest,
+                )
             } else {
                 Plan::Refuse(rest)
             }
@@ -66,34 +77,42 @@ pub fn start_operand<'a>(first: &'a Token, rest: &'a [Token]) -> Result<Plan<'a>
     match &first.kind {
         Kind::Name(name) => {
             let name = name.share()?;
-            Ok(Plan::Go(Acts::One(Action::Name(from, name)), Next::After(from), rest))
+            Ok(Plan::Do(
+                Acts::One(Action::Name(from, name)),
+                Then::Go(Next::After(from)),
+                rest,
+            ))
         }
         Kind::Number {
             value,
             suffix,
             decimal,
         } => {
-            Ok(Plan::Go(
+            Ok(Plan::Do(
                 Acts::One(Action::Number {
                     from,
                     value: *value,
                     suffix: *suffix,
                     decimal: *decimal,
                 }),
-                Next::After(from),
+                Then::Go(Next::After(from)),
                 rest,
             ))
         }
         Kind::Char(value) => {
-            Ok(Plan::Go(
+            Ok(Plan::Do(
                 Acts::One(Action::Char(from, *value)),
-                Next::After(from),
+                Then::Go(Next::After(from)),
                 rest,
             ))
         }
         Kind::Text(text) => {
             let text = text.share()?;
-            Ok(Plan::Go(Acts::One(Action::Text(from, text)), Next::After(from), rest))
+            Ok(Plan::Do(
+                Acts::One(Action::Text(from, text)),
+                Then::Go(Next::After(from)),
+                rest,
+            ))
         }
         Kind::Word(Word::Sizeof) => Ok(start_sizeof(from, rest)),
         Kind::Word(_) => Ok(Plan::Refuse(rest)),
@@ -106,12 +125,16 @@ fn start_call<'a>(from: u32, rest: &'a [Token]) -> Plan<'a>
     ensures { Plans result (call (mark_at rest.now) from rest.now) }
 {
     match mark_first(rest) {
-        Punctuator::Close => Plan::Go(
+        Punctuator::Close => Plan::Do(
             Acts::Two(Action::NoExprs, Action::Call(from)),
-            Next::After(from),
+            Then::Go(Next::After(from)),
             skip_one(rest),
         ),
-        _ => Plan::Read(Acts::One(Action::NoExprs), Frame::Args(from), 2, rest),
+        _ => Plan::Do(
+            Acts::One(Action::NoExprs),
+            Then::Read(Frame::Args(from), 2),
+            rest,
+        ),
     }
 }
 
@@ -125,15 +148,15 @@ fn read_field<'a>(dot: bool, from: u32, rest: &'a [Token]) -> Result<Plan<'a>, A
             Kind::Name(name) => {
                 let name = name.share()?;
                 if dot {
-                    Ok(Plan::Go(
+                    Ok(Plan::Do(
                         Acts::One(Action::Member(from, name)),
-                        Next::After(from),
+                        Then::Go(Next::After(from)),
                         others,
                     ))
                 } else {
-                    Ok(Plan::Go(
+                    Ok(Plan::Do(
                         Acts::One(Action::Arrow(from, name)),
-                        Next::After(from),
+                        Then::Go(Next::After(from)),
                         others,
                     ))
                 }
@@ -153,18 +176,18 @@ pub fn after_operand<'a>(
     ensures { IfOk result (λ p. Plans p (after what from whole.now rest.now)) }
 {
     match what {
-        After::Index => Ok(Plan::Read(Acts::None, Frame::Index(from), 1, rest)),
+        After::Index => Ok(Plan::Do(Acts::None, Then::Read(Frame::Index(from), 1), rest)),
         After::Call => Ok(start_call(from, rest)),
         After::Dot => read_field(true, from, rest),
         After::Arrow => read_field(false, from, rest),
         After::Postfix(sign) => {
-            Ok(Plan::Go(
+            Ok(Plan::Do(
                 Acts::One(Action::Postfix(from, sign)),
-                Next::After(from),
+                Then::Go(Next::After(from)),
                 rest,
             ))
         }
-        _ => Ok(Plan::Go(Acts::None, Next::Done(14), whole)),
+        _ => Ok(Plan::Do(Acts::None, Then::Go(Next::Done(14)), whole)),
     }
 }
 
@@ -193,7 +216,7 @@ fn climb_on<'a>(
         }
         _ => {
             if wanted <= level {
-                Plan::Go(Acts::None, Next::Value, whole)
+                Plan::Do(Acts::None, Then::Go(Next::Value), whole)
             } else {
                 Plan::Refuse(whole)
             }
@@ -211,10 +234,22 @@ pub fn give_operand<'a>(frame: Frame, level: u8, rest: &'a [Token]) -> Plan<'a>
         }
         _ if level < 14 => Plan::Refuse(rest),
         Frame::Prefix(from, sign) => {
-            Plan::Go(Acts::One(Action::Prefix(from, sign)), Next::Done(14), rest)
+            Plan::Do(
+                Acts::One(Action::Prefix(from, sign)),
+                Then::Go(Next::Done(14)),
+                rest,
+            )
         }
-        Frame::Sizeof(from) => Plan::Go(Acts::One(Action::SizeofExpr(from)), Next::Done(14), rest),
-        Frame::Cast(from) => Plan::Go(Acts::One(Action::Cast(from)), Next::Done(14), rest),
+        Frame::Sizeof(from) => Plan::Do(
+            Acts::One(Action::SizeofExpr(from)),
+            Then::Go(Next::Done(14)),
+            rest,
+        ),
+        Frame::Cast(from) => Plan::Do(
+            Acts::One(Action::Cast(from)),
+            Then::Go(Next::Done(14)),
+            rest,
+        ),
         _ => Plan::Refuse(rest),
     }
 }
@@ -225,7 +260,11 @@ fn end_do<'a>(what: Punctuator, from: u32, rest: &'a [Token]) -> Plan<'a>
 {
     match what {
         Punctuator::Semicolon => {
-            Plan::Go(Acts::One(Action::Do(from)), Next::StmtDone, skip_one(rest))
+            Plan::Do(
+                Acts::One(Action::Do(from)),
+                Then::Go(Next::StmtDone),
+                skip_one(rest),
+            )
         }
         _ => Plan::Refuse(rest),
     }
@@ -236,7 +275,7 @@ fn close_comma<'a>(frame: Frame, rest: &'a [Token]) -> Plan<'a>
     ensures { Plans result (at_comma frame rest.now) }
 {
     match frame {
-        Frame::Args(_) => Plan::Read(Acts::One(Action::AddExpr), frame, 2, rest),
+        Frame::Args(_) => Plan::Do(Acts::One(Action::AddExpr), Then::Read(frame, 2), rest),
         _ => Plan::Refuse(rest),
     }
 }
@@ -247,21 +286,28 @@ fn close_round<'a>(frame: Frame, rest: &'a [Token]) -> Plan<'a>
 {
     match frame {
         Frame::Args(from) => {
-            Plan::Go(
+            Plan::Do(
                 Acts::Two(Action::AddExpr, Action::Call(from)),
-                Next::After(from),
+                Then::Go(Next::After(from)),
                 rest,
             )
         }
-        Frame::Group(from) => Plan::Go(Acts::None, Next::After(from), rest),
-        Frame::IfCond(from) => Plan::Open(Acts::None, Frame::IfThen(from), Next::Stmt, rest),
-        Frame::WhileCond(from) => Plan::Open(Acts::None, Frame::WhileBody(from), Next::Stmt, rest),
+        Frame::Group(from) => Plan::Do(Acts::None, Then::Go(Next::After(from)), rest),
+        Frame::IfCond(from) => Plan::Do(
+            Acts::None,
+            Then::Open(Frame::IfThen(from), Next::Stmt),
+            rest,
+        ),
+        Frame::WhileCond(from) => Plan::Do(
+            Acts::None,
+            Then::Open(Frame::WhileBody(from), Next::Stmt),
+            rest,
+        ),
         Frame::DoCond(from) => end_do(mark_first(rest), from, rest),
         Frame::ForStep(from) => {
-            Plan::Open(
+            Plan::Do(
                 Acts::One(Action::OneExpr),
-                Frame::ForBody(from),
-                Next::Stmt,
+                Then::Open(Frame::ForBody(from), Next::Stmt),
                 rest,
             )
         }
@@ -274,8 +320,18 @@ fn close_square<'a>(frame: Frame, rest: &'a [Token]) -> Plan<'a>
     ensures { Plans result (at_bracket frame rest.now) }
 {
     match frame {
-        Frame::Index(from) => { Plan::Go(Acts::One(Action::Index(from)), Next::After(from), rest) }
-        Frame::Length(from) => Plan::Go(Acts::One(Action::Array(from)), Next::Direct, rest),
+        Frame::Index(from) => {
+            Plan::Do(
+                Acts::One(Action::Index(from)),
+                Then::Go(Next::After(from)),
+                rest,
+            )
+        }
+        Frame::Length(from) => Plan::Do(
+            Acts::One(Action::Array(from)),
+            Then::Go(Next::Direct),
+            rest,
+        ),
         _ => Plan::Refuse(rest),
     }
 }
@@ -285,7 +341,7 @@ fn close_colon<'a>(frame: Frame, rest: &'a [Token]) -> Plan<'a>
     ensures { Plans result (at_colon frame rest.now) }
 {
     match frame {
-        Frame::Middle(from) => Plan::Read(Acts::None, Frame::Last(from), 3, rest),
+        Frame::Middle(from) => Plan::Do(Acts::None, Then::Read(Frame::Last(from), 3), rest),
         _ => Plan::Refuse(rest),
     }
 }
@@ -296,20 +352,30 @@ fn close_semicolon<'a>(frame: Frame, rest: &'a [Token]) -> Plan<'a>
 {
     match frame {
         Frame::Expression(from) => {
-            Plan::Go(
+            Plan::Do(
                 Acts::Two(Action::OneExpr, Action::Expression(from)),
-                Next::StmtDone,
+                Then::Go(Next::StmtDone),
                 rest,
             )
         }
         Frame::ForFirst(from) => {
-            Plan::Go(Acts::One(Action::ExprFirst), Next::ForTest(from), rest)
+            Plan::Do(
+                Acts::One(Action::ExprFirst),
+                Then::Go(Next::ForTest(from)),
+                rest,
+            )
         }
-        Frame::ForTest(from) => { Plan::Go(Acts::One(Action::OneExpr), Next::ForStep(from), rest) }
+        Frame::ForTest(from) => {
+            Plan::Do(
+                Acts::One(Action::OneExpr),
+                Then::Go(Next::ForStep(from)),
+                rest,
+            )
+        }
         Frame::Return(from) => {
-            Plan::Go(
+            Plan::Do(
                 Acts::Two(Action::OneExpr, Action::Return(from)),
-                Next::StmtDone,
+                Then::Go(Next::StmtDone),
                 rest,
             )
         }
@@ -337,17 +403,21 @@ pub fn give_value<'a>(frame: Frame, rest: &'a [Token]) -> Plan<'a>
 {
     match frame {
         Frame::Binary(level, from, sign) => {
-            Plan::Go(
+            Plan::Do(
                 Acts::One(Action::Binary(from, sign)),
-                Next::Done(level),
+                Then::Go(Next::Done(level)),
                 rest,
             )
         }
         Frame::Assign(from, sign) => {
-            Plan::Go(Acts::One(Action::Assign(from, sign)), Next::Done(2), rest)
+            Plan::Do(
+                Acts::One(Action::Assign(from, sign)),
+                Then::Go(Next::Done(2)),
+                rest,
+            )
         }
-        Frame::Last(from) => Plan::Go(Acts::One(Action::Cond(from)), Next::Done(3), rest),
-        Frame::Plain => Plan::Go(Acts::One(Action::Plain), Next::ValueDone, rest),
+        Frame::Last(from) => Plan::Do(Acts::One(Action::Cond(from)), Then::Go(Next::Done(3)), rest),
+        Frame::Plain => Plan::Do(Acts::One(Action::Plain), Then::Go(Next::ValueDone), rest),
         _ => close_with(mark_first(rest), frame, skip_one(rest)),
     }
 }

@@ -5,7 +5,7 @@ ghost use Rattle.c_parser_actions.specs.Plans.{Plans};
 
 use crate::declarator::end_names;
 use crate::parser::skip_one;
-use crate::plan::{Acts, Plan};
+use crate::plan::{Acts, Plan, Then};
 use c_lexer::Token;
 use c_parser_moves::{Action, DeclaredIn, Frame, Naming, Next, Punctuator, mark_first};
 
@@ -20,14 +20,13 @@ pub fn start_initial<'a>(
 {
     match what {
         Punctuator::OpenBrace => {
-            Plan::Open(
+            Plan::Do(
                 Acts::One(Action::NoValues),
-                Frame::Braces(from),
-                Next::Initial,
+                Then::Open(Frame::Braces(from), Next::Initial),
                 rest,
             )
         }
-        _ => Plan::Read(Acts::None, Frame::Plain, 2, whole),
+        _ => Plan::Do(Acts::None, Then::Read(Frame::Plain, 2), whole),
     }
 }
 
@@ -37,17 +36,16 @@ fn more_braces<'a>(what: Punctuator, from: u32, whole: &'a [Token], rest: &'a [T
 {
     match what {
         Punctuator::CloseBrace => {
-            Plan::Go(
+            Plan::Do(
                 Acts::Two(Action::AddValue, Action::Braces(from)),
-                Next::ValueDone,
+                Then::Go(Next::ValueDone),
                 rest,
             )
         }
         _ => {
-            Plan::Open(
+            Plan::Do(
                 Acts::One(Action::AddValue),
-                Frame::Braces(from),
-                Next::Initial,
+                Then::Open(Frame::Braces(from), Next::Initial),
                 whole,
             )
         }
@@ -60,9 +58,9 @@ fn after_inner<'a>(what: Punctuator, from: u32, rest: &'a [Token]) -> Plan<'a>
 {
     match what {
         Punctuator::CloseBrace => {
-            Plan::Go(
+            Plan::Do(
                 Acts::Two(Action::AddValue, Action::Braces(from)),
-                Next::ValueDone,
+                Then::Go(Next::ValueDone),
                 rest,
             )
         }
@@ -77,10 +75,9 @@ fn after_init<'a>(what: Punctuator, place: DeclaredIn, rest: &'a [Token]) -> Pla
 {
     match what {
         Punctuator::Comma => {
-            Plan::Open(
+            Plan::Do(
                 Acts::Two(Action::DeclareValue, Action::AddName),
-                Frame::Names(place, false),
-                Next::Declr(Naming::Always, 0),
+                Then::Open(Frame::Names(place, false), Next::Declr(Naming::Always, 0)),
                 rest,
             )
         }

@@ -6,7 +6,7 @@ ghost use Rattle.c_parser_moves.specs.declared.frame.Frame.{Frame as Construct};
 ghost use Rattle.c_parser_actions.specs.Plans.{Plans, acts_of, planned};
 ghost use Rattle.c_parser_actions.specs.Seen.{Goes, IsTop, acts_seen, opens_seen};
 
-use crate::plan::{Acts, Plan};
+use crate::plan::{Acts, Plan, Then};
 use c_lexer::Token;
 use c_parser_moves::{Action, Frame, Next, from_first};
 use std::alloc::AllocError;
@@ -128,18 +128,16 @@ impl Parser {
     {
         match plan {
             Plan::Refuse(rest) => Ok((Next::Fail, rest)),
-            Plan::Go(acts, next, rest) => {
+            Plan::Do(acts, then, rest) => {
                 self.emit_all(acts)?;
-                Ok((next, rest))
-            }
-            Plan::Open(acts, frame, next, rest) => {
-                self.emit_all(acts)?;
-                self.open(frame)?;
-                Ok((next, rest))
-            }
-            Plan::Read(acts, frame, level, rest) => {
-                self.emit_all(acts)?;
-                self.begin(frame, level, rest)
+                match then {
+                    Then::Go(next) => Ok((next, rest)),
+                    Then::Open(frame, next) => {
+                        self.open(frame)?;
+                        Ok((next, rest))
+                    }
+                    Then::Read(frame, level) => self.begin(frame, level, rest),
+                }
             }
             Plan::ReadIn(outer, frame, level, rest) => {
                 self.open(outer)?;

@@ -6,7 +6,7 @@ ghost use Rattle.c_parser_actions.specs.Plans.{Plans};
 ghost use Rattle.c_parser_moves.specs.Words.{take_specs};
 ghost use Rattle.c_syntax.specs.Levels.{from_of};
 
-use crate::plan::{Acts, Plan};
+use crate::plan::{Acts, Plan, Then};
 use c_lexer::Token;
 use c_parser_moves::{
     Action, DeclaredIn, Frame, Naming, Next, Punctuator, Target, from_first, specs,
@@ -32,9 +32,9 @@ pub fn start_type<'a>(rest: &'a [Token]) -> Result<Plan<'a>, AllocError>
     match specs(false, rest)? {
         None => Ok(Plan::Refuse(&rest[rest.len()..])),
         Some((base, others)) => {
-            Ok(Plan::Go(
+            Ok(Plan::Do(
                 Acts::Two(Action::NoAnnots, Action::Specs(base)),
-                Next::Declr(Naming::Never, from),
+                Then::Go(Next::Declr(Naming::Never, from)),
                 others,
             ))
         }
@@ -47,16 +47,18 @@ fn begin_target<'a>(base: Base, target: Target, rest: &'a [Token]) -> Plan<'a>
 {
     match target {
         Target::Top => {
-            Plan::Open(
+            Plan::Do(
                 Acts::One(Action::Specs(base)),
-                Frame::Names(DeclaredIn::Top, true),
-                Next::Declr(Naming::Always, 0),
+                Then::Open(
+                    Frame::Names(DeclaredIn::Top, true),
+                    Next::Declr(Naming::Always, 0),
+                ),
                 rest,
             )
         }
-        Target::Param(from) => Plan::Go(
+        Target::Param(from) => Plan::Do(
             Acts::One(Action::Specs(base)),
-            Next::Declr(Naming::Either, from),
+            Then::Go(Next::Declr(Naming::Either, from)),
             rest,
         ),
     }
@@ -80,18 +82,16 @@ fn begin_names<'a>(base: Base, place: DeclaredIn, rest: &'a [Token]) -> Plan<'a>
 {
     match place {
         DeclaredIn::Member => {
-            Plan::Open(
+            Plan::Do(
                 Acts::Two(Action::NoAnnots, Action::Specs(base)),
-                Frame::Names(place, true),
-                Next::Declr(Naming::Always, 0),
+                Then::Open(Frame::Names(place, true), Next::Declr(Naming::Always, 0)),
                 rest,
             )
         }
         _ => {
-            Plan::Open(
+            Plan::Do(
                 Acts::Three(Action::NoDecls, Action::NoAnnots, Action::Specs(base)),
-                Frame::Names(place, true),
-                Next::Declr(Naming::Always, 0),
+                Then::Open(Frame::Names(place, true), Next::Declr(Naming::Always, 0)),
                 rest,
             )
         }
@@ -119,13 +119,16 @@ pub fn start_annotated<'a>(
 {
     match what {
         Punctuator::OpenBracket => {
-            Plan::Open(
+            Plan::Do(
                 Acts::One(Action::NoAnnots),
-                Frame::Annots(target),
-                Next::Annot,
+                Then::Open(Frame::Annots(target), Next::Annot),
                 rest,
             )
         }
-        _ => Plan::Go(Acts::One(Action::NoAnnots), Next::Specs(target), whole),
+        _ => Plan::Do(
+            Acts::One(Action::NoAnnots),
+            Then::Go(Next::Specs(target)),
+            whole,
+        ),
     }
 }

@@ -5,7 +5,7 @@ ghost use Rattle.c_parser_actions.specs.Plans.{Plans};
 ghost use Rattle.c_parser_actions.specs.Seen.{Goes};
 
 use crate::parser::{Parser, Went, skip_one};
-use crate::plan::{Acts, Plan};
+use crate::plan::{Acts, Plan, Then};
 use c_lexer::{Kind, Token, Word};
 use c_parser_moves::{Action, Begin, DeclaredIn, Frame, Next, Punctuator, else_first, mark_first};
 
@@ -14,7 +14,7 @@ fn start_condition<'a>(what: Punctuator, frame: Frame, rest: &'a [Token]) -> Pla
     ensures { Plans result (condition what frame rest.now) }
 {
     match what {
-        Punctuator::Open => Plan::Read(Acts::None, frame, 1, rest),
+        Punctuator::Open => Plan::Do(Acts::None, Then::Read(frame, 1), rest),
         _ => Plan::Refuse(rest),
     }
 }
@@ -24,7 +24,7 @@ fn start_for<'a>(what: Punctuator, from: u32, rest: &'a [Token]) -> Plan<'a>
     ensures { Plans result (for_head what from rest.now) }
 {
     match what {
-        Punctuator::Open => Plan::Go(Acts::None, Next::ForFirst(from), rest),
+        Punctuator::Open => Plan::Do(Acts::None, Then::Go(Next::ForFirst(from)), rest),
         _ => Plan::Refuse(rest),
     }
 }
@@ -34,7 +34,11 @@ fn end_break<'a>(what: Punctuator, from: u32, rest: &'a [Token]) -> Plan<'a>
     ensures { Plans result (leaf what (Action.Break from) rest.now) }
 {
     match what {
-        Punctuator::Semicolon => Plan::Go(Acts::One(Action::Break(from)), Next::StmtDone, rest),
+        Punctuator::Semicolon => Plan::Do(
+            Acts::One(Action::Break(from)),
+            Then::Go(Next::StmtDone),
+            rest,
+        ),
         _ => Plan::Refuse(rest),
     }
 }
@@ -44,7 +48,11 @@ fn end_continue<'a>(what: Punctuator, from: u32, rest: &'a [Token]) -> Plan<'a>
     ensures { Plans result (leaf what (Action.Continue from) rest.now) }
 {
     match what {
-        Punctuator::Semicolon => Plan::Go(Acts::One(Action::Continue(from)), Next::StmtDone, rest),
+        Punctuator::Semicolon => Plan::Do(
+            Acts::One(Action::Continue(from)),
+            Then::Go(Next::StmtDone),
+            rest,
+        ),
         _ => Plan::Refuse(rest),
     }
 }
@@ -55,13 +63,13 @@ fn start_return<'a>(what: Punctuator, from: u32, whole: &'a [Token], rest: &'a [
 {
     match what {
         Punctuator::Semicolon => {
-            Plan::Go(
+            Plan::Do(
                 Acts::Two(Action::NoExpr, Action::Return(from)),
-                Next::StmtDone,
+                Then::Go(Next::StmtDone),
                 rest,
             )
         }
-        _ => Plan::Read(Acts::None, Frame::Return(from), 1, whole),
+        _ => Plan::Do(Acts::None, Then::Read(Frame::Return(from), 1), whole),
     }
 }
 
@@ -73,28 +81,31 @@ pub fn start_stmt<'a>(what: Begin, from: u32, whole: &'a [Token], rest: &'a [Tok
     let others = skip_one(rest);
     match what {
         Begin::Empty => {
-            Plan::Go(
+            Plan::Do(
                 Acts::Two(Action::NoExpr, Action::Expression(from)),
-                Next::StmtDone,
+                Then::Go(Next::StmtDone),
                 rest,
             )
         }
         Begin::Block => {
-            Plan::Open(
+            Plan::Do(
                 Acts::One(Action::NoEntries),
-                Frame::Block(from),
-                Next::Entry,
+                Then::Open(Frame::Block(from), Next::Entry),
                 rest,
             )
         }
         Begin::If => start_condition(mark, Frame::IfCond(from), others),
         Begin::While => start_condition(mark, Frame::WhileCond(from), others),
-        Begin::Do => Plan::Open(Acts::None, Frame::DoBody(from), Next::Stmt, rest),
+        Begin::Do => Plan::Do(
+            Acts::None,
+            Then::Open(Frame::DoBody(from), Next::Stmt),
+            rest,
+        ),
         Begin::For => start_for(mark, from, others),
         Begin::Break => end_break(mark, from, others),
         Begin::Continue => end_continue(mark, from, others),
         Begin::Return => start_return(mark, from, rest, others),
-        Begin::Other => Plan::Read(Acts::None, Frame::Expression(from), 1, whole),
+        Begin::Other => Plan::Do(Acts::None, Then::Read(Frame::Expression(from), 1), whole),
     }
 }
 
@@ -118,9 +129,13 @@ fn end_then<'a>(from: u32, rest: &'a [Token]) -> Plan<'a>
     ensures { Plans result (done (Frame.IfThen from) rest.now) }
 {
     if else_first(rest) {
-        Plan::Open(Acts::None, Frame::IfElse(from), Next::Stmt, skip_one(rest))
+        Plan::Do(
+            Acts::None,
+            Then::Open(Frame::IfElse(from), Next::Stmt),
+            skip_one(rest),
+        )
     } else {
-        Plan::Go(Acts::One(Action::If(from)), Next::StmtDone, rest)
+        Plan::Do(Acts::One(Action::If(from)), Then::Go(Next::StmtDone), rest)
     }
 }
 
@@ -129,16 +144,36 @@ pub fn give_stmt<'a>(frame: Frame, rest: &'a [Token]) -> Plan<'a>
     ensures { Plans result (done frame rest.now) }
 {
     match frame {
-        Frame::Block(_) => Plan::Open(Acts::One(Action::AddStmt), frame, Next::Entry, rest),
+        Frame::Block(_) => Plan::Do(
+            Acts::One(Action::AddStmt),
+            Then::Open(frame, Next::Entry),
+            rest,
+        ),
         Frame::IfThen(from) => end_then(from, rest),
-        Frame::IfElse(from) => { Plan::Go(Acts::One(Action::IfElse(from)), Next::StmtDone, rest) }
-        Frame::WhileBody(from) => { Plan::Go(Acts::One(Action::While(from)), Next::StmtDone, rest) }
+        Frame::IfElse(from) => {
+            Plan::Do(
+                Acts::One(Action::IfElse(from)),
+                Then::Go(Next::StmtDone),
+                rest,
+            )
+        }
+        Frame::WhileBody(from) => {
+            Plan::Do(
+                Acts::One(Action::While(from)),
+                Then::Go(Next::StmtDone),
+                rest,
+            )
+        }
         Frame::DoBody(from) => after_do(from, rest),
-        Frame::ForBody(from) => Plan::Go(Acts::One(Action::For(from)), Next::StmtDone, rest),
+        Frame::ForBody(from) => Plan::Do(
+            Acts::One(Action::For(from)),
+            Then::Go(Next::StmtDone),
+            rest,
+        ),
         Frame::Body => {
-            Plan::Go(
+            Plan::Do(
                 Acts::Three(Action::DeclareBody, Action::AddName, Action::EndSpecs),
-                Next::Top,
+                Then::Go(Next::Top),
                 rest,
             )
         }
@@ -157,12 +192,22 @@ pub fn first_part<'a>(
     ensures { Plans result (for_first what typed from whole.now rest.now) }
 {
     match what {
-        Punctuator::Semicolon => { Plan::Go(Acts::One(Action::NoFirst), Next::ForTest(from), rest) }
+        Punctuator::Semicolon => {
+            Plan::Do(
+                Acts::One(Action::NoFirst),
+                Then::Go(Next::ForTest(from)),
+                rest,
+            )
+        }
         _ => {
             if typed {
-                Plan::Go(Acts::None, Next::Names(DeclaredIn::For(from)), whole)
+                Plan::Do(
+                    Acts::None,
+                    Then::Go(Next::Names(DeclaredIn::For(from))),
+                    whole,
+                )
             } else {
-                Plan::Read(Acts::None, Frame::ForFirst(from), 1, whole)
+                Plan::Do(Acts::None, Then::Read(Frame::ForFirst(from), 1), whole)
             }
         }
     }
@@ -173,8 +218,14 @@ pub fn test_part<'a>(what: Punctuator, from: u32, whole: &'a [Token], rest: &'a 
     ensures { Plans result (for_test what from whole.now rest.now) }
 {
     match what {
-        Punctuator::Semicolon => { Plan::Go(Acts::One(Action::NoExpr), Next::ForStep(from), rest) }
-        _ => Plan::Read(Acts::None, Frame::ForTest(from), 1, whole),
+        Punctuator::Semicolon => {
+            Plan::Do(
+                Acts::One(Action::NoExpr),
+                Then::Go(Next::ForStep(from)),
+                rest,
+            )
+        }
+        _ => Plan::Do(Acts::None, Then::Read(Frame::ForTest(from), 1), whole),
     }
 }
 
@@ -184,14 +235,13 @@ pub fn step_part<'a>(what: Punctuator, from: u32, whole: &'a [Token], rest: &'a 
 {
     match what {
         Punctuator::Close => {
-            Plan::Open(
+            Plan::Do(
                 Acts::One(Action::NoExpr),
-                Frame::ForBody(from),
-                Next::Stmt,
+                Then::Open(Frame::ForBody(from), Next::Stmt),
                 rest,
             )
         }
-        _ => Plan::Read(Acts::None, Frame::ForStep(from), 1, whole),
+        _ => Plan::Do(Acts::None, Then::Read(Frame::ForStep(from), 1), whole),
     }
 }
 

@@ -11,7 +11,7 @@ use crate::declarator::{after_direct, give_declr, start_declr};
 use crate::expression::{after_operand, give_operand, give_value, start_operand};
 use crate::initial::{give_initial, start_initial};
 use crate::parser::{Parser, Went, skip_one};
-use crate::plan::{Acts, Plan};
+use crate::plan::{Acts, Plan, Then};
 use crate::specifier::{start_annotated, start_names, start_target, start_type};
 use crate::statement::{first_part, give_stmt, start_stmt, step_part, test_part};
 use c_lexer::Token;
@@ -75,12 +75,16 @@ fn plan_ahead<'a>(next: Next, rest: &'a [Token]) -> Result<Plan<'a>, AllocError>
         Next::Param => Ok(start_annotated(what, Target::Param(from), rest, others)),
         Next::Specs(target) => start_target(target, rest),
         Next::Names(place) => start_names(place, rest),
-        Next::Item => Ok(Plan::Open(Acts::None, Frame::FirstFactor(from), Next::Atom, rest)),
+        Next::Item => Ok(Plan::Do(
+            Acts::None,
+            Then::Open(Frame::FirstFactor(from), Next::Atom),
+            rest,
+        )),
         Next::Initial => Ok(start_initial(what, from, rest, others)),
         Next::ForFirst(from) => Ok(first_part(what, type_first(rest), from, rest, others)),
         Next::ForTest(from) => Ok(test_part(what, from, rest, others)),
         Next::ForStep(from) => Ok(step_part(what, from, rest, others)),
-        Next::End => Ok(Plan::Go(Acts::None, Next::End, rest)),
+        Next::End => Ok(Plan::Do(Acts::None, Then::Go(Next::End), rest)),
         _ => Ok(Plan::Refuse(rest)),
     }
 }

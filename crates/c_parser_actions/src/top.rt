@@ -6,7 +6,7 @@ ghost use Rattle.c_parser_actions.specs.Plans.{Plans};
 ghost use Rattle.c_parser_actions.specs.Seen.{Goes};
 
 use crate::parser::{Parser, Went, skip_one};
-use crate::plan::{Acts, Plan};
+use crate::plan::{Acts, Plan, Then};
 use crate::specifier::start_annotated;
 use c_lexer::{Kind, Sign, Token, Word};
 use c_parser_moves::{Action, DeclaredIn, Frame, Next, Punctuator, Target, mark_first};
@@ -20,10 +20,9 @@ fn start_top<'a>(rest: &'a [Token]) -> Result<Plan<'a>, AllocError>
         [first, second, third, others @ ..] => match (&first.kind, &second.kind, &third.kind) {
             (Kind::Word(Word::Struct), Kind::Name(name), Kind::Sign(Sign::OpenBrace)) => {
                 let name = name.share()?;
-                Ok(Plan::Open(
+                Ok(Plan::Do(
                     Acts::Two(Action::Tag(first.from, name), Action::NoDecls),
-                    Frame::Struct,
-                    Next::Names(DeclaredIn::Member),
+                    Then::Open(Frame::Struct, Next::Names(DeclaredIn::Member)),
                     others,
                 ))
             }
