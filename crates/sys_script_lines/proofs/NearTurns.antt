@@ -16,6 +16,9 @@ use Rattle.sys_script_lines.proofs.Firsts.{part_then}
 low : (b : ℕ) → is_digit b ≡ true → 48 ≤ b
 low b is = leb-true 48 b (and_parts (nat_le 48 b) (nat_le b 57) is).0
 
+high : (b : ℕ) → is_digit b ≡ true → b ≤ 57
+high b is = leb-true b 57 (and_parts (nat_le 48 b) (nat_le b 57) is).1
+
 -- a digit is none of the bytes before it
 isnt : (b end : ℕ) → is_digit b ≡ true → end < 48 → eqb b end ≡ false
 isnt b end is lt = let le = low b is in ne_eqb b end (λ e. omega (arith, le))
@@ -130,6 +133,23 @@ begins words word rest next is one e = ap (λ w. each turn (parts 32 w)) is ∙ 
 
 pub alone : (words rest : List ℕ) (t : ℕ) → IsLeading words t (32 ∷ rest) → t ≤ 31 → each turn (parts 32 words) ≡ before (each turn (parts 32 rest)) (t, 1)
 alone words rest t lead few = begins words lead.digits rest (t, 1) lead.text_is (digits_part t lead.digits lead.number_is) (turn_alone t lead.digits lead.number_is few)
+
+-- the same where the turn is one digit
+pub one_digit : (words : List ℕ) → 2 ≤ length words → is_digit (get_or words 0 0) ≡ true → get_or words 1 0 ≡ 32
+    → each turn (parts 32 words) ≡ before (each turn (parts 32 (take (length words - 2) (drop 2 words)))) (get_or words 0 0 - 48, 1)
+one_digit [] le is blank = absurd (omega arith)
+one_digit (t ∷ []) le is blank = absurd (omega arith)
+one_digit (t ∷ b ∷ after) le is blank =
+    let few = high t is in
+    let same : 0 * 10 + (t - 48) ≡ t - 48 = omega arith in
+    let lead : IsLeading (t ∷ 32 ∷ after) (t - 48) (32 ∷ after) = record {
+      digits = t ∷ [];
+      text_is = refl;
+      number_is = ap (λ c. cond c (Some (0 * 10 + (t - 48))) None) is ∙ ap Some same;
+    } in
+    ap (λ (w : ℕ). each turn (parts 32 (t ∷ w ∷ after))) blank
+    ∙ (alone (t ∷ 32 ∷ after) after (t - 48) lead (omega (arith, few))
+    ∙ ap (λ (r : List ℕ). before (each turn (parts 32 r)) (t - 48, 1)) (sym (take_all (length (t ∷ b ∷ after) - 2) after (omega arith))))
 
 pub times : (words text rest : List ℕ) (t s : ℕ) → IsLeading words t (42 ∷ text) → t ≤ 31 → IsLeading text s (32 ∷ rest) → 1 ≤ s → s ≤ 1000000
     → each turn (parts 32 words) ≡ before (each turn (parts 32 rest)) (t, s)

@@ -69,7 +69,7 @@ fn answer_of(
 }
 
 /// Adds the answer whose words these are: the function's name, its result, and its pieces.
-#[inline(always)]
+#[inline(never)]
 pub(crate) fn answer<'a>(
     alloc: Global,
     finder: &mut Finder<'a>,
@@ -86,5 +86,5 @@ pub(crate) fn answer<'a>(
     let Some(external) = found else {
         return Err(Wrong::Text);
     };
-    answer_of(alloc, answers, external, rest)
+    answer_of(alloc, answers, *external, rest)
 }

@@ -69,27 +69,34 @@ impl Externals {
     pub fn find(&self, name: &[u8]) -> Option<External>
         ensures { result ≡ external_named name.now self.now }
     {
-        self.by_name.get(name).copied()
+        self.get(name).copied()
+    }
+
+    /// The same, which stays where it is.
+    pub(crate) fn get(&self, name: &[u8]) -> Option<&External>
+        ensures { option_copied result ≡ external_named name.now self.now }
+    {
+        self.by_name.get(name)
     }
 
     /// The function that was put in at this place, where its name is this one.
     #[inline(always)]
-    pub(crate) fn at(&self, place: usize, name: &[u8]) -> Option<External>
-        ensures { IfSome result (λ e. external_named name.now self.now ≡ Some e) }
+    pub(crate) fn at(&self, place: usize, name: &[u8]) -> Option<&External>
+        ensures { IfSome result (λ e. external_named name.now self.now ≡ Some e.now) }
     {
         let (key, external) = self.by_name.get_index(place)?;
         if key.as_slice() == name {
-            Some(*external)
+            Some(external)
         } else {
             None
         }
     }
 
     /// The function of this name, and its place.
-    pub(crate) fn place_of(&self, name: &[u8]) -> Option<(usize, External)>
-        ensures { option_map (λ x. x.1) result ≡ external_named name.now self.now }
+    pub(crate) fn place_of(&self, name: &[u8]) -> Option<(usize, &External)>
+        ensures { option_map (λ x. x.1.now) result ≡ external_named name.now self.now }
     {
         let (place, _, external) = self.by_name.get_full(name)?;
-        Some((place, *external))
+        Some((place, external))
     }
 }

@@ -93,7 +93,7 @@ fn leading_steps(text: &[u8]) -> Option<(u32, &[u8])>
 /// The turn with which the words begin, and what follows the blank after it, by one look at each byte. `None` where no blank ends
 /// the turn, and where the first word is no turn.
 #[inline(always)]
-fn leading_turn(words: &[u8]) -> Option<((u8, u32), &[u8])>
+fn longer_turn(words: &[u8]) -> Option<((u8, u32), &[u8])>
     ensures turn { IfSome result (λ x. each turn (parts 32 words.now) ≡
         before (each turn (parts 32 x.1.now)) x.0) }
     ensures shorter { IfSome result (λ x. length x.1.now < length words.now) }
@@ -109,6 +109,19 @@ fn leading_turn(words: &[u8]) -> Option<((u8, u32), &[u8])>
             Some(((thread as u8, steps), after))
         }
         _ => None,
+    }
+}
+
+/// The same, where the turn is mostly one digit, the thread's.
+#[inline(always)]
+fn leading_turn(words: &[u8]) -> Option<((u8, u32), &[u8])>
+    ensures turn { IfSome result (λ x. each turn (parts 32 words.now) ≡
+        before (each turn (parts 32 x.1.now)) x.0) }
+    ensures shorter { IfSome result (λ x. length x.1.now < length words.now) }
+{
+    match words {
+        [digit, b' ', after @ ..] if digit.is_ascii_digit() => Some(((*digit - b'0', 1), after)),
+        _ => longer_turn(words),
     }
 }
 
