@@ -1,5 +1,5 @@
 -- A file, line by line.
-use Rattle.std.proofs.Common.{◌≡◌, ℕ, ◌+◌, List, ◌∷◌, Option, Some, None, sym, ap, ◌∙◌}
+use Rattle.std.proofs.Common.{◌≡◌, ℕ, ◌+◌, List, [], ◌∷◌, length, Option, Some, None, refl, sym, ap, ◌∙◌, arith}
 use Rattle.sys_script_lines.specs.declared.externals.External.{External}
 use Rattle.sys_script_lines.specs.Parts.{parts}
 use Rattle.sys_script_lines.specs.Scripts.{SaidSoFar, Breaks, after_line, goes_on, script}
@@ -22,3 +22,8 @@ line_read who line s t all text rest is said =
 pub line_wrong : (who : List ℕ → Option External) (line : ℕ) (s : SaidSoFar) (all text rest : List ℕ) → parts 10 all ≡ text ∷ parts 10 rest → after_line who s text ≡ None → script who line s (parts 10 all) ≡ Breaks line
 line_wrong who line s all text rest is said =
     ap (script who line s) is ∙ (one_line who line s text rest ∙ ap (λ o. goes_on line o (λ u. script who (line + 1) u (parts 10 rest))) said)
+
+-- an empty line says nothing
+pub nothing_said : (who : List ℕ → Option External) (s : SaidSoFar) (text : List ℕ) → length text ≡ 0 → after_line who s text ≡ Some s
+nothing_said who s [] none = refl
+nothing_said who s (b ∷ bs) none = absurd (omega (arith, none))

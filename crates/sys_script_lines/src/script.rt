@@ -29,6 +29,11 @@ pub fn read_lines(
     let mut rest = bytes;
     let mut number = 1;
     while let Some((line, after)) = cut_far(rest, b'\n') {
+        if line.is_empty() {
+            rest = after;
+            number += 1;
+            continue;
+        }
         match said.hear(alloc, &mut finder, line) {
             Ok(()) => {
                 rest = after;

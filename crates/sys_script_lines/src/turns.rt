@@ -1,7 +1,7 @@
 //! The turns of a schedule.
 
-ghost use Rattle.std.specs.Prelude.{◌≡◌, ◌∷◌, ◌<◌, ◌≤◌, ℕ, List, [], length, IfSome, IfNone};
-ghost use Rattle.std.specs.Option.{option_and_then};
+ghost use Rattle.std.specs.Prelude.{◌≡◌, ◌∷◌, ◌++◌, ◌<◌, ◌≤◌, ℕ, List, [], length, IfSome};
+ghost use Rattle.std.specs.Option.{option_map};
 ghost use Rattle.sys_script_lines.specs.Each.{before, each};
 ghost use Rattle.sys_script_lines.specs.Says.{Says};
 ghost use Rattle.sys_script_lines.specs.Numbers.{IsLeading};
@@ -120,36 +120,26 @@ fn leading_turn(words: &[u8]) -> Option<((u8, u32), &[u8])>
     ensures shorter { IfSome result (λ x. length x.1.now < length words.now) }
 {
     match words {
-        [digit, b' ', after @ ..] if digit.is_ascii_digit() => Some(((*digit - b'0', 1), after)),
-        _ => longer_turn(words),
+        [digit, next, after @ ..] if digit.is_ascii_digit() => {
+            if *next == b' ' {
+                Some(((*digit - b'0', 1), after))
+            } else {
+                longer_turn(words)
+            }
+        }
+        _ => None,
     }
 }
 
-/// The turn with which the words begin, if the first word is one, and what follows the blank after it; `None` where there is
-/// no blank.
-#[inline(always)]
-fn first_turn(words: &[u8]) -> Option<(Option<(u8, u32)>, &[u8])>
-    ensures turn { IfSome result (λ x. each turn (parts 32 words.now) ≡
-        option_and_then (before (each turn (parts 32 x.1.now))) x.0) }
-    ensures last { IfNone result (parts 32 words.now ≡ words.now ∷ []) }
-    ensures shorter { IfSome result (λ x. length x.1.now < length words.now) }
+/// Adds the turns of several words, each of which is cut off first.
+#[tactic(auto, using(crate::proofs::Joined::each_goes_on, crate::proofs::Joined::each_stops, crate::proofs::Joined::each_ends))]
+fn add_turns(turns: &mut Schedule, words: &[u8]) -> Result<(), Wrong>
+    ensures { Says (λ _. turns.new) result
+        (option_map (λ more. turns.old ++ more) (each turn (parts 32 words.now))) }
 {
-    if let Some((turn, after)) = leading_turn(words) {
-        return Some((Some(turn), after));
-    }
-    let (word, after) = cut(words, b' ')?;
-    Some((turn(word), after))
-}
-
-/// The turns of several words.
-pub(crate) fn turns(alloc: Global, words: &[u8]) -> Result<Schedule, Wrong>
-    ensures { Says (λ s. s) result (each turn (parts 32 words.now)) }
-{
-    // Each turn but the last takes two bytes at least.
-    let mut turns = Schedule::with_capacity(alloc, words.len() / 2 + 1)?;
     let mut rest = words;
-    while let Some((first, after)) = first_turn(rest) {
-        let Some((thread, steps)) = first else {
+    while let Some((word, after)) = cut(rest, b' ') {
+        let Some((thread, steps)) = turn(word) else {
             return Err(Wrong::Text);
         };
         turns.push(thread, steps)?;
@@ -159,5 +149,20 @@ pub(crate) fn turns(alloc: Global, words: &[u8]) -> Result<Schedule, Wrong>
         return Err(Wrong::Text);
     };
     turns.push(thread, steps)?;
+    Ok(())
+}
+
+/// The turns of several words. All but the last mostly need no cut.
+pub(crate) fn turns(alloc: Global, words: &[u8]) -> Result<Schedule, Wrong>
+    ensures { Says (λ s. s) result (each turn (parts 32 words.now)) }
+{
+    // Each turn but the last takes two bytes at least.
+    let mut turns = Schedule::with_capacity(alloc, words.len() / 2 + 1)?;
+    let mut rest = words;
+    while let Some(((thread, steps), after)) = leading_turn(rest) {
+        turns.push(thread, steps)?;
+        rest = after;
+    }
+    add_turns(&mut turns, rest)?;
     Ok(turns)
 }

@@ -5,8 +5,8 @@ use Rattle.sys_script_lines.specs.Turns.{turn}
 use Rattle.sys_script_lines.proofs.Joined.{joined}
 use Rattle.sys_script_lines.proofs.turns.turns.Given as goal
 
-abbrev pub invariant-loop-first : goal.invariant-loop-first
-invariant-loop-first l = joined l.turns (each turn (parts 32 l.rest)) ≡ each turn (parts 32 l.words)
+abbrev pub invariant-loop-thread : goal.invariant-loop-thread
+invariant-loop-thread l = joined l.turns (each turn (parts 32 l.rest)) ≡ each turn (parts 32 l.words)
 
-abbrev pub decreases-loop-first : goal.decreases-loop-first
-decreases-loop-first l = length l.rest
+abbrev pub decreases-loop-thread : goal.decreases-loop-thread
+decreases-loop-thread l = length l.rest
