@@ -10,9 +10,9 @@ use crate::externals::{External, Externals};
 /// How many places a finder remembers.
 const ROOM: usize = 8192;
 
-/// Finds functions by name. It keeps the last name, since answers of one function often follow one another, and remembers where names
-/// were found, each by a sum over its bytes; another name of the same sum takes its room. Both are looked at first, and only make a
-/// search needless.
+/// Finds functions by name. It keeps the last name, since answers of one function often follow one another, and remembers where
+/// names were found, each by a sum over its bytes; another name of the same sum takes its room. Both are looked at first, and
+/// only make a search needless.
 #[derive(Drop)]
 pub(crate) struct Finder<'a> {
     pub(crate) externals: &'a Externals,

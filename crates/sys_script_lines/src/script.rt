@@ -29,6 +29,7 @@ pub fn read_lines(
     let mut rest = bytes;
     let mut number = 1;
     while let Some((line, after)) = cut_far(rest, b'\n') {
+        // A file may have very many of them.
         if line.is_empty() {
             rest = after;
             number += 1;
