@@ -9,4 +9,5 @@ pub mod Names
 pub mod Gathered
 pub mod Types
 mod Keeps
+mod Among
 pub mod Short

@@ -134,10 +134,11 @@ fn values_depth(table: &TypedTable, ids: &[NodeId]) -> u8
     requires { All (IsValueAt table.now) ids.now }
     ensures { result ≡ capped (values_depth_of (values (typed_of table.now) ids.now)) }
 {
-    match ids {
-        [] => 0,
-        [first, others @ ..] => pair(value_depth(table, *first), values_depth(table, others)),
+    let mut waiting = 0;
+    for i in (0..ids.len()).rev() {
+        waiting = pair(value_depth(table, ids[i]), waiting);
     }
+    waiting
 }
 
 #[cycle(depth)]

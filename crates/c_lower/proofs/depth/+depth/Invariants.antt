@@ -1,8 +1,13 @@
-use Rattle.std.proofs.Common.{◌+◌}
+use Rattle.std.proofs.Common.{◌≡◌, ◌+◌, drop}
 use Rattle.c_types_nodes.specs.Parts.{values}
 use Rattle.c_types_nodes.specs.Tables.{node_at, object_at, typed_of, value_at}
 use Rattle.c_lower_bodies.proofs.Weights.{object_weight, value_weight, values_weight, weight}
+use Rattle.c_lower_rules.specs.Heights.{values_depth}
+use Rattle.c_lower.specs.Depths.{capped}
 use Rattle.c_lower.proofs.depth.+depth.Given as goal
+
+abbrev pub invariant-values_depth-loop-i : goal.invariant-values_depth-loop-i
+invariant-values_depth-loop-i l = l.waiting ≡ capped (values_depth (values (typed_of l.table) (drop l.i l.ids)))
 
 abbrev pub decreases-node_depth : goal.decreases-node_depth
 decreases-node_depth l = weight (node_at l.table.now l.id)
