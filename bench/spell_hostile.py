@@ -51,13 +51,29 @@ def sizes_before_globals(size):
     return f"[{words(size // 2, 'a(sizeof(int *))')}] int {names(size // 2, str)};\n" + END
 
 
+def held_by_functions(size, words, result, params, body):
+    """Mutexes that functions hold, all different, and these words, before names of functions, each of which has this body."""
+    count = min(FUNCTIONS, size // 120)
+    each = 40 + len(result + 2 * params + body)
+    lists = ",".join([f"holds({mutex})" for mutex in range((size - each * count) // 14)] + words)
+    declared = ",".join(f"x{number}({params})" for number in range(count))
+    bodies = "\n".join(f"{result} x{number}({params}) {{ {body}}}" for number in range(count))
+    return f"[{lists}] {result} {declared};\n{bodies}\n[cut(top)] int outside(void);\n" + END
+
+
 def mutexes_before_functions(size):
     """Mutexes that functions hold, all different, before names of functions, each of which has a body."""
-    count = min(FUNCTIONS, size // 120)
-    lists = ",".join(f"holds({mutex})" for mutex in range((size - 60 * count) // 14))
-    declared = ",".join(f"x{number}(void)" for number in range(count))
-    bodies = "\n".join(f"void x{number}(void) {{ }}" for number in range(count))
-    return f"[{lists}] void {declared};\n{bodies}\n[cut(top)] int outside(void);\n" + END
+    return held_by_functions(size, [], "void", "void", "")
+
+
+def mutexes_and_keys_before_functions(size):
+    """The same with words that name parameters, which are read for each function."""
+    return held_by_functions(size, ["sync(k)", "sync(n)"], "void", "int k,int n", "")
+
+
+def mutexes_and_a_commit_before_functions(size):
+    """The same with one such word that has a size."""
+    return held_by_functions(size, ["commit(k,n*sizeof(int*))"], "int", "int k,int n", "return 0; ")
 
 
 def mutexes_held_by_bodies(size):
@@ -238,6 +254,8 @@ KINDS = [
     words_before_one_name_again,
     sizes_before_globals,
     mutexes_before_functions,
+    mutexes_and_keys_before_functions,
+    mutexes_and_a_commit_before_functions,
     mutexes_held_by_bodies,
     held_mutexes_in_descending_order,
     held_mutexes_and_branches,

@@ -7,4 +7,3 @@ mod Noting
 mod Meant
 mod Finding
 mod Saying
-mod Holding

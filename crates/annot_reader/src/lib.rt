@@ -11,7 +11,6 @@ mod iface;
 mod interface;
 mod laws;
 mod reading;
-mod sharing;
 mod source;
 
 pub use cut::interface_of;

@@ -19,7 +19,6 @@ ghost use Rattle.annot_reader.specs.Reading.{AreRead, noted_global, nothing_read
 ghost use Rattle.annot_reader_functions.specs.Seen.{declared_by};
 
 use crate::growing::append;
-use crate::sharing::add;
 use crate::source::Source;
 use annot_reader_functions::{FunctionNotes, Known, function_named, function_notes_after};
 use annot_reader_words::{AnnotationError, bare_decls, decl_node, declared_later, global_notes};
@@ -64,8 +63,8 @@ impl Reading {
         }
     }
 
-    // What a declaration of the function at a place says. The first one says it. Annotations that it shares with the function before are
-    // read once, if they speak of no parameter.
+    // What a declaration of the function at a place says. The first one says it. Of annotations that it shares with the function before
+    // only those are read again that speak of parameters.
     fn function(
         &mut self,
         alloc: Global,
@@ -102,8 +101,7 @@ impl Reading {
             source.cut,
             &mut self.known,
         )?;
-        let is_shared = self.known.is_some();
-        add(&mut self.functions, notes, is_shared)?;
+        append(&mut self.functions, notes)?;
         Ok(())
     }
 

@@ -12,6 +12,9 @@ mod Sorting
 mod Factors
 pub mod Saying
 pub mod Staying
-mod Alone
+mod Finding
+mod Apart
+mod Placing
+mod Beside
 mod Sharing
 pub mod Numbers

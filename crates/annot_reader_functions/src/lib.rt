@@ -1,6 +1,7 @@
 //! What the annotations of a function and of its parameters say, by its first declaration.
 #![tactic(auto)]
 
+mod again;
 mod finish;
 mod first;
 mod keys;

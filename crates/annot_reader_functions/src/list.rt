@@ -21,8 +21,8 @@ use c_syntax::{Annot, Tree};
 use c_types_environment::Environment;
 use std::alloc::Global;
 
-// One annotation more.
-fn note(
+/// One annotation more.
+pub(crate) fn note(
     env: &mut Environment,
     tree: &Tree,
     subject: &Subject,

@@ -6,26 +6,32 @@ use Rattle.annot_reader_words.specs.Answers.{Tells}
 use Rattle.annot_reader_functions.specs.Known.{AreKnown}
 use Rattle.annot_reader_functions.specs.Sayings.{IsNoted}
 use Rattle.annot_reader_functions.specs.Seen.{declared_by}
+use Rattle.annot_reader_functions.proofs.Composed.{is_decl}
 use Rattle.annot_reader_functions.proofs.Sharing.{known_now, says_too}
 use Rattle.annot_reader_functions.proofs.known.function_notes_after.Goals as goal
 
 pub is_said_too-requires-clause-other : goal.is_said_too-requires-clause-other
 is_said_too-requires-clause-other c = decl_inside c.args.tree.now c.args.id c.requires.id
 
-pub returns-then-is_said_too-clause-agrees : goal.returns-then-is_said_too-clause-agrees
-returns-then-is_said_too-clause-agrees c = λ d h.
+pub notes_by-requires-clause-says : goal.notes_by-requires-clause-says
+notes_by-requires-clause-says c = λ d h.
     let N = c.args.tree.now in
     let cut = c.args.cut.now in
-    let v = c.in-Some.said in
+    says_too N cut c.in-Some.said c.args.id d (subst (AreKnown N cut) c.in-Some.is c.requires.known) (c.is_said_too.ensures.share c.if-is_said_too.true) h
+
+pub returns-then-is_said_too-clause-agrees : goal.returns-then-is_said_too-clause-agrees
+returns-then-is_said_too-clause-agrees c = λ d h.
     let before = declared_by c.args.env.now in
     let p = c.args.prototype.now in
-    let says = says_too N cut v c.args.id d (subst (AreKnown N cut) c.in-Some.is c.requires.known) (c.is_said_too.ensures.share c.if-is_said_too.true) h in
-    subst (λ (k : FunctionKind). Tells (IsNoted cut) (function_notes before.env k d (at before.types p.result) (all_at before.types p.params.now)) c.notes_by.result) (c.is_said_too.ensures.kind c.if-is_said_too.true)
-    (c.notes_by.ensures.agrees d cut h says)
+    subst (λ (k : FunctionKind). Tells (IsNoted c.args.cut.now) (function_notes before.env k d (at before.types p.result) (all_at before.types p.params.now)) c.notes_by.result) (c.is_said_too.ensures.kind c.if-is_said_too.true)
+    (c.notes_by.ensures.agrees d h)
+
+pub known_by-requires : goal.known_by-requires
+known_by-requires c = is_decl c.args.tree.now c.args.id c.requires.id
 
 pub returns-clause-known : goal.returns-clause-known
 returns-clause-known c =
     let N = c.args.tree.now in
     let before = declared_by c.args.env.now in
     let p = c.args.prototype.now in
-    known_now N c.args.cut.now c.args.id p.kind c.in_ok-notes.notes before.env (at before.types p.result) (all_at before.types p.params.now) c.in_ok-known.field-0 c.requires.id (decl_inside N c.args.id c.requires.id) c.in_ok-known.ensures c.in_ok-notes.ensures.agrees
+    known_now N c.args.cut.now c.args.id p.kind c.in_ok-notes.notes before.env (at before.types p.result) (all_at before.types p.params.now) c.in_ok-known_by.field-0 c.requires.id (decl_inside N c.args.id c.requires.id) c.in_ok-known_by.ensures c.in_ok-notes.ensures.agrees
