@@ -1,0 +1,4 @@
+pub mod Blind
+pub mod Memory
+pub mod Parts
+pub mod Racing
