@@ -1,0 +1,3 @@
+pub mod FirstAt
+pub mod Folds
+pub mod Stacks
