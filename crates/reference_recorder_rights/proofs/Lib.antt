@@ -1,0 +1,2 @@
+pub mod HandedDown
+pub mod Touching
