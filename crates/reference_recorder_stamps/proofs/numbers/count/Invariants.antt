@@ -1,0 +1,8 @@
+use Rattle.std.proofs.Common.{◌≡◌, ◌≤◌, length, take}
+use Rattle.replay_runs.specs.Runs.{new_events}
+use Rattle.reference_recorder_marks.specs.Marks.{past}
+use Rattle.reference_recorder_stamps.specs.Links.{link_of}
+use Rattle.reference_recorder_stamps.proofs.numbers.count.Given as goal
+
+abbrev pub invariant-loop-mark : goal.invariant-loop-mark
+invariant-loop-mark l = (l.number ≡ length (new_events (link_of l.link) (past (take l.mark-index l.marks)))) × (l.number ≤ l.mark-index)
