@@ -1,0 +1,6 @@
+pub mod Bits
+pub mod Leasts
+pub mod Anys
+pub mod OneMark
+pub mod Knowing
+pub mod Firsts

@@ -1,0 +1,4 @@
+pub mod Least
+pub mod Hits
+pub mod Told
+pub mod Races
