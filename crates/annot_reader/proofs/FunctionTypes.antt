@@ -1,11 +1,11 @@
 -- The functions of a source that is typed have types of functions, with few parameters.
 use Rattle.std.proofs.Common.{◌≡◌, ℕ, zero, suc, ◌-◌, nat_le, Bool, true, false, not, is_some, if◌then◌else◌, List, [], ◌∷◌, ◌++◌, length, Option, Some, None, refl, subst}
+use Rattle.source_limits.specs.Limits.{greatest_object}
 use Rattle.c_syntax.specs.declared.declaration.Base.TheVariants as bases
 use Rattle.c_syntax.specs.Syntax.{Decl, Decls, Declare, NoDecls, MoreDecls, Parts, Rest, NoRest, Initial, Body, Members}
 use Rattle.c_types_model.specs.Types.{CType, Void, Integer, PointerTo, ArrayOf, StructOf, UndefinedStruct, FunctionOf}
 use Rattle.c_scopes.specs.Scopes.{meaning_in}
 use Rattle.c_types_model.specs.Layouts.{struct_of}
-use Rattle.c_types_model.specs.Limits.{greatest_object}
 use Rattle.c_types_model.specs.declared.extent.Extent.{Extent}
 use Rattle.c_types_rules.specs.Checked.{Checked, Fine, Noted, Notes, Broken, heard, keep, noting, small, ◌>>=◌, ◌>>◌}
 use Rattle.c_types_rules.specs.Environment.{Meaning, FunctionNamed, GlobalNamed, LocalNamed, declarable, extents, is_reserved, place_in}

@@ -1,8 +1,9 @@
 -- Functions of a source that is typed, and the answer to what its annotations say.
 use Rattle.std.specs.Prelude.{◌<◌, ◌≤◌, length, Result, Ok, Err}
+use Rattle.source_limits.specs.Limits.{most_params}
 use Rattle.c_types_model.specs.Types.{CType, FunctionOf}
 use Rattle.c_types_table.specs.Tables.{type_at}
-use Rattle.c_types_rules.specs.Limits.{count, most_params}
+use Rattle.c_types_rules.specs.Limits.{count}
 use Rattle.c_types_nodes.specs.Tables.{Table}
 use Rattle.c_types_program.specs.declared.function.Function.{Function}
 use Rattle.c_types_source.specs.declared.parts.Parts.{Parts as TypedSource}

@@ -1,6 +1,7 @@
 //! Loops of arithmetic and accesses to memory, under one thread of flat code.
 
 ghost use Rattle.std.specs.Prelude.{◌<◌, ◌≤◌, IfOk, IfSome, IsTrue, length};
+ghost use Rattle.source_limits.specs.Limits.{most_bytes};
 ghost use Rattle.marks.specs.declared.side.Side.TheVariants.{Replay, System};
 ghost use Rattle.c_machine.specs.Answers.{IsNeeded};
 ghost use Rattle.c_machine.specs.Moves.{IsInside, open_on};
@@ -220,7 +221,7 @@ fn made(
 
 /// How many marks a loop makes whose `main` has the number, and what it gives.
 fn over_source(alloc: Global, source: &[u8], main: u16) -> anyhow::Result<(u64, u64)>
-    requires { length source.now ≤ 1048576 }
+    requires { length source.now ≤ most_bytes }
 {
     let source = check_source(alloc, source, b"bench")?;
     let placed = placed(alloc)?;

@@ -1,12 +1,13 @@
 -- What holds of the mark lists of any code.
 use Rattle.std.specs.Prelude.{ℕ, ◌*◌, ◌+◌, ◌≤◌, length, ◌≡◌, ◌≢◌, true, List, ◌∷◌, ◌++◌, Option, Some, is_some, reverse}
+use Rattle.source_limits.specs.Limits.{most_values}
 use Rattle.marks.specs.declared.side.Side.{Side}
 use Rattle.marks.specs.declared.side.Side.TheVariants.{Replay}
 use Rattle.marks.specs.Marks.{Mark}
 use Rattle.marks.specs.Wants.{Want, Below, Gives, Returns, Answer, answer_to, is_below}
 use Rattle.c_code.specs.Values.{is_value}
 use Rattle.c_code.specs.Machine.{Laid, Config, Starting, action}
-use Rattle.c_code.specs.Valid.{most_values, IsValid}
+use Rattle.c_code.specs.Valid.{IsValid}
 use Rattle.c_code.specs.Fits.{Fits, FitsAction, values_of, waits_of}
 use Rattle.c_code.specs.MarkLists.{Reading, Split, Next, Wants, result_of, step, settled, Expects, Wrong, replay_part, reply, lists, state, want_above}
 

@@ -2,6 +2,7 @@
 
 ghost use Rattle.std.specs.Prelude.{◌≡◌, ◌≢◌, ◌↔◌, ℕ, ◌≤◌, List, ◌++◌, ◌∷◌, [], length, Some, Err, IfOk, IfErr, OnOk, IsOk};
 ghost use Rattle.std.specs.Result.{IsErrOf};
+ghost use Rattle.source_limits.specs.Limits.{most_bytes};
 ghost use Rattle.c_lexer.specs.declared.token.Sign.{Sign};
 ghost use Rattle.c_lexer.specs.Signs.{sign_at, IsLongest};
 ghost use Rattle.c_lexer.specs.Lexing.{IsTokens, IsLexError, Refuses, InOrder, HasReading, OneReading};
@@ -20,7 +21,7 @@ fn put(tokens: &mut Vec<Token>, token: Token) -> Result<(), AllocError>
 }
 
 fn read_tokens(alloc: Global, source: &[u8]) -> Result<Vec<Token>, LexError>
-    requires { length source.now ≤ 1048576 }
+    requires { length source.now ≤ most_bytes }
     ensures tokens { IfOk result (λ v. IsTokens source.now v.items) }
     ensures places { IfOk result (λ v. InOrder 0 v.items (length source.now)) }
     ensures refused { IfErr result (Refuses source.now) }
@@ -64,7 +65,7 @@ fn read_tokens(alloc: Global, source: &[u8]) -> Result<Vec<Token>, LexError>
 ///
 /// Each error but `Memory` has the offset of the first rule that the source breaks.
 pub fn lex(alloc: Global, source: &[u8]) -> Result<Vec<Token>, LexError>
-    requires { length source.now ≤ 1048576 }
+    requires { length source.now ≤ most_bytes }
     ensures tokens { IfOk result (λ v. IsTokens source.now v.items) }
     ensures places { IfOk result (λ v. InOrder 0 v.items (length source.now)) }
     ensures ok { result ≢ Err LexError.Memory →

@@ -7,17 +7,16 @@ use Rattle.std.proofs.lemmas.Bool.{le-ltb, ltb-true, ltb-false}
 use Rattle.std.proofs.lemmas.List.{length-map}
 use Rattle.std.proofs.lemmas.List.Elements.{All-nil, All-cons, All-head, All-tail}
 use Rattle.std.proofs.lemmas.Option.{slice_get-get_or, slice_get-map, slice_get_within}
+use Rattle.source_limits.specs.Limits.{greatest_frame, greatest_object}
 use Rattle.marks.specs.Places.{builtin_count}
 use Rattle.c_code.specs.declared.code.FuncInfo.{FuncInfo}
 use Rattle.c_code.specs.declared.instr.Instr.{Instr}
 use Rattle.c_code.specs.declared.instr.Instr.TheVariants as instr
 use Rattle.c_code.specs.Machine.{Flat, func_of}
 use Rattle.c_types_model.specs.Types.{CType}
-use Rattle.c_types_model.specs.Limits.{greatest_object}
 use Rattle.c_builtins.specs.declared.lookup.TheConstants.{BUILTINS}
 use Rattle.c_code.specs.Valid.{IsSteady, IsValid, Keeps}
 use Rattle.c_types_rules.specs.TypedTree as typed
-use Rattle.c_types_rules.specs.Limits.{greatest_frame}
 use Rattle.c_semantics.specs.Context.{Source, body_of, body_or, source_function}
 use Rattle.c_lower_rules.specs.Code.{Making, body_code}
 use Rattle.c_lower_rules.specs.Laws.{IsMadeOf}

@@ -1,7 +1,7 @@
 -- The depth of the evaluation stack in the functions of a program.
 use Rattle.std.specs.Prelude.{ℕ, suc, ◌+◌, Bool, false, if◌then◌else◌, nat_lt, max, min, List, [], ◌∷◌, map, Option, Some, None}
+use Rattle.source_limits.specs.Limits.{most_values}
 use Rattle.c_builtins.specs.Table.{first_source_function}
-use Rattle.c_code.specs.Valid.{most_values}
 use Rattle.c_types_rules.specs.TypedTree.{Body, Callee, Typed, AnObject, AFunction, AValue, SourceFunction, BuiltinFunction, Through}
 use Rattle.c_types_rules.specs.Sources.{Function}
 use Rattle.c_types_program.specs.Declarations.{Declared, function_in}
@@ -53,7 +53,3 @@ first_wide place (f ∷ fs) = if is_wide f.body then Some (first_source_function
 -- the functions that a program declares, by number less 16
 abbrev pub functions_in : Declared → List Function
 functions_in p = map (function_in p.table) p.functions
-
--- so many nodes a source may have
-abbrev pub most_nodes : ℕ
-most_nodes = 131072

@@ -2,9 +2,9 @@
 
 ghost use Rattle.std.specs.Prelude.{◌≡◌, ◌<◌, ◌≤◌, ◌^◌, ◌++◌, length, map, Option, IfOk, OnOk};
 ghost use Rattle.std.specs.List.{All};
+ghost use Rattle.source_limits.specs.Limits.{greatest_frame};
 ghost use Rattle.c_builtins.specs.Table.{prototype_of};
 ghost use Rattle.c_types_program.specs.Declarations.{Declared, IsFunction};
-ghost use Rattle.c_types_rules.specs.Limits.{greatest_frame};
 ghost use Rattle.c_lower_layout.specs.Sources.{sig_in};
 ghost use Rattle.c_lower_bodies.specs.Short.{IsShort};
 ghost use Rattle.c_lower.specs.Lowered.{builtin_info as builtin_info_of, code_of, frame_of, info_of, known_info};

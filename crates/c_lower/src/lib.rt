@@ -9,5 +9,4 @@ mod shapes;
 mod wide;
 
 pub use error::LowerError;
-pub use lowering::{MOST_NODES, lower};
-pub use wide::MOST_VALUES;
+pub use lowering::lower;

@@ -1,6 +1,7 @@
 //! Lowering.
 
 ghost use Rattle.std.specs.Prelude.{◌≡◌, ◌↔◌, ◌*◌, ◌<◌, ◌≤◌, ◌^◌, ℕ, None, Some, IfOk, OnOk, length};
+ghost use Rattle.source_limits.specs.Limits.{most_nodes};
 ghost use Rattle.c_code.specs.Typed.{KeepsTypes};
 ghost use Rattle.c_semantics.specs.Context.{Source};
 ghost use Rattle.c_lower_rules.specs.Laws.{MakesTheMarks, laid};
@@ -10,7 +11,7 @@ ghost use Rattle.c_lower_sizes.specs.Sizes.{functions_size, most_per_node};
 ghost use Rattle.c_lower.specs.Lowered.{IsSourceOf, lowered};
 ghost use Rattle.c_lower.specs.Named.{NamesNoMore};
 ghost use Rattle.c_lower.specs.Types.{TellsTypes};
-ghost use Rattle.c_lower.specs.Depths.{first_wide as first_wide_of, functions_in, most_nodes};
+ghost use Rattle.c_lower.specs.Depths.{first_wide as first_wide_of, functions_in};
 
 use crate::error::LowerError;
 use crate::functions::{builtin_infos, function_info};
@@ -22,10 +23,8 @@ use c_lower_rules::{
 };
 use c_lower_sizes::code_is_no_longer;
 use c_types_program::TypedProgram;
+use source_limits::MOST_NODES;
 use std::alloc::{AllocError, Global};
-
-/// How many nodes a source may have.
-pub const MOST_NODES: usize = 131_072;
 
 // The code of a program whose evaluation stack is small.
 fn code(alloc: Global, program: &TypedProgram) -> Result<Code, AllocError>

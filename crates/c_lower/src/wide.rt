@@ -13,9 +13,7 @@ use crate::depth::{either, node_depth, value_depth};
 use c_builtins::FIRST_SOURCE_FUNCTION;
 use c_types_nodes::{NodeId, TypedTable};
 use c_types_program::{Body, Statement, TypedProgram};
-
-/// How deep the evaluation stack of a function may be, in values.
-pub const MOST_VALUES: u8 = 64;
+use source_limits::MOST_VALUES;
 
 fn maybe_depth(table: &TypedTable, value: Option<NodeId>) -> u8
     requires { IsMaybeAt table.now value }

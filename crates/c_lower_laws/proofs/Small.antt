@@ -5,13 +5,13 @@ use Rattle.std.specs.Int.{next_multiple_of}
 use Rattle.std.specs.Option.{option_map}
 use Rattle.std.proofs.lemmas.Option.{same_Some}
 use Rattle.std.proofs.lemmas.Bool.{leb-true}
+use Rattle.source_limits.specs.Limits.{greatest_frame, greatest_object, most_functions}
 use Rattle.c_syntax.specs.declared.declaration.Base.{Base}
 use Rattle.c_syntax.specs.declared.declaration.Base.TheVariants as bases
 use Rattle.c_syntax.specs.Syntax.{Annots, Decl, Decls, Parts, Rest, Declare, NoDecls, MoreDecls, NoRest, Initial, Body, Members}
 use Rattle.c_builtins.specs.Table.{first_source_function}
 use Rattle.c_scopes.specs.Scopes.{meaning_in}
 use Rattle.c_types_model.specs.Layouts.{end_from, extent_of, repeated, struct_of}
-use Rattle.c_types_model.specs.Limits.{greatest_object}
 use Rattle.c_types_model.specs.Types.{CType, Void, Integer, PointerTo, ArrayOf, StructOf, UndefinedStruct, FunctionOf}
 use Rattle.c_types_model.specs.declared.extent.Extent.{Extent}
 use Rattle.c_types_rules.specs.Checked.{Checked, Fine, Noted, Notes, Broken, heard, keep, noting, small, ◌>>=◌, ◌>>◌}
@@ -19,7 +19,7 @@ use Rattle.c_types_rules.specs.TypeTests.{is_complete, same_type}
 use Rattle.c_types_rules.specs.TypedTree as typed
 use Rattle.c_types_rules.specs.Environment.{Environment, Meaning, Struct, FunctionNamed, GlobalNamed, LocalNamed, declarable, extents, is_reserved, place_in}
 use Rattle.c_types_rules.specs.Expressions.{annotation_types, complete, declared_name, declared_type, rule_of_incomplete}
-use Rattle.c_types_rules.specs.Limits.{Which, Functions, Params, Object, Globals, Frame, Typed, all_keep, decided, few_members, few_params, first_limit, frame_size, globals_end, greatest_frame, most_functions, outcome, small_body, small_frame, unless}
+use Rattle.c_types_rules.specs.Limits.{Which, Functions, Params, Object, Globals, Frame, Typed, all_keep, decided, few_members, few_params, first_limit, frame_size, globals_end, outcome, small_body, small_frame, unless}
 use Rattle.c_types_rules.specs.Limits as limits
 use Rattle.c_types_rules.specs.Sources.{Function, Program, among, at_file, body_at, body_of, declaration, declarations, declared_again, extent_or, extents_in, extents_of, function, function_declared, function_or_global, function_rest, global, global_value, has_main, is_main, is_next, member_of, members_from, nothing, program, struct_defined, tags_of, with_body}
 use Rattle.c_lower_layout.specs.Indexed.{member_types, members_end}

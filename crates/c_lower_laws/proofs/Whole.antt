@@ -4,6 +4,7 @@ use Rattle.std.specs.Prelude.{slice_get, nat_le}
 use Rattle.std.specs.Option.{option_map}
 use Rattle.std.proofs.lemmas.Option.{same_Some, slice_get-map, slice_get_within}
 use Rattle.std.proofs.lemmas.Bool.{le-ltb, leb-true, ltb-false}
+use Rattle.source_limits.specs.Limits.{most_functions}
 use Rattle.marks.specs.Places.{builtin_count}
 use Rattle.c_code.specs.Frames.{param_offsets, params_end}
 use Rattle.c_code.specs.declared.code.FuncInfo.{FuncInfo}
@@ -15,7 +16,7 @@ use Rattle.c_builtins.specs.declared.builtin.Builtin.{Builtin}
 use Rattle.c_builtins.specs.declared.builtin.Builtin.TheVariants.{Malloc, Free, Spawn, Join, Lock, Unlock, Print}
 use Rattle.c_builtins.specs.Table.{number_of, prototype_of}
 use Rattle.c_types_rules.specs.Checked.{Checked, Fine, Noted, Broken}
-use Rattle.c_types_rules.specs.Limits.{Which, Functions, Params, Outcome, Typed, Limit, all_keep, count as types_count, decided, few_params, first_limit, frame_size, most_functions, outcome, unless}
+use Rattle.c_types_rules.specs.Limits.{Which, Functions, Params, Outcome, Typed, Limit, all_keep, count as types_count, decided, few_params, first_limit, frame_size, outcome, unless}
 use Rattle.c_types_rules.specs.Limits as limits
 use Rattle.c_types_rules.specs.Sources.{Function, Program, extents_in, params_of, program}
 use Rattle.c_types_rules.specs.TypedTree as typed

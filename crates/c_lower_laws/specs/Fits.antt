@@ -1,17 +1,16 @@
 -- What holds of programs that keep the rules of types and their limits.
 use Rattle.std.specs.Prelude.{◌≡◌, ℕ, ◌+◌, ◌^◌, ◌<◌, ◌≤◌, length, take, Some, slice_get}
+use Rattle.source_limits.specs.Limits.{greatest_frame, greatest_object, most_params}
 use Rattle.marks.specs.Places.{builtin_count}
 use Rattle.c_code.specs.declared.code.FuncInfo.{FuncInfo}
 use Rattle.c_code.specs.Frames.{param_offsets, params_end}
 use Rattle.c_code.specs.Machine.{Flat, func_of}
-use Rattle.c_code.specs.Valid.{most_params}
 use Rattle.c_types_model.specs.Types.{CType}
-use Rattle.c_types_model.specs.Limits.{greatest_object}
 use Rattle.c_builtins.specs.declared.builtin.Builtin.{Builtin}
 use Rattle.c_builtins.specs.Table.{number_of}
 use Rattle.c_types_rules.specs.TypedTree.{Body}
 use Rattle.c_types_rules.specs.Environment.{Struct}
-use Rattle.c_types_rules.specs.Limits.{frame_size, greatest_frame}
+use Rattle.c_types_rules.specs.Limits.{frame_size}
 use Rattle.c_types_rules.specs.Sources.{result_of}
 use Rattle.c_semantics.specs.Context.{Source, body_of, local_offsets, param_shapes, type_of}
 use Rattle.c_semantics.specs.Returned.{Converts}

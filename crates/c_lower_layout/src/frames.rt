@@ -2,8 +2,9 @@
 
 ghost use Rattle.std.specs.Prelude.{◌≡◌, ◌≤◌, length, IfOk};
 ghost use Rattle.std.specs.List.{All};
+ghost use Rattle.source_limits.specs.Limits.{greatest_frame};
 ghost use Rattle.c_types_table.specs.Tables.{IsBelow};
-ghost use Rattle.c_types_rules.specs.Limits.{frame_size, greatest_frame};
+ghost use Rattle.c_types_rules.specs.Limits.{frame_size};
 ghost use Rattle.c_semantics.specs.Context.{local_offsets};
 ghost use Rattle.c_types_program.specs.Declarations.{types_in};
 ghost use Rattle.c_lower_layout.specs.Sources.{source_in};

@@ -1,5 +1,6 @@
 -- Code makes exactly the marks of its source.
 use Rattle.std.specs.Prelude.{◌≡◌, ◌≢◌, ℕ, ◌+◌, ◌<◌, ◌≤◌, ltb, true, List, ◌∷◌, ◌++◌, length, reverse, Some, None, is_some, slice_get}
+use Rattle.source_limits.specs.Limits.{most_values}
 use Rattle.marks.specs.declared.side.Side.{Side}
 use Rattle.marks.specs.declared.side.Side.TheVariants.{Replay}
 use Rattle.marks.specs.Marks.{Mark}
@@ -10,7 +11,6 @@ use Rattle.c_code.specs.declared.instr.Instr.{Instr}
 use Rattle.c_code.specs.Frames.{params_end}
 use Rattle.c_code.specs.Machine.{Flat, Laid, Done, entry, func_of}
 use Rattle.c_code.specs.MarkLists.{Split, Above, Wrong, lists, mark_lists, replay_part, result_of, thread_lists, want_above}
-use Rattle.c_code.specs.Valid.{most_values}
 use Rattle.c_types_model.specs.Types.{CType}
 use Rattle.c_types_rules.specs.TypedTree.{Body}
 use Rattle.c_types_rules.specs.Limits.{frame_size}

@@ -1,10 +1,10 @@
 // How a function begins.
 
 ghost use Rattle.std.specs.Prelude.{◌≡◌, ◌+◌, ◌<◌, ◌≤◌, ◌&&◌, not, false, ◌∷◌, ◌++◌, [], length, drop, reverse};
+ghost use Rattle.source_limits.specs.Limits.{most_values};
 ghost use Rattle.marks.specs.declared.side.Side.TheVariants.{Replay};
 ghost use Rattle.c_code.specs.declared.activation.Waiting.TheVariants.{ForBelow, ForUpRet, ForOutside};
 ghost use Rattle.c_code.specs.Fits.{values_of, waits_of};
-ghost use Rattle.c_code.specs.Valid.{most_values};
 ghost use Rattle.c_code.specs.Machine.{Entering, Starting, Under, uncover as uncovered};
 ghost use Rattle.c_machine_stack.specs.Stacks.{held, room_of};
 ghost use Rattle.c_machine.specs.Positions.{laid, config, crossed, made_of};

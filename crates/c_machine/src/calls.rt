@@ -1,11 +1,12 @@
 //! What a thread is asked and told.
 
 ghost use Rattle.std.specs.Prelude.{◌≡◌, ◌^◌, ℕ, ◌<◌, ◌≤◌, false, true, Option, [], ◌∷◌, length, Some, IfOk, IfSome};
+ghost use Rattle.source_limits.specs.Limits.{most_values};
 ghost use Rattle.marks.specs.declared.side.Side.TheVariants.{Replay};
 ghost use Rattle.memory_map.specs.declared.placed.Placed.{Placed as Places};
 ghost use Rattle.c_code.specs.Machine.{Laid, Done, Starting, action, callee as callee_of};
 ghost use Rattle.c_code.specs.Typed.{StartsWell};
-ghost use Rattle.c_code.specs.Valid.{most_values, start_sig};
+ghost use Rattle.c_code.specs.Valid.{start_sig};
 ghost use Rattle.c_machine.specs.Positions.{laid};
 ghost use Rattle.c_machine.specs.declared.wants.Answer.{Answer as Answers};
 ghost use Rattle.c_machine.specs.Wants.{shown, told};

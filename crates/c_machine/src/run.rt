@@ -1,9 +1,9 @@
 // How the function of a call begins where its arguments lie.
 
 ghost use Rattle.std.specs.Prelude.{◌≡◌, ◌+◌, ◌<◌, ◌≤◌, ◌&&◌, true, false, not, if◌then◌else◌, ◌∷◌, [], length, take, drop, reverse};
+ghost use Rattle.source_limits.specs.Limits.{most_values};
 ghost use Rattle.marks.specs.declared.side.Side.TheVariants.{Replay, System};
 ghost use Rattle.c_code.specs.declared.activation.Waiting.TheVariants.{ForUpRet};
-ghost use Rattle.c_code.specs.Valid.{most_values};
 ghost use Rattle.c_code.specs.Fits.{values_of, waits_of};
 ghost use Rattle.c_code.specs.Machine.{Entering, uncover as uncovered};
 ghost use Rattle.c_machine_stack.specs.Stacks.{held, room_of};

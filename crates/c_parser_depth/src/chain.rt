@@ -3,10 +3,10 @@
 ghost use Rattle.std.specs.Prelude.{◌≡◌, ℕ, Option};
 ghost use Rattle.c_parser_depth.specs.Chains.{no_chain, longer, under, deep_end};
 
-/// How many nodes may hold another.
-const HOLDERS: u8 = 200;
+use source_limits::MOST_HOLDERS;
+
 /// The count of nodes at which a chain is too long.
-const COUNTED: u8 = HOLDERS + 2;
+const COUNTED: u8 = MOST_HOLDERS + 2;
 
 /// A longest chain of nodes in a piece of a tree, of which each but the first is held by the one before.
 #[derive(Clone, Copy)]

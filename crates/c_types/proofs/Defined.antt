@@ -5,10 +5,10 @@ use Rattle.std.specs.Prelude.{nat_le}
 use borrow.Author.Tests.{leb-true}
 use Rattle.std.specs.List.{All}
 use Rattle.std.proofs.lemmas.List.Elements.{All-nil, All-cons, All-append}
+use Rattle.source_limits.specs.Limits.{greatest_object, most_members}
 use Rattle.c_scopes.specs.Scopes.{innermost}
 use Rattle.c_types_model.specs.Types.{CType}
 use Rattle.c_types_model.specs.Layouts.{greatest_align}
-use Rattle.c_types_model.specs.Limits.{greatest_object, most_members}
 use Rattle.c_types_table.specs.Tables.{at, types_of}
 use Rattle.c_types_model.specs.declared.extent.Extent.{Extent}
 use Rattle.c_types_rules.specs.Checked.{Checked, Fine, small, ◌>>◌, Notes}

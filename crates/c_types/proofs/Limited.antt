@@ -6,11 +6,11 @@ use Rattle.std.specs.Option.{option_map}
 use Rattle.std.specs.List.{All}
 use Rattle.std.proofs.lemmas.List.{drop_all, get_or-map, length-map}
 use Rattle.std.proofs.lemmas.List.Elements.{All-head, All-tail}
+use Rattle.source_limits.specs.Limits.{greatest_frame, greatest_object, most_functions}
 use borrow.Author.Tests.{leb-true, leb-false}
 use Rattle.r2_num.specs.declared.kinds.IntKind.TheVariants.{I8, U8, I16, U16, I32, U32, I64, U64}
 use Rattle.c_types_model.specs.Types.{CType, Void, Integer, PointerTo, ArrayOf, StructOf, UndefinedStruct, FunctionOf}
 use Rattle.c_types_model.specs.Layouts.{capped, capped_extent, end_from, extent_of, repeated, scalar}
-use Rattle.c_types_model.specs.Limits.{greatest_object}
 use Rattle.c_types_model.specs.declared.extent.Extent.{Extent}
 use Rattle.c_types_model.proofs.Steps.{end_of_all, end_step}
 use Rattle.c_types_table.specs.declared.ids.TypeId.{TypeId}
@@ -20,7 +20,7 @@ use Rattle.c_types_table.proofs.Extents.{extents_capped}
 use Rattle.c_types_rules.specs.Environment.{Environment, Struct, extents}
 use Rattle.c_types_rules.specs.Sources.{Program, extent_or, extents_in}
 use Rattle.c_types_rules.specs.Limits as limits
-use Rattle.c_types_rules.specs.Limits.{Which, all_keep, count, few_members, few_params, first_limit, frame_size, globals_end, most_functions, greatest_frame, small_frame, type_of}
+use Rattle.c_types_rules.specs.Limits.{Which, all_keep, count, few_members, few_params, first_limit, frame_size, globals_end, small_frame, type_of}
 use Rattle.c_types_program.specs.declared.global.Global.{Global}
 use Rattle.c_types_nodes.specs.Tables.{Table}
 use Rattle.c_types_program.specs.Declarations.{global_in, types_in}

@@ -1,12 +1,12 @@
 -- What parts of declarations make of a program.
 use Rattle.std.specs.Prelude.{ℕ, Bool, not, nat_le, Option, Some, None, List, ◌∷◌, [], ◌++◌, is_some}
+use Rattle.source_limits.specs.Limits.{greatest_object}
 use Rattle.c_syntax.specs.declared.declaration.Base.{Base}
 use Rattle.c_syntax.specs.declared.declaration.Base.TheVariants as bases
 use Rattle.c_syntax.specs.declared.declaration.Rest.{Rest as After}
 use Rattle.c_syntax.specs.declared.declaration.Rest.TheVariants as rests
 use Rattle.c_syntax.specs.Syntax.{Decl, Decls, Declare, Stmt}
 use Rattle.c_types_model.specs.Types.{CType}
-use Rattle.c_types_model.specs.Limits.{greatest_object}
 use Rattle.c_scopes.specs.Scopes.{meaning_in}
 use Rattle.c_types_rules.specs.Checked.{Checked, Fine, keep, small, ◌>>=◌, ◌>>◌, noting, Notes}
 use Rattle.c_types_rules.specs.Environment.{extents, is_reserved}

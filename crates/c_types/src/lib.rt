@@ -16,5 +16,4 @@ mod texts;
 mod whole;
 
 pub use error::{CheckError, Which};
-pub use limits::{GREATEST_FRAME, MOST_FUNCTIONS, MOST_PARAMS};
 pub use whole::check;

@@ -16,18 +16,9 @@ use crate::error::Which;
 use crate::extents::end_after;
 use crate::signature::param_count;
 use c_types_environment::Environment;
-use c_types_model::GREATEST_OBJECT;
 use c_types_program::{Function, Global};
 use c_types_table::TypeId;
-
-/// How many functions a source has at most.
-pub const MOST_FUNCTIONS: usize = 1_000;
-
-/// How many parameters a function has at most.
-pub const MOST_PARAMS: usize = 8;
-
-/// How many bytes the parameters and locals of a function have at most.
-pub const GREATEST_FRAME: u64 = 32_768;
+use source_limits::{GREATEST_FRAME, GREATEST_OBJECT, MOST_FUNCTIONS, MOST_PARAMS};
 
 // Whether no function has too many parameters.
 fn few_params(env: &Environment, functions: &[Function]) -> bool

@@ -21,10 +21,10 @@ use crate::declarations::Declarations;
 use crate::members::members_of;
 use c_syntax::{Base, DeclId, Tree};
 use c_types_environment::{Environment, is_reserved};
-use c_types_model::MOST_MEMBERS;
 use c_types_operators::TypeError;
 use c_types_structs::Members;
 use c_types_table::Ty;
+use source_limits::MOST_MEMBERS;
 use std::alloc::AllocError;
 
 // Whether the words of a declaration name the struct that is defined next.

@@ -1,8 +1,8 @@
 -- What is declared at a place of a source, and the table by which types and typed nodes go by numbers.
 use Rattle.std.specs.Prelude.{◌≡◌, ◌<◌, ℕ, Bool, false, List, [], ◌∷◌, ◌++◌, map, length, nat_le}
 use Rattle.std.specs.List.{All}
+use Rattle.source_limits.specs.Limits.{greatest_object}
 use Rattle.c_types_model.specs.Types.{CType}
-use Rattle.c_types_model.specs.Limits.{greatest_object}
 use Rattle.c_types_model.specs.Layouts.{capped_extent}
 use Rattle.c_types_model.specs.declared.extent.Extent.{Extent}
 use Rattle.c_types_table.specs.declared.ty.Ty.{Ty}

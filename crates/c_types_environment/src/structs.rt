@@ -14,9 +14,10 @@ ghost use Rattle.c_types_environment.specs.Reading.{IsMemberBelow, members_by, s
 ghost use Rattle.c_types_environment.specs.States.{is_small_struct, with_struct};
 
 use crate::environment::Environment;
-use c_types_model::{Extent, GREATEST_OBJECT, lay_out};
+use c_types_model::{Extent, lay_out};
 use c_types_structs::Members;
 use c_types_table::{StructId, TypeId};
+use source_limits::GREATEST_OBJECT;
 use std::alloc::AllocError;
 
 impl Environment {

@@ -3,18 +3,13 @@
 ghost use Rattle.std.specs.Prelude.{◌≡◌, ◌<◌, ◌≤◌, ◌↔◌, ℕ, length, map, IfOk, None, Some};
 ghost use Rattle.std.specs.Int.{next_multiple_of};
 ghost use Rattle.std.specs.List.{All};
-ghost use Rattle.c_types_model.specs.Limits.{most_members, greatest_object};
+ghost use Rattle.source_limits.specs.Limits.{greatest_object, most_members};
 ghost use Rattle.c_types_model.specs.Layouts.{IsAligned, capped, capped_extent, offsets_from, struct_of, extent_of_layout};
 
 use crate::extent::Extent;
 use crate::offsets::Offsets;
+use source_limits::{GREATEST_OBJECT, MOST_MEMBERS};
 use std::alloc::{AllocError, Global};
-
-/// How many members a struct has at most.
-pub const MOST_MEMBERS: usize = 64;
-
-/// How many bytes an object has at most.
-pub const GREATEST_OBJECT: u64 = 1_048_576;
 
 /// How the objects of a type lie in memory (C11 6.2.8, 6.7.2.1).
 ///

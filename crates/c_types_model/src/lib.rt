@@ -8,5 +8,5 @@ mod offsets;
 
 pub use extent::Extent;
 pub use laws::{large_sizes_stay_large, offsets_are_least_multiples};
-pub use layout::{GREATEST_OBJECT, Layout, Limit, MOST_MEMBERS, lay_out};
+pub use layout::{Layout, Limit, lay_out};
 pub use offsets::Offsets;

@@ -1,5 +1,6 @@
 -- The types of expressions and declarators (C11 6.5, 6.7.6, 6.7.7).
 use Rattle.std.specs.Prelude.{ℕ, zero, suc, ℤ, pos, ◌+◌, nat_lt, nat_le, Bool, true, false, if◌then◌else◌, List, [], ◌∷◌, length, Option, Some, None, ◌^◌}
+use Rattle.source_limits.specs.Limits.{greatest_object}
 use Rattle.r2_num.specs.declared.kinds.IntKind.{IntKind}
 use Rattle.r2_num.specs.declared.kinds.IntKind.TheVariants.{I32, U32, I64, U64}
 use Rattle.c_lexer.specs.declared.token.Sign.{Sign}
@@ -8,7 +9,6 @@ use Rattle.c_lexer.specs.declared.token.Suffix.{Suffix}
 use Rattle.c_lexer.specs.declared.token.Suffix.TheVariants as suffixes
 use Rattle.c_syntax.specs.Syntax.{Expr, Exprs, Decl, Decls, Annots, Annot, Items, Item, Atom, Parts, Name, Number, Char, Text, Binary, Assign, Cond, Prefix, Postfix, SizeofExpr, SizeofType, Cast, Index, Call, Member, Arrow, NoExprs, MoreExprs, Declare, NoDecls, MoreDecls, NoAnnots, MoreAnnots, Annotate, NoItems, MoreItems, OneFactor, TwoFactors, SizeofAtom, NoParts, Pointer, Array, Params}
 use Rattle.c_types_model.specs.Types.{CType, CTypes, PointerTo, ArrayOf, StructOf, UndefinedStruct, FunctionOf, NoTypes, MoreTypes}
-use Rattle.c_types_model.specs.Limits.{greatest_object}
 use Rattle.c_types_model.specs.declared.extent.Extent.{Extent}
 use Rattle.c_builtins.specs.declared.builtin.Builtin.{Builtin}
 use Rattle.c_builtins.specs.Table.{prototype_of}

@@ -1,10 +1,10 @@
 -- Limits that a source may not exceed, where it breaks no rule of types.
 use Rattle.std.specs.Prelude.{ℕ, suc, Bool, true, false, not, ◌&&◌, nat_le, max, if◌then◌else◌, List, [], ◌∷◌, length, map, Option, Some, None}
 use Rattle.std.specs.Int.{next_multiple_of}
+use Rattle.source_limits.specs.Limits.{greatest_frame, greatest_object, most_functions, most_members, most_params}
 use Rattle.c_syntax.specs.Syntax.{Decls}
 use Rattle.c_types_model.specs.Types.{CType, CTypes, NoTypes, MoreTypes}
 use Rattle.c_types_model.specs.Layouts.{end_from}
-use Rattle.c_types_model.specs.Limits.{greatest_object, most_members}
 use Rattle.c_types_rules.specs.Checked.{Checked, Fine, Noted, Broken}
 use Rattle.c_types_rules.specs.TypedTree as typed
 use Rattle.c_types_rules.specs.Environment.{Struct}
@@ -24,15 +24,6 @@ pub data Outcome : Type 0 where
   Typed : Program → Outcome
   Rule : (from rule : ℕ) → Outcome
   Limit : Which → Outcome
-
-abbrev pub most_functions : ℕ
-most_functions = 1000
-
-abbrev pub most_params : ℕ
-most_params = 8
-
-abbrev pub greatest_frame : ℕ
-greatest_frame = 32768
 
 abbrev pub all_keep : {A : Type 0} → (A → Bool) → List A → Bool
 all_keep p [] = true

@@ -1,11 +1,11 @@
 -- Whole sources (C11 6.9): structs, functions and globals.
 use Rattle.std.specs.Prelude.{ℕ, zero, suc, ◌+◌, ◌-◌, ◌==◌, Bool, false, not, ◌&&◌, ◌||◌, nat_le, List, [], ◌∷◌, ◌++◌, length, map, is_some, codes, Option, Some, None}
+use Rattle.source_limits.specs.Limits.{greatest_object}
 use Rattle.r2_num.specs.declared.kinds.IntKind.TheVariants.{I32}
 use Rattle.c_syntax.specs.declared.declaration.Base.TheVariants as bases
 use Rattle.c_syntax.specs.Syntax.{Decl, Decls, Parts, Rest, Stmt, Block, Declare, NoDecls, MoreDecls, NoParts, Pointer, Array, Params, NoRest, Initial, Body, Members}
 use Rattle.c_types_model.specs.Types.{CType, CTypes, Integer, FunctionOf, NoTypes, MoreTypes}
 use Rattle.c_types_model.specs.Layouts.{extent_of, scalar, struct_of}
-use Rattle.c_types_model.specs.Limits.{greatest_object}
 use Rattle.c_types_model.specs.declared.extent.Extent.{Extent}
 use Rattle.c_builtins.specs.Table.{first_source_function}
 use Rattle.c_scopes.specs.Scopes.{Scope, same_name, meaning_in}

@@ -1,10 +1,10 @@
 -- What a typed source stands for.
 use Rattle.std.specs.Prelude.{◌≡◌, ℕ, ◌≤◌, List, map}
 use Rattle.std.specs.List.{All}
+use Rattle.source_limits.specs.Limits.{greatest_object}
 use Rattle.c_syntax.specs.Stands.{Holds}
 use Rattle.c_syntax.specs.Syntax.{Decls}
 use Rattle.c_syntax_laws.specs.Numbers.{FitsDecls}
-use Rattle.c_types_model.specs.Limits.{greatest_object}
 use Rattle.c_types_rules.specs.Environment.{Struct}
 use Rattle.c_types_rules.specs.Limits.{Typed, outcome}
 use Rattle.c_types_rules.specs.Sources.{Program, at_file, tags_of}

@@ -2,8 +2,8 @@
 use Rattle.std.proofs.Common.{◌≡◌, ◌≤◌, ℕ, Bool, true, false, List, Ok, Option, Some, None, refl, sym, ap, ◌∙◌}
 use Rattle.std.specs.Prelude.{if◌then◌else◌, nat_lt}
 use Rattle.std.proofs.lemmas.Bool.{ltb-false}
+use Rattle.source_limits.specs.Limits.{most_nodes}
 use Rattle.c_lexer.specs.declared.token.Token.{Token}
-use Rattle.c_lower.specs.Depths.{most_nodes}
 use Rattle.c_parser_nodes.specs.Counts.{source_nodes}
 use Rattle.c_syntax.specs.Syntax.{Decls}
 use Rattle.c_types_rules.specs.Checked.{Checked, Fine, Noted, Broken}

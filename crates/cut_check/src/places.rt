@@ -1,6 +1,7 @@
 //! Where the objects of a source lie.
 
 ghost use Rattle.std.specs.Prelude.{◌≤◌, List, ℕ, length};
+ghost use Rattle.source_limits.specs.Limits.{most_bytes};
 ghost use Rattle.annot_reader_rules.specs.Notes.{Annotated};
 ghost use Rattle.c_types_rules.specs.Sources.{Program};
 ghost use Rattle.front_end.specs.Answers.{IsAccepted};
@@ -20,7 +21,7 @@ use std::alloc::Global;
 /// Where the strings and globals of an accepted source of at most 1 MiB lie, each with its bytes before a run, and in which modes
 /// its functions may run; or all that is found in its cut. `Memory` only where there is none.
 pub fn placed(alloc: Global, source: &CheckedSource) -> Result<Placed, PlaceError<'_>>
-    requires { (bytes : List ℕ) × (cut : List ℕ) × (length bytes ≤ 1048576) ×
+    requires { (bytes : List ℕ) × (cut : List ℕ) × (length bytes ≤ most_bytes) ×
         IsAccepted bytes cut source.now }
     ensures { (bytes cut : List ℕ) (p : Program) (a : Annotated) → IsAccepted bytes cut source.now →
         Says bytes cut p a → Answers (cut_of cut p a) (literals_in source.now.program.texts) result }

@@ -1,12 +1,13 @@
 -- What is too much for flat code is too much in the source.
 use Rattle.std.proofs.Common.{◌≡◌, ◌<◌, ◌≤◌, ◌↔◌, if◌then◌else◌, ℕ, ◌*◌, List, map, Option, Some, None, option_map, Result, Err, sym, ap, ◌∙◌, subst, refl, arith, le-ltb, lt-ltb}
+use Rattle.source_limits.specs.Limits.{most_nodes}
 use Rattle.c_code.specs.Machine.{Flat}
 use Rattle.c_syntax.specs.Syntax.{Decls}
 use Rattle.c_parser_nodes.specs.Counts.{capped, source_nodes}
 use Rattle.c_types_rules.specs.Sources.{Function, Program}
 use Rattle.c_lower.specs.declared.error.LowerError.{LowerError}
 use Rattle.c_lower.specs.declared.error.LowerError.TheVariants as lowering
-use Rattle.c_lower.specs.Depths.{first_wide, most_nodes}
+use Rattle.c_lower.specs.Depths.{first_wide}
 use Rattle.c_lower_layout.specs.Sources.{source_in}
 use Rattle.c_lower_sizes.specs.Sizes.{functions_size, most_per_node}
 use Rattle.c_types_program.specs.Declarations.{Declared, function_in}

@@ -2,6 +2,7 @@
 -- it.
 use Rattle.std.specs.Prelude.{◌≡◌, ℕ, Bool, true, false, nat_lt, if◌then◌else◌, List, Option, Some, None}
 use Rattle.std.specs.Option.{option_map}
+use Rattle.source_limits.specs.Limits.{most_nodes}
 use Rattle.c_lexer.specs.declared.token.Token.{Token}
 use Rattle.c_lexer.specs.declared.error.LexError.{LexError}
 use Rattle.c_lexer.specs.Lexing as lexing
@@ -9,7 +10,7 @@ use Rattle.c_syntax.specs.Sources.{Spells}
 use Rattle.c_syntax.specs.Syntax.{Decls}
 use Rattle.c_parser_depth.specs.Deep.{IsDeepAt, IsShallow}
 use Rattle.c_parser_nodes.specs.Counts.{source_nodes}
-use Rattle.c_lower.specs.Depths.{first_wide, most_nodes}
+use Rattle.c_lower.specs.Depths.{first_wide}
 use Rattle.c_types_rules.specs.Checked.{Checked, Fine, Noted, Broken}
 use Rattle.c_types_rules.specs.Limits as typing
 use Rattle.c_types_rules.specs.Limits.{outcome}

@@ -1,6 +1,7 @@
 //! Sources from bytes.
 
 ghost use Rattle.std.specs.Prelude.{◌≡◌, ◌≤◌, List, ℕ, IfErr, IfOk, length};
+ghost use Rattle.source_limits.specs.Limits.{most_bytes};
 ghost use Rattle.c_lexer.specs.Lexing.{IsTokens};
 ghost use Rattle.c_lexer.specs.declared.token.Token.{Token as Lexed};
 ghost use Rattle.c_syntax.specs.Stands.{Holds};
@@ -34,7 +35,7 @@ pub struct CheckedSource {
 
 // The tokens that the bytes are.
 fn tokens_of(alloc: Global, bytes: &[u8]) -> Result<Vec<Token>, SourceError>
-    requires { length bytes.now ≤ 1048576 }
+    requires { length bytes.now ≤ most_bytes }
     ensures tokens { IfOk result (λ v. IsTokens bytes.now v.items) }
     ensures few { IfOk result (λ v. length v.items ≤ length bytes.now) }
     ensures refused { (cut : List ℕ) → IfErr result (IsSourceError bytes.now cut) }
@@ -108,7 +109,7 @@ fn with_interface(
 /// breaks no rule of types; `NoSuchCut` where all rules hold and no declaration names the cut; then `Limit` where it has more than 131,072
 /// nodes, or the evaluation stack is deeper than 64 values in one of its functions; `Memory` where there is no memory.
 pub fn check_source(alloc: Global, bytes: &[u8], cut: &[u8]) -> Result<CheckedSource, SourceError>
-    requires { length bytes.now ≤ 1048576 }
+    requires { length bytes.now ≤ most_bytes }
     // The source is accepted where nothing is wrong with it; else this is.
     ensures { IsChecked bytes.now cut.now result }
 {

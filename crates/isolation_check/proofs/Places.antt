@@ -4,9 +4,9 @@ use Rattle.std.specs.Int.{next_multiple_of}
 use Rattle.std.proofs.Math.Seq.{drop-cons}
 use Rattle.std.specs.List.{All}
 use Rattle.std.proofs.lemmas.List.Elements.{All-cons, All-head, All-nil, All-tail}
+use Rattle.source_limits.specs.Limits.{greatest_object}
 use Rattle.marks.specs.Places.{alignment}
 use Rattle.c_types_model.specs.Layouts.{end_from, offsets_from}
-use Rattle.c_types_model.specs.Limits.{greatest_object}
 use Rattle.c_types_model.specs.Types.{CType}
 use Rattle.c_types_model.specs.declared.extent.Extent.{Extent}
 use Rattle.c_types_table.specs.declared.ty.Ty.{Ty}

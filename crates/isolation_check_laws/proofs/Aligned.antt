@@ -5,6 +5,7 @@ use Rattle.std.specs.Option.{option_map}
 use Rattle.std.specs.List.{All}
 use Rattle.std.proofs.lemmas.Bool.{cases_lt, leb-true}
 use Rattle.std.proofs.lemmas.List.Elements.{All-cons, All-head, All-nil, All-tail}
+use Rattle.source_limits.specs.Limits.{greatest_object, most_functions}
 use Rattle.r2_num.specs.declared.kinds.IntKind.{IntKind}
 use Rattle.r2_num.specs.declared.kinds.IntKind.TheVariants.{I8, U8, I16, U16, I32, U32, I64, U64}
 use Rattle.marks.specs.Places.{alignment}
@@ -14,14 +15,13 @@ use Rattle.c_syntax.specs.Syntax.{Annots, Decl, Decls, Parts, Rest, Declare, NoD
 use Rattle.c_builtins.specs.Table.{first_source_function}
 use Rattle.c_scopes.specs.Scopes.{meaning_in}
 use Rattle.c_types_model.specs.Layouts.{extent_of, greatest_align, kind_extent, repeated, scalar, struct_of}
-use Rattle.c_types_model.specs.Limits.{greatest_object}
 use Rattle.c_types_model.specs.Types.{CType, Void, Integer, PointerTo, ArrayOf, StructOf, UndefinedStruct, FunctionOf}
 use Rattle.c_types_model.specs.declared.extent.Extent.{Extent}
 use Rattle.c_types_rules.specs.Checked.{Checked, Fine, Noted, Notes, Broken, heard, keep, noting, small, ◌>>=◌, ◌>>◌}
 use Rattle.c_types_rules.specs.TypeTests.{same_type}
 use Rattle.c_types_rules.specs.Environment.{Meaning, Struct, FunctionNamed, GlobalNamed, LocalNamed, declarable, extents, is_reserved, place_in}
 use Rattle.c_types_rules.specs.Expressions.{annotation_types, complete, declared_name, declared_type}
-use Rattle.c_types_rules.specs.Limits.{Which, Functions, Params, Object, Globals, Frame, Typed, all_keep, decided, few_members, few_params, first_limit, globals_end, most_functions, outcome, small_frame, type_of, unless}
+use Rattle.c_types_rules.specs.Limits.{Which, Functions, Params, Object, Globals, Frame, Typed, all_keep, decided, few_members, few_params, first_limit, globals_end, outcome, small_frame, type_of, unless}
 use Rattle.c_types_rules.specs.Limits as limits
 use Rattle.c_types_rules.specs.Sources.{Program, at_file, body_at, body_of, declaration, declarations, declared_again, extent_or, extents_in, extents_of, function, function_declared, function_or_global, function_rest, global, global_value, has_main, is_main, is_next, members_from, nothing, program, struct_defined, tags_of, with_body}
 use Rattle.isolation_check_rules.specs.Places.{global_extents}

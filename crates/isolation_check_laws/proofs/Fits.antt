@@ -4,9 +4,9 @@ use Rattle.std.specs.Int.{next_multiple_of}
 use Rattle.std.specs.List.{All}
 use Rattle.std.proofs.lemmas.List.Elements.{All-head, All-tail}
 use Rattle.std.proofs.Math.Nat.{mul_assoc}
+use Rattle.source_limits.specs.Limits.{greatest_object}
 use Rattle.marks.specs.Places.{alignment, constants, replay_globals, system_globals}
 use Rattle.c_types_model.specs.Layouts.{end_from, offsets_from}
-use Rattle.c_types_model.specs.Limits.{greatest_object}
 use Rattle.c_types_model.specs.declared.extent.Extent.{Extent}
 use Rattle.isolation_check_rules.specs.declared.area.Area.{Area}
 use Rattle.isolation_check_rules.specs.declared.area.Area.TheVariants as areas

@@ -1,9 +1,9 @@
 -- That strings and globals lie in their areas.
 use Rattle.std.specs.Prelude.{◌≡◌, ℕ, ◌+◌, ◌*◌, ◌≤◌, ◌<◌, List, [], ◌∷◌, length}
 use Rattle.std.specs.List.{All}
+use Rattle.source_limits.specs.Limits.{greatest_object}
 use Rattle.c_lexer_laws.specs.Strings.{spelled}
 use Rattle.marks.specs.Places.{alignment, constants, replay_globals, system_globals}
-use Rattle.c_types_model.specs.Limits.{greatest_object}
 use Rattle.c_types_model.specs.declared.extent.Extent.{Extent}
 use Rattle.c_types_rules.specs.Limits.{globals_end}
 use Rattle.c_types_rules.specs.Sources.{Program}

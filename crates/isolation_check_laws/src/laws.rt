@@ -2,12 +2,12 @@
 
 ghost use Rattle.std.specs.Prelude.{◌≡◌, ℕ, ◌+◌, ◌*◌, ◌≤◌, List};
 ghost use Rattle.std.specs.List.{All};
+ghost use Rattle.source_limits.specs.Limits.{greatest_object};
 ghost use Rattle.c_lexer_laws.specs.Strings.{spelled};
 ghost use Rattle.c_syntax.specs.Syntax.{Decls};
 ghost use Rattle.c_types_rules.specs.Limits.{Typed, globals_end, outcome};
 ghost use Rattle.c_types_rules.specs.Sources.{Program};
 ghost use Rattle.c_types_model.specs.Layouts.{end_from};
-ghost use Rattle.c_types_model.specs.Limits.{greatest_object};
 ghost use Rattle.c_types_model.specs.declared.extent.Extent.{Extent};
 ghost use Rattle.marks.specs.Places.{constants};
 ghost use Rattle.isolation_check_rules.specs.declared.area.Area.{Area};

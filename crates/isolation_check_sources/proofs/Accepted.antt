@@ -2,13 +2,13 @@
 use Rattle.std.proofs.Common.{◌≡◌, ℕ, ◌<◌, ◌≤◌, ◌^◌, List, [], ◌∷◌, length, Some, refl, sym, ap, ◌∙◌, subst, arith}
 use Rattle.std.specs.List.{All}
 use Rattle.std.specs.Prelude.{slice_get}
+use Rattle.source_limits.specs.Limits.{greatest_object, most_bytes}
 use Rattle.c_lexer.specs.declared.token.Kind.{Kind}
 use Rattle.c_lexer.specs.declared.token.Kind.TheVariants as kinds
 use Rattle.c_lexer.specs.declared.token.Token.{Token}
 use Rattle.c_lexer.specs.Lexing.{IsTokens}
 use Rattle.c_lexer_laws.specs.Strings.{if_string, spelled, strings_among}
 use Rattle.c_syntax.specs.Syntax.{Decls}
-use Rattle.c_types_model.specs.Limits.{greatest_object}
 use Rattle.c_types_rules.specs.Limits as limits
 use Rattle.c_types_rules.specs.Limits.{Outcome, Typed, globals_end, outcome}
 use Rattle.c_types_rules.specs.Sources.{Program}
@@ -70,7 +70,7 @@ module _ (spells : (source : List ℕ) (ts : List Token) → IsTokens source ts 
     (fit : (ds : Decls) (p : Program) (d : Declared) → outcome ds ≡ Typed p → IsProgram d p → IsFit d)
     (small : (ds : Decls) (p : Program) → outcome ds ≡ Typed p → globals_end p ≤ greatest_object)
     (aligned : (ds : Decls) (p : Program) → outcome ds ≡ Typed p → All Divides (global_extents p)) where
-  pub placeable : (bytes cut : List ℕ) (c : CheckedSource) → length bytes ≤ 1048576 → IsAccepted bytes cut c → CanBePlaced c.program
+  pub placeable : (bytes cut : List ℕ) (c : CheckedSource) → length bytes ≤ most_bytes → IsAccepted bytes cut c → CanBePlaced c.program
   placeable bytes cut c few a =
       let ds = a.right.ds in
       let ts = a.right.source.tokens in

@@ -3,8 +3,8 @@ use Rattle.std.proofs.Common.{◌≡◌, ℕ, ◌≤◌, Bool, true, false, ◌&
 use Rattle.std.specs.Prelude.{nat_le, not, slice_get}
 use Rattle.std.proofs.lemmas.Bool.{leb-true}
 use Rattle.std.proofs.lemmas.Option.{same_Some}
+use Rattle.source_limits.specs.Limits.{most_members}
 use Rattle.c_syntax.specs.Syntax.{Decls}
-use Rattle.c_types_model.specs.Limits.{most_members}
 use Rattle.c_types_rules.specs.Checked.{Checked, Fine, Noted, Broken}
 use Rattle.c_types_rules.specs.Environment.{Struct}
 use Rattle.c_types_rules.specs.Limits as limits

@@ -1,6 +1,7 @@
 //! What holds of accepted sources.
 
 ghost use Rattle.std.specs.Prelude.{ℕ, ◌≤◌, List, length};
+ghost use Rattle.source_limits.specs.Limits.{most_bytes};
 ghost use Rattle.front_end.specs.declared.source.CheckedSource.{CheckedSource};
 ghost use Rattle.front_end.specs.Answers.{IsAccepted};
 ghost use Rattle.isolation_check.specs.Objects.{CanBePlaced};
@@ -11,7 +12,7 @@ use isolation_check_laws::typed_globals_fit;
 
 /// A law: the strings and globals of an accepted source of at most 1 MiB can be placed, in whatever cut.
 pub fn accepted_sources_can_be_placed()
-    ensures { (bytes cut : List ℕ) (c : CheckedSource) → length bytes ≤ 1048576 → IsAccepted bytes cut c →
+    ensures { (bytes cut : List ℕ) (c : CheckedSource) → length bytes ≤ most_bytes → IsAccepted bytes cut c →
         CanBePlaced c.program }
 {
     strings_are_spelled();

@@ -1,10 +1,7 @@
 -- The stage that reads a source: nothing is found in it, or what is wrong with it is named.
 use Rattle.std.specs.Prelude.{◌≢◌, ℕ, List, [], ◌++◌, codes, decimal}
-use Rattle.c_types_model.specs.Limits.{greatest_object, most_members}
-use Rattle.c_types_rules.specs.Limits.{greatest_frame, most_functions, most_params}
+use Rattle.source_limits.specs.Limits.{greatest_frame, greatest_object, most_bytes, most_functions, most_members, most_nodes, most_params, most_values}
 use Rattle.c_types.specs.declared.error.Which.TheVariants as numbers
-use Rattle.c_code.specs.Valid.{most_values}
-use Rattle.c_lower.specs.Depths.{most_nodes}
 use Rattle.cut_check.specs.Lines.{LinesOf, text_of}
 use Rattle.front_end.specs.Sources.{IsWrong}
 use Rattle.front_end.specs.declared.error.SourceError.{SourceError}
@@ -77,4 +74,4 @@ pub data SourceOf (cut bytes : List ℕ) : Answer (List ℕ) → Type 0 where
 -- the reading of a source, its size, its tokens, its grammar, its types with their limits, its annotations
 -- with the cut, the limits of flat code, and what is found in the cut or of guards
 abbrev pub source : Reading → (src cut : List ℕ) → Stage (List ℕ)
-source reading src cut = Input reading src (codes "source") 1048576 >>= SourceOf cut
+source reading src cut = Input reading src (codes "source") most_bytes >>= SourceOf cut

@@ -1,6 +1,7 @@
 //! The stage that reads a source, and looks at its cut and its guards.
 
 ghost use Rattle.std.specs.Prelude.{◌≡◌, ◌≤◌, List, ℕ, IfErr, IfOk, length};
+ghost use Rattle.source_limits.specs.Limits.{most_bytes};
 ghost use Rattle.cut_check.specs.Lines.{FoundText};
 ghost use Rattle.front_end.specs.Answers.{IsAccepted};
 ghost use Rattle.front_end.specs.declared.error.SourceError.TheVariants.{Memory as NoSource};
@@ -63,7 +64,7 @@ pub struct AcceptedSource {
 
 /// The source that the bytes are, or what is wrong with it.
 fn checked(alloc: Global, bytes: &[u8], cut: &str) -> Result<CheckedSource, End>
-    requires { length bytes.now ≤ 1048576 }
+    requires { length bytes.now ≤ most_bytes }
     ensures right { IfOk result (IsAccepted bytes.now cut.now) }
     ensures wrong { IfErr result (EndsAs (SourceOf cut.now bytes.now) 0 0) }
 {
@@ -86,9 +87,9 @@ fn unless_found(alloc: Global, found: Vec<u8>) -> Result<(), End>
 
 /// The source that the bytes are, where nothing is found in it.
 fn source_of(alloc: Global, bytes: Vec<u8>, cut: &str) -> Result<AcceptedSource, End>
-    requires { length bytes.items ≤ 1048576 }
+    requires { length bytes.items ≤ most_bytes }
     ensures accepted { IfOk result (λ s. IsAccepted s.bytes.items cut.now s.source) }
-    ensures short { IfOk result (λ s. length s.bytes.items ≤ 1048576) }
+    ensures short { IfOk result (λ s. length s.bytes.items ≤ most_bytes) }
     ensures answers { Answers (λ s. s.bytes.items) (SourceOf cut.now bytes.items) 0 0 result }
 {
     let source = checked(alloc, &bytes, cut)?;
@@ -106,7 +107,7 @@ pub fn source<F: Files>(
 ) -> Result<AcceptedSource, End>
     ensures only { OnlyReads (F.seen files.old) (F.seen files.new) }
     ensures accepted { IfOk result (λ s. IsAccepted s.bytes.items cut.now s.source) }
-    ensures short { IfOk result (λ s. length s.bytes.items ≤ 1048576) }
+    ensures short { IfOk result (λ s. length s.bytes.items ≤ most_bytes) }
     ensures answers { Answers (λ s. s.bytes.items) (source (Sees (F.seen files.old)) name.now cut.now)
         (F.seen files.old).read_faults (F.seen files.new).read_faults result }
 {

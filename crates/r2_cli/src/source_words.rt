@@ -3,11 +3,13 @@
 ghost use Rattle.std.specs.Prelude.{◌≡◌, ◌++◌, IfOk, OnOk, codes, decimal};
 ghost use Rattle.r2_cli.specs.Source.{limit_number, limit_word, no_cut_words, rule_words, source_words};
 
-use c_lower::{MOST_NODES, MOST_VALUES};
-use c_types::{GREATEST_FRAME, MOST_FUNCTIONS, MOST_PARAMS, Which};
-use c_types_model::{GREATEST_OBJECT, MOST_MEMBERS};
+use c_types::Which;
 use front_end::{SourceFault, SourceLimit, SourceRule};
 use r2_base::put_dec;
+use source_limits::{
+    GREATEST_FRAME, GREATEST_OBJECT, MOST_FUNCTIONS, MOST_MEMBERS, MOST_NODES, MOST_PARAMS,
+    MOST_VALUES,
+};
 use std::alloc::{AllocError, Global};
 
 /// Adds `rule NUMBER`.

@@ -1,6 +1,7 @@
 //! A recording of an accepted source.
 
 ghost use Rattle.std.specs.Prelude.{◌≤◌, IfOk, List, Ok, [], length, ℕ};
+ghost use Rattle.source_limits.specs.Limits.{most_bytes};
 ghost use Rattle.cut_check.specs.Lines.{LinesOf};
 ghost use Rattle.front_end.specs.Answers.{IsAccepted};
 ghost use Rattle.sys_script_lines.specs.Scripts.{IsRead};
@@ -25,7 +26,7 @@ use whole_runs_sources::{accepted_sources_fit, accepted_sources_have_few_functio
 
 /// Where the objects of an accepted source lie in which nothing is found.
 fn placed_of(alloc: Global, source: &CheckedSource) -> Result<Placed, AllocError>
-    requires { (bytes : List ℕ) × (cut : List ℕ) × (length bytes ≤ 1048576) ×
+    requires { (bytes : List ℕ) × (cut : List ℕ) × (length bytes ≤ most_bytes) ×
         IsAccepted bytes cut source.now × LinesOf bytes cut [] }
     ensures { (bytes cut : List ℕ) → IsAccepted bytes cut source.now → LinesOf bytes cut [] →
         IfOk result (IsPlacedAs bytes cut source.now) }
@@ -39,7 +40,7 @@ fn placed_of(alloc: Global, source: &CheckedSource) -> Result<Placed, AllocError
 
 /// What the run of an accepted source in which nothing is found is told of, for a system file that is read for it.
 fn recorded(alloc: Global, source: &CheckedSource, file: &SysFile) -> Result<Recorded, AllocError>
-    requires { (bytes : List ℕ) × (cut : List ℕ) × (script : List ℕ) × (length bytes ≤ 1048576) ×
+    requires { (bytes : List ℕ) × (cut : List ℕ) × (script : List ℕ) × (length bytes ≤ most_bytes) ×
         IsAccepted bytes cut source.now × LinesOf bytes cut [] ×
         IsRead (script_for source.now script) (Ok file.now) }
     ensures { (bytes cut script : List ℕ) → IsAccepted bytes cut source.now → LinesOf bytes cut [] →
@@ -62,7 +63,7 @@ pub fn recorded_plan(
     source: &CheckedSource,
     file: &SysFile,
 ) -> Result<Plan, AllocError>
-    requires { (bytes : List ℕ) × (cut : List ℕ) × (script : List ℕ) × (length bytes ≤ 1048576) ×
+    requires { (bytes : List ℕ) × (cut : List ℕ) × (script : List ℕ) × (length bytes ≤ most_bytes) ×
         IsAccepted bytes cut source.now × LinesOf bytes cut [] ×
         IsRead (script_for source.now script) (Ok file.now) }
     ensures { (bytes cut script : List ℕ) → IsAccepted bytes cut source.now → LinesOf bytes cut [] →

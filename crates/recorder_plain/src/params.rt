@@ -2,9 +2,10 @@
 
 ghost use Rattle.std.specs.Prelude.{◌≡◌, ◌+◌, ◌≤◌, length};
 ghost use Rattle.std.specs.Int.{next_multiple_of};
+ghost use Rattle.source_limits.specs.Limits.{most_params};
 ghost use Rattle.c_code.specs.Frames.{param_offsets, param_widths, size_of as shape_size};
 ghost use Rattle.c_code.specs.Machine.{func_of};
-ghost use Rattle.c_code.specs.Valid.{IsValid, most_params};
+ghost use Rattle.c_code.specs.Valid.{IsValid};
 ghost use Rattle.recorder_plain.specs.Params.{params_of};
 
 use arrayvec::ArrayVec;

@@ -4,10 +4,11 @@ use Rattle.std.specs.Prelude.{if◌then◌else◌, nat_lt, slice_get}
 use Rattle.std.specs.Option.{option_map}
 use Rattle.std.proofs.lemmas.Bool.{ltb-false}
 use Rattle.std.proofs.lemmas.Option.{same_Some}
+use Rattle.source_limits.specs.Limits.{most_nodes}
 use Rattle.memory_map.specs.declared.placed.Placed.{Placed}
 use Rattle.c_lexer.specs.declared.token.Token.{Token}
 use Rattle.c_syntax.specs.Syntax.{Decls}
-use Rattle.c_lower.specs.Depths.{first_wide, most_nodes}
+use Rattle.c_lower.specs.Depths.{first_wide}
 use Rattle.c_types_rules.specs.Checked.{Checked, Fine, Noted, Broken}
 use Rattle.c_types_rules.specs.Limits as typing
 use Rattle.c_types_rules.specs.Limits.{Outcome, Typed, outcome}

@@ -2,8 +2,9 @@
 use Rattle.std.proofs.Common.{◌≡◌, ◌≤◌, ℕ, Bool, true, false, cond, List, length, Option, Some, None, refl, subst, arith}
 use Rattle.std.specs.Prelude.{nat_le, not}
 use Rattle.std.proofs.lemmas.Bool.{leb-true}
+use Rattle.source_limits.specs.Limits.{most_functions}
 use Rattle.c_types_rules.specs.Checked.{Checked, Fine, Noted, Broken}
-use Rattle.c_types_rules.specs.Limits.{Which, Functions, Typed, decided, first_limit, most_functions, unless}
+use Rattle.c_types_rules.specs.Limits.{Which, Functions, Typed, decided, first_limit, unless}
 use Rattle.c_types_rules.specs.Sources.{Program, program}
 use Rattle.cut_check.proofs.Accepted.{known}
 use Rattle.cut_check.proofs.MainPlace.{function_count}

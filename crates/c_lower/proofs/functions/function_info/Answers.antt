@@ -1,8 +1,9 @@
 use Rattle.std.proofs.Common.{◌≡◌, ℕ, ◌≤◌, List, Option, Some, sym, ap, ◌∙◌, subst}
 use Rattle.std.specs.List.{All}
+use Rattle.source_limits.specs.Limits.{greatest_frame}
 use Rattle.c_code.specs.declared.instr.Instr.{Instr}
 use Rattle.c_types_table.specs.declared.ids.TypeId.{TypeId}
-use Rattle.c_types_rules.specs.Limits.{frame_size, greatest_frame}
+use Rattle.c_types_rules.specs.Limits.{frame_size}
 use Rattle.c_semantics.specs.Context.{local_offsets}
 use Rattle.c_lower_rules.specs.Code.{body_code}
 use Rattle.c_types_program.specs.declared.function.Body.{Body}

@@ -1,11 +1,11 @@
 use Rattle.std.proofs.Common.{◌≤◌, sym, subst, arith}
 use Rattle.std.proofs.lemmas.List.{length-map}
+use Rattle.source_limits.specs.Limits.{most_nodes}
 use Rattle.c_code.specs.Machine.{Flat}
 use Rattle.c_code.specs.Typed.{KeepsTypes}
 use Rattle.c_lower_rules.specs.Laws.{MakesTheMarks, laid}
 use Rattle.c_types_program.specs.Declarations.{function_in}
 use Rattle.c_lower_layout.specs.Sources.{source_in}
-use Rattle.c_lower.specs.Depths.{most_nodes}
 use Rattle.c_lower.specs.Named.{NamesNoMore}
 use Rattle.c_lower.specs.Types.{TellsTypes}
 use Rattle.c_lower.proofs.Keeps.{keeps_types}

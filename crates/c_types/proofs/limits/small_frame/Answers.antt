@@ -2,9 +2,10 @@ use Rattle.std.proofs.Common.{length, Some, sym, ap, ◌∙◌, subst}
 use Rattle.std.specs.Prelude.{nat_le}
 use Rattle.std.specs.Option.{option_map}
 use Rattle.std.specs.List.{All}
+use Rattle.source_limits.specs.Limits.{greatest_frame}
 use Rattle.c_types_model.specs.Layouts.{capped, end_from}
 use Rattle.c_types_table.specs.Tables.{IsBelow}
-use Rattle.c_types_rules.specs.Limits.{greatest_frame, small_body}
+use Rattle.c_types_rules.specs.Limits.{small_body}
 use Rattle.c_types_rules.specs.Sources.{extents_in}
 use Rattle.c_types_program.specs.Declarations.{IsBody, body_in, types_in}
 use Rattle.c_types.proofs.Limited.{frame_le}

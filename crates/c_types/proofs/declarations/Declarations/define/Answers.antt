@@ -1,7 +1,7 @@
 use Rattle.std.proofs.Common.{◌≡◌, ◌&&◌, Err, length, sym, ap, ◌∙◌, refl}
 use Rattle.std.specs.Prelude.{nat_le}
 use Rattle.std.proofs.lemmas.Result.{err_from_is_err_and}
-use Rattle.c_types_model.specs.Limits.{most_members}
+use Rattle.source_limits.specs.Limits.{most_members}
 use Rattle.c_types.proofs.Defined.{struct_follows, struct_stops}
 use Rattle.c_types.proofs.Followed.{going_on}
 use Rattle.c_types.proofs.Naming.{IsProgramOf}

@@ -2,8 +2,8 @@ use Rattle.std.proofs.Common.{◌≡◌, true, false, not, length, map, sym, ap,
 use Rattle.std.specs.Prelude.{nat_le}
 use Rattle.std.specs.List.{All}
 use Rattle.std.proofs.lemmas.List.{length-map}
-use Rattle.c_types_model.specs.Limits.{greatest_object}
-use Rattle.c_types_rules.specs.Limits.{all_keep, few_params, globals_end, most_functions, small_frame}
+use Rattle.source_limits.specs.Limits.{greatest_object, most_functions}
+use Rattle.c_types_rules.specs.Limits.{all_keep, few_params, globals_end, small_frame}
 use Rattle.c_types_program.specs.Declarations.{IsFunction, IsGlobal, function_in, global_in}
 use Rattle.c_types.specs.States.{program_of}
 use Rattle.c_types.proofs.Limited.{by_frames, capped_le, large_globals, large_object, le_fails, le_holds, many_functions, many_members, many_params}
