@@ -6,7 +6,6 @@ mod cut;
 mod declarations;
 mod error;
 mod functions;
-mod growing;
 mod iface;
 mod interface;
 mod laws;

@@ -18,13 +18,12 @@ ghost use Rattle.annot_reader.specs.Headings.{AreHeadings, IsHeading};
 ghost use Rattle.annot_reader.specs.Reading.{AreRead, noted_global, nothing_read};
 ghost use Rattle.annot_reader_functions.specs.Seen.{declared_by};
 
-use crate::growing::append;
 use crate::source::Source;
 use annot_reader_functions::{FunctionNotes, Known, function_named, function_notes_after};
 use annot_reader_words::{AnnotationError, bare_decls, decl_node, declared_later, global_notes};
 use c_builtins::FIRST_SOURCE_FUNCTION;
 use c_syntax::{Decl, DeclId, Rest, Tree};
-use c_types_environment::Environment;
+use c_types_environment::{Environment, append};
 use std::alloc::Global;
 
 /// What the annotations of a source say so far.

@@ -21,13 +21,12 @@ ghost use Rattle.c_types.specs.States.{Follows, IsFunctionPlace, IsSound, Steps,
 ghost use Rattle.c_types.specs.Pieces.{defined_of, function_of};
 
 use crate::declarations::Declarations;
-use crate::growing::append;
 use crate::members::name_of;
 use crate::signature::is_main_type;
 use c_builtins::FIRST_SOURCE_FUNCTION;
 use c_lexer::Text;
 use c_syntax::{DeclId, Rest, StmtId, Tree};
-use c_types_environment::{Meaning, is_reserved};
+use c_types_environment::{Meaning, append, is_reserved};
 use c_types_operators::TypeError;
 use c_types_program::{Body, Function};
 use c_types_statements::body;

@@ -17,11 +17,10 @@ ghost use Rattle.c_types.specs.States.{Follows, IsSound, program_of};
 ghost use Rattle.c_types.specs.Pieces.{global_of};
 
 use crate::declarations::Declarations;
-use crate::growing::append;
 use crate::members::name_of;
 use c_lexer::Text;
 use c_syntax::{DeclId, Rest, Tree};
-use c_types_environment::{Environment, Meaning};
+use c_types_environment::{Environment, Meaning, append};
 use c_types_initializers::initial;
 use c_types_nodes::NodeIds;
 use c_types_operators::TypeError;

@@ -6,7 +6,6 @@ mod error;
 mod extents;
 mod functions;
 mod globals;
-mod growing;
 mod limits;
 mod members;
 mod signature;

@@ -5,6 +5,7 @@ mod arrays;
 mod calls;
 mod declared;
 mod environment;
+mod lists;
 mod meaning;
 mod members;
 mod names;
@@ -15,5 +16,6 @@ mod structs;
 mod table;
 
 pub use environment::Environment;
+pub use lists::append;
 pub use meaning::Meaning;
 pub use names::{builtin_of, is_reserved};

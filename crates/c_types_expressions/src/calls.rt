@@ -13,12 +13,11 @@ ghost use Rattle.c_types_expressions.specs.Pieces.{argument_of, call_target as c
 ghost use Rattle.c_types_expressions.specs.Walks.{AreExprs, IsExpr};
 
 use crate::expressions::expression;
-use crate::growing::append;
 use crate::made::converted;
 use crate::offsets::start;
 use c_builtins::Builtin;
 use c_syntax::{ExprId, ExprKind, Tree};
-use c_types_environment::Environment;
+use c_types_environment::{Environment, append};
 use c_types_nodes::{Node, NodeId, NodeIds};
 use c_types_operators::{CallTarget, TypeError};
 use c_types_table::TypeId;

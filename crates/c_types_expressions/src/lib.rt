@@ -6,7 +6,6 @@ mod calls;
 mod constants;
 mod declarators;
 mod expressions;
-mod growing;
 mod known;
 mod made;
 mod offsets;

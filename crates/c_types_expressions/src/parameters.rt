@@ -11,10 +11,9 @@ ghost use Rattle.c_types_expressions.specs.Walks.{AreDecls, IsDecl};
 
 use crate::annotations::annotation_types;
 use crate::declarators::declarator;
-use crate::growing::append;
 use crate::sizes::adjusted;
 use c_syntax::{DeclId, Tree};
-use c_types_environment::{Environment, Meaning};
+use c_types_environment::{Environment, Meaning, append};
 use c_types_operators::TypeError;
 use c_types_table::{TypeId, TypeIds};
 use std::alloc::AllocError;

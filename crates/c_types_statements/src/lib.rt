@@ -3,7 +3,6 @@
 
 mod bodies;
 mod choices;
-mod growing;
 mod locals;
 mod loops;
 mod made;

@@ -15,12 +15,11 @@ ghost use Rattle.c_types_statements.specs.Pieces.{local_scope, local_type as loc
 ghost use Rattle.c_types_statements.specs.Typed.{AddsDeclared, IsLocal, StatementsStand, declared_in, listed};
 ghost use Rattle.c_types_statements.specs.Walks.{IsRest};
 
-use crate::growing::append;
 use crate::scalars::is_scalar;
 use crate::values::converted;
 use c_lexer::Text;
 use c_syntax::{DeclId, ExprId, Rest, Tree, Value};
-use c_types_environment::{Environment, Meaning};
+use c_types_environment::{Environment, Meaning, append};
 use c_types_expressions::{Specified, declared_type_after};
 use c_types_operators::TypeError;
 use c_types_program::Statement;

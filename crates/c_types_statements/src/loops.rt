@@ -14,14 +14,13 @@ ghost use Rattle.c_types_statements.specs.Pieces.{for_here as for_by_rules};
 ghost use Rattle.c_types_statements.specs.Typed.{AreDeclaring, IsTyped, declared_in, place_in};
 ghost use Rattle.c_types_statements.specs.Walks.{IsFirst, IsMaybeExpr, IsStmt};
 
-use crate::growing::append;
 use crate::locals::declare_locals;
 use crate::made;
 use crate::place::Surroundings;
 use crate::statements::statement;
 use crate::values::{condition, maybe_condition, maybe_value, value};
 use c_syntax::{ExprId, First, StmtId, Tree};
-use c_types_environment::Environment;
+use c_types_environment::{Environment, append};
 use c_types_operators::TypeError;
 use c_types_program::Statement;
 use c_types_table::TypeId;

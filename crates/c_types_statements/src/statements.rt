@@ -12,14 +12,13 @@ ghost use Rattle.c_types_statements.specs.Typed.{AddsDeclared, AreTyped, IsTyped
 ghost use Rattle.c_types_statements.specs.Walks.{AreEntries, IsEntry, IsStmt};
 
 use crate::choices::{choice, choice_of_two};
-use crate::growing::append;
 use crate::locals::declare_locals;
 use crate::loops::{Head, do_loop, for_loop, while_loop};
 use crate::made;
 use crate::place::Surroundings;
 use crate::plain::{evaluated, in_loop_only, returned};
 use c_syntax::{Entry, StmtId, StmtKind, Tree};
-use c_types_environment::Environment;
+use c_types_environment::{Environment, append};
 use c_types_operators::TypeError;
 use c_types_program::Statement;
 use c_types_table::TypeId;

@@ -613,7 +613,7 @@ pub calls::arguments-loop-number-preserved : goal.calls::arguments-loop-number-p
 calls::arguments-loop-number-preserved t c =
     record {
       kept = then_stay _ _ _ c.loop-number.invariant.kept c.in_ok-value.ensures.kept;
-      rest = λ xs h. rw c.in_ok-append.ensures (arguments_next c.args.tree.now c.args.env.now.env c.args.from (notes_of c.args.env.now) c.loop-number.env c.argument.new.env c.loop-number.values.items _ _ _ xs (params_of (type_at c.args.env.now.table.types c.args.function)) c.loop-number.number c.in_ok-value.value (from_here c.args.ids.now c.loop-number.number (record { 0 = 0 }) (omega arith)) c.in_ok-value.ensures.kept.numbers c.loop-number.invariant.kept.env (c.loop-number.invariant.rest xs h) (λ y s. passed (notes_of c.loop-number.env) (notes_of c.argument.new.env) (IsAt c.argument.new.env.table) _ _ (Ok c.in_ok-value.value) (ap (λ u. argument_of y c.loop-number.env.env c.args.from (types_after c.loop-number.number (params_of u))) (sym (type_stays c.args.env.now.table c.loop-number.env.table c.args.function c.loop-number.invariant.kept.numbers c.requires.function))) (c.in_ok-value.ensures.agrees y s)));
+      rest = λ xs h. rw c.in_ok-append.ensures.ok (arguments_next c.args.tree.now c.args.env.now.env c.args.from (notes_of c.args.env.now) c.loop-number.env c.argument.new.env c.loop-number.values.items _ _ _ xs (params_of (type_at c.args.env.now.table.types c.args.function)) c.loop-number.number c.in_ok-value.value (from_here c.args.ids.now c.loop-number.number (record { 0 = 0 }) (omega arith)) c.in_ok-value.ensures.kept.numbers c.loop-number.invariant.kept.env (c.loop-number.invariant.rest xs h) (λ y s. passed (notes_of c.loop-number.env) (notes_of c.argument.new.env) (IsAt c.argument.new.env.table) _ _ (Ok c.in_ok-value.value) (ap (λ u. argument_of y c.loop-number.env.env c.args.from (types_after c.loop-number.number (params_of u))) (sym (type_stays c.args.env.now.table c.loop-number.env.table c.args.function c.loop-number.invariant.kept.numbers c.requires.function))) (c.in_ok-value.ensures.agrees y s)));
     }
 
 pub calls::arguments-returns-in_err-value-clause-agrees : goal.calls::arguments-returns-in_err-value-clause-agrees
@@ -919,7 +919,7 @@ pub parameters::types_here-loop-place-preserved : goal.parameters::types_here-lo
 parameters::types_here-loop-place-preserved t c =
     record {
       kept = then_stay_around _ _ _ c.loop-place.invariant.kept (then_stay_around _ _ _ (stay_around _ _ c.in_ok-ty.ensures.kept) c.in_ok-declare.ensures.kept);
-      rest = λ ds h. rw c.in_ok-append.ensures (parameters_next c.args.tree.now c.args.env.now.env (notes_of c.args.env.now) c.loop-place.env c.parameter_type.new.env c.declare.new.env c.loop-place.types.items c.loop-place.place _ _ _ ds c.in_ok-ty.ty (from_here c.args.ids.now c.loop-place.place (record { 0 = 0 }) (omega arith)) c.in_ok-ty.ensures.kept.numbers c.in_ok-declare.ensures.kept.numbers c.in_ok-ty.ensures.kept.env (c.loop-place.invariant.rest ds h) c.in_ok-ty.ensures.agrees c.in_ok-declare.ensures.agrees);
+      rest = λ ds h. rw c.in_ok-append.ensures.ok (parameters_next c.args.tree.now c.args.env.now.env (notes_of c.args.env.now) c.loop-place.env c.parameter_type.new.env c.declare.new.env c.loop-place.types.items c.loop-place.place _ _ _ ds c.in_ok-ty.ty (from_here c.args.ids.now c.loop-place.place (record { 0 = 0 }) (omega arith)) c.in_ok-ty.ensures.kept.numbers c.in_ok-declare.ensures.kept.numbers c.in_ok-ty.ensures.kept.env (c.loop-place.invariant.rest ds h) c.in_ok-ty.ensures.agrees c.in_ok-declare.ensures.agrees);
     }
 
 pub parameters::types_here-returns-in_err-ty-clause-agrees : goal.parameters::types_here-returns-in_err-ty-clause-agrees

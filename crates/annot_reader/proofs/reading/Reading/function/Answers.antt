@@ -45,6 +45,6 @@ returns-clause-agrees c = λ d fs a h k r.
     first_tells cut _ now.env d c.args.place fs a found.0 (kind_in p.kind) (at now.types p.result) (all_at now.types p.params.now) found.1 (omega (arith, many, c.if-place-len.false, c.len.ensures)) same.0 same.1
     c.in_ok-notes.notes (c.in_ok-notes.ensures.agrees d h)
     (λ n i. record {
-      functions = subst (λ (vs : List FunctionNotes). AreNoted cut (a.functions ++ n ∷ []) vs) (sym c.in_ok-append.ensures) (noted_after cut a.functions _ n c.in_ok-notes.notes r.functions i);
+      functions = subst (λ (vs : List FunctionNotes). AreNoted cut (a.functions ++ n ∷ []) vs) (sym c.in_ok-append.ensures.ok) (noted_after cut a.functions _ n c.in_ok-notes.notes r.functions i);
       guards = r.guards;
     })

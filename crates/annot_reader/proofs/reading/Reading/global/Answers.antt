@@ -8,5 +8,5 @@ returns-clause-agrees c = λ d cut a h r.
     global_tells cut _ d a c.in_ok-guard.guard (c.in_ok-guard.ensures d h)
     (λ m k. record {
       functions = r.functions;
-      guards = subst (λ (gs : List (Option ℤ)). AreMutexes (a.guards ++ m ∷ []) gs) (sym c.in_ok-append.ensures) (mutex_after a.guards _ m c.in_ok-guard.guard r.guards k);
+      guards = subst (λ (gs : List (Option ℤ)). AreMutexes (a.guards ++ m ∷ []) gs) (sym c.in_ok-append.ensures.ok) (mutex_after a.guards _ m c.in_ok-guard.guard r.guards k);
     })

@@ -77,4 +77,4 @@ returns c =
     let made : List ℕ → List Global = λ name. d.globals.items ++ record { name = name; ty = c.args.ty; value = c.in_ok-value.value; unevaluated = c.in_ok-value.unevaluated } ∷ [] in
     global_added c.args.tree.now c.args.id e c.decl-decl.ensures.node d c.requires.sound c.args.ty c.requires.ty c.name_of.result.now c.name_of.ensures c.in_ok-place.place (c.in_ok-place.ensures ∙ (c.len.ensures ∙ d.globals.ok.0)) c.in_ok-complete.ensures.agrees
     c.declare.new.self c.in_ok-declare.ensures.agrees u c.in_ok-value.value c.in_ok-value.unevaluated c.in_ok-value.ensures.agrees c.in_ok-value.ensures.inside c.in_ok-value.ensures.kept (record (going_on d u) { globals = c.append.new.items }) refl
-    (c.in_ok-append.ensures ∙ ap made (c.in_ok-name.ensures.bytes ∙ (c.name_of-2.ensures ∙ sym c.name_of.ensures)))
+    (c.in_ok-append.ensures.ok ∙ ap made (c.in_ok-name.ensures.bytes ∙ (c.name_of-2.ensures ∙ sym c.name_of.ensures)))

@@ -46,4 +46,4 @@ returns c =
     let named = agreed (declarable d.env.env c.args.from c.args.name.now) c.in_ok-declare.ensures.agrees in
     let made : List ℕ → List Function = λ name. d.functions.items ++ record { name = name; ty = c.args.ty; body = None } ∷ [] in
     function_new d s (record (going_on d s) { functions = c.append.new.items }) c.args.name.now c.args.ty c.in_ok-number.number c.requires.sound c.requires.ty named refl
-    (c.in_ok-append.ensures ∙ ap made c.in_ok-name.ensures.bytes) (c.in_ok-number.ensures ∙ ap (λ n. n + first_source_function) (c.len-place.ensures ∙ d.functions.ok.0)) c.args.from c.len-place.result (c.len-place.ensures ∙ d.functions.ok.0)
+    (c.in_ok-append.ensures.ok ∙ ap made c.in_ok-name.ensures.bytes) (c.in_ok-number.ensures ∙ ap (λ n. n + first_source_function) (c.len-place.ensures ∙ d.functions.ok.0)) c.args.from c.len-place.result (c.len-place.ensures ∙ d.functions.ok.0)
