@@ -1,10 +1,9 @@
 //! What functions answer, in the order of the file. All pieces of all answers lie in one vector, so that an answer takes no
-//! memory of its own.
+//! memory of its own, and answers that follow one another with the same pieces share them.
 
-ghost use Rattle.std.specs.Prelude.{◌≡◌, ◌<◌, ◌≤◌, ◌++◌, [], ◌∷◌, length, slice_index_or, Some, OnOk, OnErr};
+ghost use Rattle.std.specs.Prelude.{◌≡◌, ◌<◌, ◌≤◌, ◌++◌, [], ◌∷◌, length, drop, true, Some, IfSome, OnOk, OnErr};
 ghost use Rattle.std.specs.List.{slice_get};
-ghost use Rattle.system_side.specs.AnswerLists.{InOrder, as_scripted, end_from, first_at};
-ghost use Rattle.system_side.specs.declared.answer_list.Entry.{Entry};
+ghost use Rattle.system_side.specs.AnswerLists.{AreBegun, IsWithin, as_scripted, pieces_in};
 
 use crate::file::Scripted;
 use run_events::Bytes;
@@ -14,12 +13,13 @@ use std::marker::Model;
 /// How many pieces all answers have at most.
 const MOST_PIECES: usize = 0xffff_ffff;
 
-/// One answer: its result, a 64-bit two's complement pattern, where its pieces end among those of all answers, and the number of
-/// its function. The pieces begin where those of the answer before end.
+/// One answer: its result, a 64-bit two's complement pattern, the place of its first piece among those of all answers, how many
+/// pieces it has, and the number of its function.
 #[derive(Clone, Copy)]
 pub struct Entry {
     result: u64,
-    end: u32,
+    first: u32,
+    count: u32,
     func: u16,
 }
 
@@ -41,13 +41,15 @@ pub struct Answers {
 impl Model for Answers {
     ghost use Rattle.std.specs.Prelude.{List};
     ghost use Rattle.system_side.specs.declared.file.Scripted.{Scripted};
-    ghost use Rattle.system_side.specs.AnswerLists.{AreWithin, answers_from};
+    ghost use Rattle.std.specs.Prelude.{length};
+    ghost use Rattle.std.specs.List.{All};
+    ghost use Rattle.system_side.specs.AnswerLists.{IsWithin, answers_in};
 
     ghost Value = { List Scripted };
 
-    ghost view = { λ l. answers_from l.pieces.items 0 l.entries.items };
+    ghost view = { λ l. answers_in l.pieces.items l.entries.items };
 
-    ghost invariant = { λ l. AreWithin l.pieces.items l.entries.items };
+    ghost invariant = { λ l. All (IsWithin (length l.pieces.items)) l.entries.items };
 }
 
 impl Answers {
@@ -63,37 +65,59 @@ impl Answers {
         requires { place < length self.now }
         ensures { slice_get self.now place ≡ Some (as_scripted result) }
     {
-        let (first, end) = range_at(&self.entries, place);
         let entry = self.entries[place];
         Answer {
             func: entry.func,
             result: entry.result,
-            pieces: &self.pieces[first..end],
+            pieces: pieces_of(&self.pieces, entry),
         }
     }
 }
 
-// Where the pieces of the answer at a place begin and end.
-fn range_at(entries: &[Entry], place: usize) -> (usize, usize)
-    requires inside { place < length entries.now }
-    requires in_order { InOrder 0 entries.now }
-    ensures first { result.0 ≡ first_at 0 entries.now place }
-    ensures end { (e : Entry) → result.1 ≡ (slice_index_or entries.now place e).end }
-    ensures in_order { result.0 ≤ result.1 }
-    ensures within { result.1 ≤ end_from 0 entries.now }
+// The pieces of an answer, among those of all.
+fn pieces_of(pieces: &[Bytes], entry: Entry) -> &[Bytes]
+    requires { IsWithin (length pieces.now) entry }
+    ensures { result.now ≡ pieces_in pieces.now entry }
 {
-    (first_at(entries, place), entries[place].end as usize)
+    let first = entry.first as usize;
+    &pieces[first..first + entry.count as usize]
 }
 
-// Where the pieces of the answer at a place begin.
-fn first_at(entries: &[Entry], place: usize) -> usize
-    requires { place < length entries.now }
-    ensures { result ≡ first_at 0 entries.now place }
+// Whether two pieces are the same.
+#[inline(always)]
+fn is_same(one: &[u8], other: &[u8]) -> bool
+    ensures { result ≡ true → one.now ≡ other.now }
 {
-    if place == 0 {
-        return 0;
+    one == other
+}
+
+// Whether two lists of pieces are the same.
+fn are_same(some: &[Bytes], others: &[Bytes]) -> bool
+    ensures { result ≡ true → some.now ≡ others.now }
+{
+    if some.len() != others.len() {
+        return false;
     }
-    entries[place - 1].end as usize
+    for at in 0..some.len() {
+        if !is_same(some[at].as_slice(), others[at].as_slice()) {
+            return false;
+        }
+    }
+    true
+}
+
+// The last answer, where its pieces are the same as those from the first on.
+fn same_before(entries: &[Entry], pieces: &[Bytes], first: usize) -> Option<Entry>
+    requires { AreBegun first pieces.now entries.now }
+    ensures same { IfSome result (λ e. pieces_in pieces.now e ≡ drop first pieces.now) }
+    ensures within { IfSome result (λ e. IsWithin first e) }
+{
+    let last = *entries.last()?;
+    if are_same(pieces_of(pieces, last), &pieces[first..]) {
+        Some(last)
+    } else {
+        None
+    }
 }
 
 /// A list of answers that is being made: the answers that are ended, and the pieces of one more.
@@ -106,12 +130,12 @@ pub struct AnswersSoFar {
 
 impl Model for AnswersSoFar {
     ghost use Rattle.std.specs.Prelude.{drop};
-    ghost use Rattle.system_side.specs.AnswerLists.{AreBegun, SoFar, answers_from};
+    ghost use Rattle.system_side.specs.AnswerLists.{AreBegun, SoFar, answers_in};
 
     ghost Value = { SoFar };
 
     ghost view = { λ l. record {
-      ended = answers_from l.pieces.items 0 l.entries.items;
+      ended = answers_in l.pieces.items l.entries.items;
       begun = drop l.first l.pieces.items;
     } };
 
@@ -162,13 +186,23 @@ impl AnswersSoFar {
             record { func = func; result = value; pieces = self.old.begun } ∷ []) }
         ensures unchanged { OnErr result (self.new ≡ self.old) }
     {
+        if let Some(last) = same_before(&self.entries, &self.pieces, self.first) {
+            self.entries.push(Entry {
+                result: value,
+                func,
+                ..last
+            })?;
+            self.pieces.truncate(self.first);
+            return Ok(());
+        }
         let end = self.pieces.len();
         if end > MOST_PIECES {
             return Err(AllocError);
         }
         self.entries.push(Entry {
             result: value,
-            end: end as u32,
+            first: self.first as u32,
+            count: (end - self.first) as u32,
             func,
         })?;
         self.first = end;

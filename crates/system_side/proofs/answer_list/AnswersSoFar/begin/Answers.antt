@@ -1,5 +1,5 @@
-use Rattle.std.proofs.Common.{List, ℕ, drop, arith, ap, ◌∙◌}
-use Rattle.system_side.specs.AnswerLists.{SoFar, answers_from}
+use Rattle.std.proofs.Common.{List, ℕ, drop, ap, ◌∙◌}
+use Rattle.system_side.specs.AnswerLists.{SoFar, answers_in}
 use Rattle.system_side.proofs.Flat.{all_cut, none_begun}
 use Rattle.system_side.proofs.answer_list.AnswersSoFar.begin.Goals as goal
 
@@ -8,6 +8,6 @@ returns c =
     let old = c.self.inside in
     let kept = c.self.invariant in
     let cut = c.truncate.ensures.items in
-    let ended = ap (λ (ps : List (List ℕ)). answers_from ps 0 old.entries.items) cut ∙ (all_cut old.pieces.items old.first old.entries.items kept.in_order (omega (arith, kept.after)) kept.start ∙ ap (λ (x : SoFar). x.ended) c.self.view_is) in
+    let ended = ap (λ (ps : List (List ℕ)). answers_in ps old.entries.items) cut ∙ (all_cut old.pieces.items old.first old.entries.items kept.inside kept.start ∙ ap (λ (x : SoFar). x.ended) c.self.view_is) in
     let begun = ap (λ (ps : List (List ℕ)). drop old.first ps) cut ∙ none_begun old.pieces.items old.first in
     λ i. record { ended = ended i; begun = begun i }
