@@ -56,7 +56,7 @@ impl Emitter<'_, '_, '_> {
     {
         match self.table().get(value) {
             Node::Constant(_, number) => {
-                let number = pattern(IntKind::U64, *number);
+                let number = pattern(IntKind::U64, number.value());
                 convert(kind, number) != number
             }
             _ => match self.sure_kind(value) {

@@ -43,7 +43,7 @@ impl Emitter<'_, '_, '_> {
             Node::SourceFunction { .. } | Node::BuiltinFunction { .. } => Ok(()),
             Node::Constant(_, number) => code.put(Instr::Push(Push::Number(pattern(
                 IntKind::U64,
-                *number,
+                number.value(),
             )))),
             Node::FunctionAddress { number, .. } => code.put(Instr::Push(Push::Number(
                 0x1000 + 16 * u64::from(*number),

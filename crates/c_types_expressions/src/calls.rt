@@ -18,7 +18,7 @@ use crate::offsets::start;
 use c_builtins::Builtin;
 use c_syntax::{ExprId, ExprKind, Tree};
 use c_types_environment::{Environment, append};
-use c_types_nodes::{Node, NodeId, NodeIds};
+use c_types_nodes::{Arguments, Node, NodeId};
 use c_types_operators::{CallTarget, TypeError};
 use c_types_table::TypeId;
 
@@ -88,7 +88,7 @@ fn arguments(
     from: u32,
     ids: &[ExprId],
     function: TypeId,
-) -> Result<NodeIds, TypeError>
+) -> Result<Arguments, TypeError>
     requires ids { AreExprs tree.now ids.now }
     requires function { function.0 < length env.old.table.types }
     ensures agrees { (xs : Exprs) → StandExprs tree.now ids.now xs →
@@ -103,7 +103,7 @@ fn arguments(
     }
     match env.parameter(function, ids.len()) {
         Some(_) => Err(TypeError::Rule(from, 9)),
-        None => Ok(NodeIds::from(values)),
+        None => Ok(Arguments::new(env.alloc(), values)?),
     }
 }
 

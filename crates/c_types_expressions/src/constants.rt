@@ -11,7 +11,7 @@ ghost use Rattle.c_syntax_laws.specs.Numbers.{IsNumber};
 
 use c_lexer::{Suffix, Text};
 use c_types_environment::Environment;
-use c_types_nodes::{Node, NodeId};
+use c_types_nodes::{Node, NodeId, Number};
 use c_types_operators::TypeError;
 use r2_num::IntKind;
 use std::alloc::AllocError;
@@ -63,7 +63,7 @@ pub fn number(
     ensures kept { KeepsAll env.old env.new }
 {
     let kind = number_kind(value, suffix, decimal);
-    Ok(env.add(Node::Constant(kind, i128::from(value)))?)
+    Ok(env.add(Node::Constant(kind, Number::from(value)))?)
 }
 
 /// A character (C11 6.4.4.4, 10).
@@ -71,7 +71,7 @@ pub fn character(env: &mut Environment, value: i8) -> Result<NodeId, TypeError>
     ensures agrees { Agrees (StandsAt env.new.table) (Fine (AValue (Constant I32 value))) result }
     ensures kept { KeepsAll env.old env.new }
 {
-    Ok(env.add(Node::Constant(IntKind::I32, i128::from(value)))?)
+    Ok(env.add(Node::Constant(IntKind::I32, Number::from(value)))?)
 }
 
 /// The object of a string, which stands at the offset.

@@ -13,7 +13,7 @@ ghost use Rattle.c_types_expressions.specs.Found.{Finds, IsType, Stays, size_not
 ghost use Rattle.c_types_expressions.specs.Pieces.{array_by, array_of, parameter as parameter_by_rules, size_constant, size_of_operand as size_of_operand_by_rules, sized as sized_by_rules};
 
 use c_types_environment::Environment;
-use c_types_nodes::{Node, NodeId};
+use c_types_nodes::{Node, NodeId, Number};
 use c_types_operators::TypeError;
 use c_types_table::{Ty, TypeId};
 use r2_num::IntKind;
@@ -40,7 +40,7 @@ pub fn size_of_type(env: &mut Environment, from: u32, ty: TypeId) -> Result<Node
     let Some(size) = env.size_of(ty) else {
         return Err(TypeError::Rule(from, 15));
     };
-    Ok(env.add(Node::Constant(IntKind::U64, i128::from(size)))?)
+    Ok(env.add(Node::Constant(IntKind::U64, Number::from(size)))?)
 }
 
 // The size of what an operand is, before it is converted.

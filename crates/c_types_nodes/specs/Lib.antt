@@ -3,3 +3,4 @@ pub mod Tables
 pub mod Forms
 pub mod Sorts
 pub mod Lists
+pub mod Numbers

@@ -60,7 +60,7 @@ impl TypedTable {
             IfSome result (IsValue k) }
     {
         match self.get(id) {
-            Node::Constant(_, value) => Some(*value),
+            Node::Constant(_, number) => Some(number.value()),
             Node::Convert(ty, value) => {
                 let value = self.constant_value(*value)?;
                 Some(wrap(kind_of(self.types(), *ty)?, value))

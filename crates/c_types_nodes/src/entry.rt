@@ -2,6 +2,7 @@
 
 use crate::node::Node;
 use c_types_table::TypeId;
+use std::mem::size_of;
 
 /// A node, and the type that what it stands for has before it is converted.
 #[derive(Drop)]
@@ -9,3 +10,6 @@ pub struct Entry {
     pub node: Node,
     pub ty: TypeId,
 }
+
+// A table of a large source is mostly nodes.
+const _: () = prove!(size_of::<Entry>() <= 32);

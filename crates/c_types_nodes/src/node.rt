@@ -1,6 +1,7 @@
 //! Typed nodes.
 
-use crate::ids::{NodeId, NodeIds};
+use crate::ids::{Arguments, NodeId};
+use crate::number::Number;
 use c_builtins::Builtin;
 use c_types_table::TypeId;
 use r2_num::{IntKind, Op};
@@ -71,7 +72,7 @@ pub enum Node {
     },
     /// The function that a pointer points to.
     Through(NodeId, TypeId),
-    Constant(IntKind, i128),
+    Constant(IntKind, Number),
     /// The address of a function of the source, which is named at this offset, with the function's type.
     FunctionAddress {
         from: u32,
@@ -123,7 +124,7 @@ pub enum Node {
     },
     CallOf {
         callee: NodeId,
-        arguments: NodeIds,
+        arguments: Arguments,
         result: TypeId,
     },
 }
