@@ -76,6 +76,7 @@ impl Backward {
         ensures { OnOk result (instrs.new.items ≡ instrs.old.items ++ self) }
     {
         let mut reversed = self.reversed;
+        instrs.reserve(reversed.len())?;
         while let Some(step) = reversed.pop() {
             instrs.push(step.instr())?;
         }
