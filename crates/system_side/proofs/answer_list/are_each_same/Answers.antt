@@ -1,6 +1,6 @@
 use Rattle.std.proofs.Common.{◌≡◌, get_or, sym, ap, ◌∙◌, arith}
 use Rattle.std.proofs.lemmas.List.{take_more_same}
-use Rattle.system_side.proofs.answer_list.are_same.Goals as goal
+use Rattle.system_side.proofs.answer_list.are_each_same.Goals as goal
 
 pub loop-at-preserved : goal.loop-at-preserved
 loop-at-preserved c =
