@@ -180,12 +180,23 @@ def mutexes_and_branches(size):
     )
 
 
+def cuts_before(size, step):
+    """Names of cuts before names of functions, which have bodies in steps of so many, or none where that is 0."""
+    count = min(FUNCTIONS, size // 60)
+    bodies = "".join(f"void x{number}(void) {{}}\n" for number in range(count) if step and number % step == 0)
+    lists = ",".join(["top"] + [f"c{number}" for number in range((size - 20 * count - len(bodies)) // 8)])
+    declared = ",".join(f"x{number}(void)" for number in range(count))
+    return f"[cut({lists})] void {declared};\n{bodies}" + END
+
+
 def cuts_before_functions(size):
     """Names of cuts before names of functions."""
-    count = min(FUNCTIONS, size // 60)
-    lists = ",".join(["top"] + [f"c{number}" for number in range((size - 20 * count) // 8)])
-    declared = ",".join(f"x{number}(void)" for number in range(count))
-    return f"[cut({lists})] void {declared};\n" + END
+    return cuts_before(size, 0)
+
+
+def cuts_before_bodies_in_turn(size):
+    """The same, where every second function has a body."""
+    return cuts_before(size, 2)
 
 
 def functions_that_name_each_other(size):
@@ -269,6 +280,7 @@ KINDS = [
     functions_that_need_all,
     mutexes_and_branches,
     cuts_before_functions,
+    cuts_before_bodies_in_turn,
     functions_that_name_each_other,
     functions_over_one_table,
     long_tag_of_globals,

@@ -13,6 +13,7 @@ mod Factors
 pub mod Saying
 pub mod Staying
 mod Finding
+mod Holding
 mod Apart
 mod Placing
 mod Beside

@@ -1,5 +1,5 @@
 -- What is known of declarations that share their annotations.
-use Rattle.std.proofs.Common.{◌≡◌, ◌<◌, ℕ, List, length, Option, Some, None, Ok, refl, sym, ap, subst}
+use Rattle.std.proofs.Common.{◌≡◌, ◌<◌, ℕ, List, length, Option, Some, None, Ok, refl, sym, subst}
 use Rattle.c_syntax.specs.declared.declaration.Decl.{Decl as DeclNode}
 use Rattle.c_syntax.specs.declared.id.DeclId.{DeclId}
 use Rattle.c_syntax.specs.Alike.{AreAlike, ShareSpecifiers}
@@ -8,7 +8,7 @@ use Rattle.c_syntax.specs.Stands.{StandAnnots, StandsDecl}
 use Rattle.c_syntax.specs.Syntax.{Decl, Declare}
 use Rattle.c_types_model.specs.Types.{CType, CTypes}
 use Rattle.c_types_rules.specs.Environment.{Environment}
-use Rattle.annot_reader_rules.specs.Functions.{FunctionKind as KnownKind, function_notes}
+use Rattle.annot_reader_rules.specs.Functions.{function_notes}
 use Rattle.annot_reader_words.specs.Answers.{Tells}
 use Rattle.annot_reader_functions.specs.declared.kind.FunctionKind.{FunctionKind}
 use Rattle.annot_reader_functions.specs.declared.known.Known.{Known}
@@ -37,6 +37,5 @@ module _ (N : Nodes) (cut : List ℕ) (i : DeclId) (k : FunctionKind) (notes : F
         let same : x ≡ e = (let there_too : decl_at N i ≡ Some x = subst (λ j. decl_at N j ≡ Some x) m.decl there in cc) in
         let d : Decl = Declare from an b ps n r in
         let stands : StandsDecl N i d = (e, at, f, subst (λ (y : DeclNode). StandAnnots N y.annots an) same s, base, parts, name, last) in
-        let told = subst (λ (j : KnownKind). Tells (IsNoted cut) (function_notes env j d t ts) (Ok notes)) (ap kind_in (sym m.kind)) (g d stands) in
-        known_says cut notes v m.in_cut m.cache m.holds env d t ts (m.words d stands) told,
+        known_says cut notes v m.in_cut m.cache m.holds env (kind_in k) d t ts m.main (m.words d stands) (g d stands),
   )

@@ -58,12 +58,18 @@ pub record IsBeside (cut : List ℕ) (n : Notes) (v : Known) : Type 0 where
   pub holds : v.holds ≡ map pos n.holds
   pub agree : (no_holds n.holds || is_empty n.cuts) ≡ true
 
--- annotations say this of a function of this kind, and of its parameters what those say that speak of them,
--- whatever these are; and none is out of place
+-- it is known of functions of this kind: where they have no body, no mutexes are held
+pub record IsKnownOf (v : Known) (k : FunctionKind) : Type 0 where
+  pub main : k.is_main ≡ v.is_main
+  pub body : k.has_body ≡ false → v.holds ≡ []
+
+-- annotations say this of the functions that it is known of, and of their parameters what those say that
+-- speak of them, whatever these are; and none is out of place
 abbrev pub SayBeside : (cut : List ℕ) → Annots → Known → Type 0
 SayBeside cut an v = Passes (bare_annots an) (Ok tt) × (v.words.items ≡ places_from 0 an) ×
-    ((n : Notes) × IsBeside cut n v × ((s : Signature) → all_noted an s (kind_in v.kind) nothing ≡
-    (all_noted (parameter_words an) s (kind_in v.kind) nothing >>= λ m. Fine (with_parameters n m))))
+    ((n : Notes) × IsBeside cut n v × ((s : Signature) (k : FunctionKind) → IsKnownOf v k →
+    all_noted an s (kind_in k) nothing ≡
+    (all_noted (parameter_words an) s (kind_in k) nothing >>= λ m. Fine (with_parameters n m))))
 
 abbrev pub annots_of : Decl → Annots
 annots_of (Declare from an b ps n r) = an
@@ -77,7 +83,7 @@ AreKnown N cut (Some v) = (v.decl.0 < length N.decls) × ((e : DeclNode) (an : A
 -- what is known of the annotations of this declaration of a function of this kind, where they say this
 pub record IsKept (N : Nodes) (i : DeclId) (k : FunctionKind) (n : FunctionNotes) (v : Known) : Type 0 where
   pub decl : v.decl ≡ i
-  pub kind : v.kind ≡ k
+  pub main : v.is_main ≡ k.is_main
   pub in_cut : v.in_cut ≡ n.in_cut
   pub cache : v.cache ≡ n.annots.cache
   pub holds : v.holds ≡ n.holds

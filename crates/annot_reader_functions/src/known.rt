@@ -11,7 +11,7 @@ ghost use Rattle.annot_reader_rules.specs.Regions.{Signature as Named};
 ghost use Rattle.annot_reader_words.specs.Answers.{Passes, Tells};
 ghost use Rattle.annot_reader_words.specs.Shown.{IsDecl};
 ghost use Rattle.annot_reader_functions.specs.First.{bare_besides as bare_besides_of};
-ghost use Rattle.annot_reader_functions.specs.Known.{AreKnown, IsBeside, IsKept, SayBeside, annots_of, parameter_words, places_from, with_parameters};
+ghost use Rattle.annot_reader_functions.specs.Known.{AreKnown, IsBeside, IsKept, IsKnownOf, SayBeside, annots_of, parameter_words, places_from, with_parameters};
 ghost use Rattle.annot_reader_functions.specs.Parameters.{AreRead, AreTypes};
 ghost use Rattle.annot_reader_functions.specs.Rules.{IsTypeName, Stays};
 ghost use Rattle.annot_reader_functions.specs.Sayings.{AreSaid, IsNoted, IsSaid, kind_in};
@@ -32,12 +32,13 @@ use c_syntax::{DeclId, Seq, SharedSeq, Tree};
 use c_types_environment::Environment;
 use std::alloc::{AllocError, Global};
 
-/// What the annotations of a declaration say of a function of this kind beside what they say of its parameters, where a cut is looked
-/// for.
+/// What the annotations of a declaration say of a function beside what they say of its parameters, where a cut is looked for. Where no
+/// mutexes are held, they say the same of functions with and without a body.
 #[derive(Drop)]
 pub struct Known {
     pub decl: DeclId,
-    pub kind: FunctionKind,
+    /// They stand at the function where a program begins.
+    pub is_main: bool,
     /// It is in the interface of the cut.
     pub in_cut: bool,
     /// Equal results are written once.
@@ -53,10 +54,10 @@ fn is_said_too(tree: &Tree, said: &Known, id: DeclId, kind: FunctionKind) -> boo
     requires one { said.now.decl.0 < length tree.now.decls }
     requires other { id.0 < length tree.now.decls }
     ensures share { result ≡ true → ShareSpecifiers tree.now.decls said.now.decl id }
-    ensures kind { result ≡ true → kind_in said.now.kind ≡ kind_in kind }
+    ensures kind { result ≡ true → IsKnownOf said.now kind }
 {
-    said.kind.is_main == kind.is_main
-        && said.kind.has_body == kind.has_body
+    said.is_main == kind.is_main
+        && (kind.has_body || said.holds.as_slice().is_empty())
         && tree.share_specifiers(said.decl, id)
 }
 
@@ -74,7 +75,7 @@ fn known_by(
     let words = parameter_places(alloc, decl_node(tree, id).annots.as_slice())?;
     Ok(Known {
         decl: id,
-        kind,
+        is_main: kind.is_main,
         in_cut: notes.in_cut,
         cache: notes.annots.cache,
         holds: notes.holds.share()?,
@@ -148,10 +149,11 @@ fn notes_by(
     requires result { prototype.now.result.0 < length (declared_by env.old).types }
     requires params { AreTypes (declared_by env.old) prototype.now.params.now }
     requires count { length prototype.now.params.now ≤ 256 }
+    requires kind { IsKnownOf known.now prototype.now.kind }
     requires says { (d : Declaration) → StandsDecl tree.now id d →
         SayBeside cut.now (annots_of d) known.now }
     ensures agrees { (d : Declaration) → StandsDecl tree.now id d →
-        Tells (IsNoted cut.now) (function_by_rules (declared_by env.old).env (kind_in known.now.kind) d
+        Tells (IsNoted cut.now) (function_by_rules (declared_by env.old).env (kind_in prototype.now.kind) d
         (at (declared_by env.old).types prototype.now.result)
         (all_at (declared_by env.old).types prototype.now.params.now)) result }
     ensures kept { OnOk result (Stays (declared_by env.old) (declared_by env.new)) }
@@ -161,7 +163,7 @@ fn notes_by(
     let signature = signature_of(alloc, env, tree, own, prototype)?;
     let subject = Subject {
         signature: &signature,
-        kind: known.kind,
+        kind: prototype.kind,
         cut,
     };
     let said = words_again(alloc, env, tree, id, &subject, known.words.as_slice())?;

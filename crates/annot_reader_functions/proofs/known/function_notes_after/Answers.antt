@@ -1,10 +1,7 @@
 use Rattle.std.proofs.Common.{subst}
 use Rattle.c_types_expressions.proofs.Constructs.{decl_inside}
 use Rattle.c_types_table.specs.Tables.{all_at, at}
-use Rattle.annot_reader_rules.specs.Functions.{FunctionKind, function_notes}
-use Rattle.annot_reader_words.specs.Answers.{Tells}
 use Rattle.annot_reader_functions.specs.Known.{AreKnown}
-use Rattle.annot_reader_functions.specs.Sayings.{IsNoted}
 use Rattle.annot_reader_functions.specs.Seen.{declared_by}
 use Rattle.annot_reader_functions.proofs.Composed.{is_decl}
 use Rattle.annot_reader_functions.proofs.Sharing.{known_now, says_too}
@@ -19,12 +16,8 @@ notes_by-requires-clause-says c = λ d h.
     let cut = c.args.cut.now in
     says_too N cut c.in-Some.said c.args.id d (subst (AreKnown N cut) c.in-Some.is c.requires.known) (c.is_said_too.ensures.share c.if-is_said_too.true) h
 
-pub returns-then-is_said_too-clause-agrees : goal.returns-then-is_said_too-clause-agrees
-returns-then-is_said_too-clause-agrees c = λ d h.
-    let before = declared_by c.args.env.now in
-    let p = c.args.prototype.now in
-    subst (λ (k : FunctionKind). Tells (IsNoted c.args.cut.now) (function_notes before.env k d (at before.types p.result) (all_at before.types p.params.now)) c.notes_by.result) (c.is_said_too.ensures.kind c.if-is_said_too.true)
-    (c.notes_by.ensures.agrees d h)
+pub notes_by-requires-clause-kind : goal.notes_by-requires-clause-kind
+notes_by-requires-clause-kind c = c.is_said_too.ensures.kind c.if-is_said_too.true
 
 pub known_by-requires : goal.known_by-requires
 known_by-requires c = is_decl c.args.tree.now c.args.id c.requires.id

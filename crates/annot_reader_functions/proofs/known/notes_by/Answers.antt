@@ -50,8 +50,8 @@ returns-in_err-bare_besides-clause-agrees c = λ d h.
     let w = c.args.known.now in
     let cut = c.args.cut.now in
     let e = c.in_err-bare_besides.field-0.0 in
-    raised (IsNoted cut) (function_notes before.env (kind_in w.kind) d (at before.types p.result) (all_at before.types p.params.now)) c.from_residual.result e c.from_residual.ensures.1
-    (breaks_besides cut before.env d (at before.types p.result) (all_at before.types p.params.now) w (c.requires.says d h) e (c.in_err-bare_besides.ensures d h))
+    raised (IsNoted cut) (function_notes before.env (kind_in p.kind) d (at before.types p.result) (all_at before.types p.params.now)) c.from_residual.result e c.from_residual.ensures.1
+    (breaks_besides cut before.env d (at before.types p.result) (all_at before.types p.params.now) w (c.requires.says d h) p.kind c.requires.kind e (c.in_err-bare_besides.ensures d h))
 
 pub returns-in_err-said-clause-agrees : goal.returns-in_err-said-clause-agrees
 returns-in_err-said-clause-agrees c = λ d h.
@@ -65,8 +65,8 @@ returns-in_err-said-clause-agrees c = λ d h.
     let own = own_stand N c.decl_node.result.now c.split_parts.result.1.now d (c.decl_node.ensures.shows d h) (λ ps s. c.split_parts.ensures.own N ps (subst (λ vs. StandParts N vs ps) (sym c.as_slice.ensures.items) s)) in
     let known = c.in_ok-signature.ensures.known (own_of d) own in
     let e = c.in_err-said.field-0.0 in
-    raised (IsNoted cut) (function_notes before.env (kind_in w.kind) d t ts) c.from_residual-in_err-said.result e c.from_residual-in_err-said.ensures.1
-    (breaks_words cut before.env d t ts w (c.requires.says d h) (c.in_ok-bare_besides.ensures d h) e (c.in_err-said.ensures.agrees d (signature_with before.env (own_of d) t ts) h known))
+    raised (IsNoted cut) (function_notes before.env (kind_in p.kind) d t ts) c.from_residual-in_err-said.result e c.from_residual-in_err-said.ensures.1
+    (breaks_words cut before.env d t ts w (c.requires.says d h) p.kind c.requires.kind (c.in_ok-bare_besides.ensures d h) e (c.in_err-said.ensures.agrees d (signature_with before.env (own_of d) t ts) h known))
 
 pub returns-in_err-params-clause-agrees : goal.returns-in_err-params-clause-agrees
 returns-in_err-params-clause-agrees c = λ d h.
@@ -82,8 +82,8 @@ returns-in_err-params-clause-agrees c = λ d h.
     let own = own_stand N c.decl_node.result.now c.split_parts.result.1.now d (c.decl_node.ensures.shows d h) (λ ps s. c.split_parts.ensures.own N ps (subst (λ vs. StandParts N vs ps) (sym c.as_slice.ensures.items) s)) in
     let known = c.in_ok-signature.ensures.known (own_of d) own in
     let e = c.in_err-params.field-0.0 in
-    raised (IsNoted cut) (function_notes before.env (kind_in w.kind) d t ts) c.from_residual-in_err-params.result e c.from_residual-in_err-params.ensures.1
-    (breaks_last cut before.env d t ts w (c.requires.says d h) (c.in_ok-bare_besides.ensures d h) c.in_ok-said.said (c.in_ok-said.ensures.agrees d S h known) e
+    raised (IsNoted cut) (function_notes before.env (kind_in p.kind) d t ts) c.from_residual-in_err-params.result e c.from_residual-in_err-params.ensures.1
+    (breaks_last cut before.env d t ts w (c.requires.says d h) p.kind c.requires.kind (c.in_ok-bare_besides.ensures d h) c.in_ok-said.said (c.in_ok-said.ensures.agrees d S h known) e
     (subst (λ us. Tells AreIn (all_parameters (own_of d) (within S (inner S.env)) 0 us) (Err e)) (all_at_stay before later p.params.now c.in_ok-said.ensures.kept c.requires.params)
     (c.in_err-params.ensures.agrees (own_of d) S own (known_stays _ _ _ S c.in_ok-said.ensures.kept.env known))))
 
@@ -101,7 +101,7 @@ returns-clause-agrees c = λ d h.
     let own = own_stand N c.decl_node.result.now c.split_parts.result.1.now d (c.decl_node.ensures.shows d h) (λ ps s. c.split_parts.ensures.own N ps (subst (λ vs. StandParts N vs ps) (sym c.as_slice.ensures.items) s)) in
     let known = c.in_ok-signature.ensures.known (own_of d) own in
     let says = c.requires.says d h in
-    says_all cut before.env d t ts w says (c.in_ok-bare_besides.ensures d h) c.in_ok-said.said (c.in_ok-said.ensures.agrees d S h known) c.in_ok-params.params c.in_ok-with_said.field-0
+    says_all cut before.env d t ts w says p.kind c.requires.kind (c.in_ok-bare_besides.ensures d h) c.in_ok-said.said (c.in_ok-said.ensures.agrees d S h known) c.in_ok-params.params c.in_ok-with_said.field-0
     (subst (λ us. Tells AreIn (all_parameters (own_of d) (within S (inner S.env)) 0 us) (Ok c.in_ok-params.params)) (all_at_stay before later p.params.now c.in_ok-said.ensures.kept c.requires.params)
     (c.in_ok-params.ensures.agrees (own_of d) S own (known_stays _ _ _ S c.in_ok-said.ensures.kept.env known)))
     (λ m ps i j. c.in_ok-with_said.ensures cut says.2.0 m ps says.2.1 i j)
