@@ -55,8 +55,8 @@ static int races_of(const char *word, long count) {
     for (long round = 0; round < count; round++) {
         int thread, write, makes = round % 8192 == 8191, next = 0;
         uint64_t addr;
-        if (word[0] == 'o') {
-            thread = round % 4, write = round % 8 < 4, makes = 0;
+        if (word[0] == 'o' || word[0] == 'l') {
+            thread = round % 4, write = word[0] == 'o' ? round % 8 < 4 : round % 512 < 256, makes = 0;
             addr = 0x20000000 + 0x10000ul * thread + 8 * (round / 4 % 64);
         } else if (word[0] == 't') {
             thread = round / 64 % 4, write = round % 2 == 0, makes = round % 64 == 63, next = 1;
@@ -67,6 +67,9 @@ static int races_of(const char *word, long count) {
         } else if (word[0] == 'w') {
             thread = round / 65536 % 4, write = 1, makes = round % 65536 == 65535, next = 1;
             addr = 0x10000000 + 8 * (round % 65536);
+        } else if (word[0] == 'b') {
+            thread = round / 8192 % 4, write = round / 32768 % 2 == 0, next = 1;
+            addr = 0x10000000 + 8 * (round % 8192);
         } else {
             thread = round / 8192 % 4, write = 0;
             addr = (word[0] == 'c' ? 0x100000 : 0x10000000) + 8 * (round % 8192);

@@ -1,9 +1,9 @@
 //! A program to be timed: the clocks of a million events, and a watch over ten million accesses.
 //!
 //! The first word says which: `clocks`, whose second word is how many different keys of each of two classes there are, or `events`, which
-//! tells a watch of the same events; or `own`, `turns`, `passes`, `reads`, `writes` or `constants` of a watch, whose second word is how many
-//! accesses there are. It prints the last clock and the sum of all tickets, which wraps, how many events there were, or how many races,
-//! which is none.
+//! tells a watch of the same events; or `own`, `locals`, `turns`, `passes`, `reads`, `writes`, `both` or `constants` of a watch, whose
+//! second word is how many accesses there are. It prints the last clock and the sum of all tickets, which wraps, how many events there
+//! were, or how many races, which is none.
 #![tactic(auto)]
 
 mod clocks;
@@ -18,10 +18,12 @@ use watch::{Case, over_events, over_watch};
 fn case_of(word: &str) -> Option<Case> {
     match word {
         "own" => Some(Case::Own),
+        "locals" => Some(Case::Locals),
         "turns" => Some(Case::Turns),
         "passes" => Some(Case::Passes),
         "reads" => Some(Case::Reads),
         "writes" => Some(Case::Writes),
+        "both" => Some(Case::Both),
         "constants" => Some(Case::Constants),
         _ => None,
     }

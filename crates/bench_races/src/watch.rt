@@ -13,6 +13,8 @@ use std::alloc::Global;
 pub enum Case {
     /// Each has two pages of its own stack, and makes no event.
     Own,
+    /// The same, but each writes and reads all of its bytes.
+    Locals,
     /// Turns of 64 accesses over four pages of globals, every second one a write, with two events between turns.
     Turns,
     /// Each has 64 KiB of its own stack, with an event after each pass over it.
@@ -21,6 +23,8 @@ pub enum Case {
     Reads,
     /// Each in turn writes the same 512 KiB of globals, with two events after each pass.
     Writes,
+    /// Each in turn writes the same 64 KiB of globals, and then each in turn reads them, with two events after each pass.
+    Both,
     /// All read the same 64 KiB of constants, with an event after each pass.
     Constants,
 }
@@ -47,6 +51,17 @@ fn access_of(case: Case, round: u32) -> Access
                 thread,
                 addr: 0x2000_0000 + 0x1_0000 * u64::from(thread) + 8 * slot,
                 write: round % 8 < 4,
+                event: false,
+                next: false,
+            }
+        }
+        Case::Locals => {
+            let thread = (round % 4) as u8;
+            let slot = u64::from(round / 4 % 64);
+            Access {
+                thread,
+                addr: 0x2000_0000 + 0x1_0000 * u64::from(thread) + 8 * slot,
+                write: round % 512 < 256,
                 event: false,
                 next: false,
             }
@@ -89,6 +104,16 @@ fn access_of(case: Case, round: u32) -> Access
                 addr: 0x1000_0000 + 8 * slot,
                 write: true,
                 event: round % 65_536 == 65_535,
+                next: true,
+            }
+        }
+        Case::Both => {
+            let slot = u64::from(round % 8192);
+            Access {
+                thread: (round / 8192 % 4) as u8,
+                addr: 0x1000_0000 + 8 * slot,
+                write: round / 32_768 % 2 == 0,
+                event: round % 8192 == 8191,
                 next: true,
             }
         }

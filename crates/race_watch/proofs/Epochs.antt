@@ -1,6 +1,6 @@
 -- The epochs of bytes.
-use Rattle.std.proofs.Common.{◌≡◌, ℕ, ◌+◌, ◌-◌, ◌*◌, ◌<◌, ◌≤◌, Bool, true, false, ◌&&◌, ◌||◌, cond, eqb, List, [], ◌∷◌, Option, Some, None, refl, sym, ap, ◌∙◌, subst, arith, eq-eqb, eqb-true}
-use Rattle.std.specs.Prelude.{nat_lt, nat_le, not, slice_index, map, unwrap_or}
+use Rattle.std.proofs.Common.{◌≡◌, ℕ, ◌+◌, ◌-◌, ◌*◌, ◌<◌, ◌≤◌, Bool, true, false, ◌&&◌, ◌||◌, cond, eqb, List, [], ◌∷◌, Option, Some, None, ◌⊎◌, inl, inr, ⊎_elim, refl, sym, ap, ◌∙◌, subst, arith, eq-eqb, eqb-true}
+use Rattle.std.specs.Prelude.{nat_lt, nat_le, not, max, slice_index, map, unwrap_or}
 use Rattle.std.specs.List.{range_with_len}
 use Rattle.std.proofs.lemmas.Bool.{and_parts}
 use Rattle.std.proofs.lemmas.Bool.Decides.{nat_tests}
@@ -12,37 +12,36 @@ use Rattle.race_watch_pages.specs.declared.pages.Pages.{Pages}
 use Rattle.race_watch.specs.declared.bytes.Bytes.{Bytes}
 use Rattle.race_watch.specs.declared.tables.Tables.{Tables}
 use Rattle.race_watch.specs.Cells.{cell_of, base_of, IsPart}
-use Rattle.race_watch.specs.Tables.{at, at_cell, listed, listed_cell, cells_of, AreTables, IsPut}
+use Rattle.race_watch.specs.Tables.{at, entry, entry_cell, listed, listed_entry, listed_cell, cells_of, AreTables, IsPut}
 
--- a epoch is that of a cell
-pub at_some : (t : Tables) (w : Bool) (u x c : ℕ) → cell_of x ≡ Some c → u < t.threads → at t w u x ≡ kept t.epochs (base_of u w + c)
-at_some t w u x c e lt = ap (at_cell t w u) e ∙ ap (λ b. cond b (kept t.epochs (base_of u w + c)) 0) is
-  where
-    is : nat_lt u t.threads ≡ true
-    is = grind (arith, nat_tests, lt)
-
-pub at_none : (t : Tables) (w : Bool) (u x : ℕ) → t.threads ≤ u → at t w u x ≡ 0
-at_none t w u x le = go (cell_of x)
+entry_none : (t : Tables) (w : Bool) (u x : ℕ) → t.threads ≤ u → entry t w u x ≡ 0
+entry_none t w u x le = go (cell_of x)
   where
     not_lt : nat_lt u t.threads ≡ false
     not_lt = grind (arith, nat_tests, le)
 
-    go : (o : Option ℕ) → at_cell t w u o ≡ 0
+    go : (o : Option ℕ) → entry_cell t w u o ≡ 0
     go None = refl
     go (Some c) = ap (λ b. cond b (kept t.epochs (base_of u w + c)) 0) not_lt
 
 -- only threads that there are have epochs
-pub known_thread : (t : Tables) (w : Bool) (u x n : ℕ) → n < at t w u x → u < t.threads
-known_thread t w u x n lt = go (nat_lt u t.threads) refl
+thread_of : (t : Tables) (w : Bool) (u x n : ℕ) → n < entry t w u x → u < t.threads
+thread_of t w u x n lt = go (nat_lt u t.threads) refl
   where
     go : (b : Bool) → nat_lt u t.threads ≡ b → u < t.threads
     go true e = grind (arith, nat_tests)
-    go false e = let le : t.threads ≤ u = grind (arith, nat_tests) in absurd (omega (arith, lt, at_none t w u x le))
+    go false e = let le : t.threads ≤ u = grind (arith, nat_tests) in absurd (omega (arith, lt, entry_none t w u x le))
 
--- all cells of some bytes have something, where those of its part have
-pub each_cell : (P : ℕ → Type 0) (t : Tables) (w : Bool) (u : ℕ) (b : Bytes) → IsPart b → u < t.threads → ((c : ℕ) → base_of u w + b.cell ≤ c → c < base_of u w + b.cell + (b.to - b.from) → P (kept t.epochs c)) → (x : ℕ) → b.from ≤ x → x < b.to → P (at t w u x)
-each_cell P t w u b p lt each x lo hi =
-    subst P (sym (at_some t w u x (b.cell + (x - b.from)) (p.cells x lo hi) lt)) (each (base_of u w + (b.cell + (x - b.from))) (omega (arith, lo)) (omega (arith, lo, hi)))
+either : (n a b : ℕ) → n < max a b → (n < a) ⊎ (n < b)
+either n a b lt = go (nat_lt n a) refl
+  where
+    go : (v : Bool) → nat_lt n a ≡ v → (n < a) ⊎ (n < b)
+    go true e = inl (grind (arith, nat_tests))
+    go false e = let le : a ≤ n = grind (arith, nat_tests) in inr (omega (arith, lt, le))
+
+pub known_thread : (t : Tables) (w : Bool) (u x n : ℕ) → n < at t w u x → u < t.threads
+known_thread t true u x n lt = ⊎_elim (thread_of t true u x n) (thread_of t false u x n) (either n (entry t true u x) (entry t false u x) lt)
+known_thread t false u x n lt = thread_of t false u x n lt
 
 -- one byte is that of a cell
 
@@ -91,17 +90,21 @@ pub data InArea (x : ℕ) : Type 0 where
   in_stacks : 0x20000000 ≤ x → x < 0x20200000 → InArea x
   in_pool : 0x30000000 ≤ x → x < 0x30100000 → InArea x
 
-pub known_area : (t : Tables) (w : Bool) (u x n : ℕ) → n < at t w u x → InArea x
-known_area t w u x n lt = go (cell_of x) refl lt
+area_of : (t : Tables) (w : Bool) (u x n : ℕ) → n < entry t w u x → InArea x
+area_of t w u x n lt = go (cell_of x) refl lt
   where
     at_area : (c : ℕ) → Lies x c → InArea x
     at_area c (globals a b d) = in_globals a b
     at_area c (stacks a b d) = in_stacks a b
     at_area c (pool a b d) = in_pool a b
 
-    go : (o : Option ℕ) → cell_of x ≡ o → n < at_cell t w u o → InArea x
+    go : (o : Option ℕ) → cell_of x ≡ o → n < entry_cell t w u o → InArea x
     go None e l = absurd (omega (arith, l))
     go (Some c) e l = at_area c (lies x c e)
+
+pub known_area : (t : Tables) (w : Bool) (u x n : ℕ) → n < at t w u x → InArea x
+known_area t true u x n lt = ⊎_elim (area_of t true u x n) (area_of t false u x n) (either n (entry t true u x) (entry t false u x) lt)
+known_area t false u x n lt = area_of t false u x n lt
 
 -- no epoch is that of a constant
 pub no_constant : (x : ℕ) → InArea x → is_constant x ≡ false
@@ -173,9 +176,9 @@ cell_is b t u x c w k p e = bools (nat_le (base_of t k + b.cell) (base_of u w + 
         let base : base_of t k ≡ base_of u w = ap (λ n. base_of n k) (eqb-true t u a.0) ∙ ap (base_of u) (sym (is_alike w k d.0)) in
         within (base_of t k + b.cell) (base_of t k + b.cell + (b.to - b.from)) (base_of u w + c) (omega (arith, base, cell)) (omega (arith, base, cell, l.0, l.1))
 
--- the epochs after one kind of a thread's cells was filled
+-- the entries after one kind of a thread's cells was filled
 pub filled_at : (old new : Tables) (b : Bytes) (t epoch : ℕ) (k : Bool) → IsPart b → t < old.threads → new.threads ≡ old.threads → ((c : ℕ) → kept new.epochs c ≡ cond (nat_le (base_of t k + b.cell) c && nat_lt c (base_of t k + b.cell + (b.to - b.from))) epoch (kept old.epochs c))
-    → (w : Bool) (u x : ℕ) → at new w u x ≡ cond (eqb t u && (alike w k && (nat_le b.from x && nat_lt x b.to))) epoch (at old w u x)
+    → (w : Bool) (u x : ℕ) → entry new w u x ≡ cond (eqb t u && (alike w k && (nat_le b.from x && nat_lt x b.to))) epoch (entry old w u x)
 filled_at old new b t epoch k p lt same fill w u x = go (cell_of x) refl
   where
     unless : (a : Bool) (n : ℕ) → (a ≡ true → ⊥) → n ≡ cond a epoch n
@@ -190,7 +193,7 @@ filled_at old new b t epoch k p lt same fill w u x = go (cell_of x) refl
         let le : old.threads ≤ u = grind (arith, nat_tests) in
         omega (arith, le, is, lt))
 
-    go : (o : Option ℕ) → cell_of x ≡ o → at_cell new w u o ≡ cond (eqb t u && (alike w k && (nat_le b.from x && nat_lt x b.to))) epoch (at_cell old w u o)
+    go : (o : Option ℕ) → cell_of x ≡ o → entry_cell new w u o ≡ cond (eqb t u && (alike w k && (nat_le b.from x && nat_lt x b.to))) epoch (entry_cell old w u o)
     go None e = unless (eqb t u && (alike w k && (nat_le b.from x && nat_lt x b.to))) 0 (λ h.
         let a = and_parts (eqb t u) (alike w k && (nat_le b.from x && nat_lt x b.to)) h in
         let d = and_parts (alike w k) (nat_le b.from x && nat_lt x b.to) a.1 in
@@ -199,18 +202,18 @@ filled_at old new b t epoch k p lt same fill w u x = go (cell_of x) refl
         absurd cc)
     go (Some c) e = ap (λ n. cond (nat_lt u n) (kept new.epochs (base_of u w + c)) 0) same ∙ some c (nat_lt u old.threads) e refl
 
--- a read, and a write
-pub put_read : (a b : Bool) (w : Bool) (m n v : ℕ) → v ≡ cond (a && (alike w true && b)) m n → v ≡ cond (a && ((w || false) && b)) m n
-put_read a b true m n v e = e
-put_read a b false m n v e = e
-
-pub put_write : (a b : Bool) (w : Bool) (m n v r : ℕ) → v ≡ cond (a && (alike w true && b)) m n → r ≡ cond (a && (alike w false && b)) m v → r ≡ cond (a && ((w || true) && b)) m n
-put_write true true true m n v r e f = f ∙ e
-put_write true true false m n v r e f = f
-put_write true false true m n v r e f = f ∙ e
-put_write true false false m n v r e f = f ∙ e
-put_write false b true m n v r e f = f ∙ e
-put_write false b false m n v r e f = f ∙ e
+-- a read or a write that is no earlier than any access of the thread is its last one
+put_newest : (write w a b : Bool) (n r v r0 v0 : ℕ) → r ≡ cond (a && (alike true (not write) && b)) n r0 → v ≡ cond (a && (alike false (not write) && b)) n v0 → ((a && b) ≡ true → max r0 v0 ≤ n) → cond w (max r v) v ≡ cond (a && ((w || write) && b)) n (cond w (max r0 v0) v0)
+put_newest true true true true n r v r0 v0 e f h = let k = h refl in omega (arith, e, f, k)
+put_newest true false true true n r v r0 v0 e f h = f
+put_newest false true true true n r v r0 v0 e f h = let k = h refl in omega (arith, e, f, k)
+put_newest false false true true n r v r0 v0 e f h = f
+put_newest true true true false n r v r0 v0 e f h = omega (arith, e, f)
+put_newest true false true false n r v r0 v0 e f h = f
+put_newest false true true false n r v r0 v0 e f h = omega (arith, e, f)
+put_newest false false true false n r v r0 v0 e f h = f
+put_newest write true false b n r v r0 v0 e f h = omega (arith, e, f)
+put_newest write false false b n r v r0 v0 e f h = f
 
 -- the list of all epochs
 
@@ -222,9 +225,9 @@ pub cells_same : (old new : Tables) → size new.epochs ≡ size old.epochs → 
 unfolding cells_of
 cells_same old new s h = ap (λ n. map (kept new.epochs) (range_with_len 0 (256 * n))) s ∙ map_same (kept new.epochs) (kept old.epochs) (range_with_len 0 (256 * size old.epochs)) h
 
-pub listed_is : (t : Tables) (w : Bool) (u x : ℕ) → AreTables t → listed (cells_of t) w u x ≡ at t w u x
+entry_is : (t : Tables) (w : Bool) (u x : ℕ) → AreTables t → listed_entry (cells_of t) w u x ≡ entry t w u x
 unfolding cells_of
-listed_is t w u x h = go (cell_of x) refl
+entry_is t w u x h = go (cell_of x) refl
   where
     small : (w : Bool) (c : ℕ) → c < 0x400000 → u < t.threads → base_of u w + c < 256 * size t.epochs
     small true c l lt = omega (arith, l, lt, h.size)
@@ -240,23 +243,41 @@ listed_is t w u x h = go (cell_of x) refl
         let le : t.threads ≤ u = grind (arith, nat_tests) in
         get_or_past (map (kept t.epochs) (range_with_len 0 (256 * size t.epochs))) (base_of u w + c) 0 (omega (arith, length-map-range_with_len (kept t.epochs) 0 (256 * size t.epochs), large w c le))
 
-    go : (o : Option ℕ) → cell_of x ≡ o → listed_cell (map (kept t.epochs) (range_with_len 0 (256 * size t.epochs))) w u o ≡ at_cell t w u o
+    go : (o : Option ℕ) → cell_of x ≡ o → listed_cell (map (kept t.epochs) (range_with_len 0 (256 * size t.epochs))) w u o ≡ entry_cell t w u o
     go None e = refl
     go (Some c) e = some c (nat_lt u t.threads) e refl
 
-pub filled_by : (old : Tables) (new : Pages) (mid : ℕ → ℕ) (b : Bytes) (t epoch : ℕ) (k : Bool) (r : ℕ) → IsPart b → t < old.threads → r ≡ base_of t k → ((c : ℕ) → kept new c ≡ cond (nat_le (r + b.cell) c && nat_lt c (r + b.cell + (b.to - b.from))) epoch (mid c)) → ((c : ℕ) → mid c ≡ kept old.epochs c)
-    → (w : Bool) (u x : ℕ) → at (record { threads = old.threads; used = old.used; epochs = new }) w u x ≡ cond (eqb t u && (alike w k && (nat_le b.from x && nat_lt x b.to))) epoch (at old w u x)
-filled_by old new mid b t epoch k r p lt is fill same =
-    filled_at old (record { threads = old.threads; used = old.used; epochs = new }) b t epoch k p lt refl (λ c. fill c ∙ ap (λ n. cond (nat_le (n + b.cell) c && nat_lt c (n + b.cell + (b.to - b.from))) epoch (mid c)) is ∙ ap (cond (nat_le (base_of t k + b.cell) c && nat_lt c (base_of t k + b.cell + (b.to - b.from))) epoch) (same c))
+pub listed_is : (t : Tables) (w : Bool) (u x : ℕ) → AreTables t → listed (cells_of t) w u x ≡ at t w u x
+listed_is t true u x h = ap (λ n. max n (listed_entry (cells_of t) false u x)) (entry_is t true u x h) ∙ ap (max (entry t true u x)) (entry_is t false u x h)
+listed_is t false u x h = entry_is t false u x h
+
+-- the last accesses after one kind of a thread's cells was filled
+pub put_by : (old : Tables) (used : ℕ) (new : Pages) (mid : ℕ → ℕ) (b : Bytes) (t epoch : ℕ) (write : Bool) (r : ℕ) → IsPart b → t < old.threads → ((x : ℕ) → at old true t x ≤ epoch) → r ≡ base_of t (not write) → ((c : ℕ) → kept new c ≡ cond (nat_le (r + b.cell) c && nat_lt c (r + b.cell + (b.to - b.from))) epoch (mid c)) → ((c : ℕ) → mid c ≡ kept old.epochs c)
+    → IsPut b t write epoch (at old) (at (record { threads = old.threads; used = used; epochs = new }))
+put_by old used new mid b t epoch write r p lt before is fill same w u x =
+    put_newest write w (eqb t u) (nat_le b.from x && nat_lt x b.to) epoch (entry after true u x) (entry after false u x) (entry old true u x) (entry old false u x) (filled true) (filled false) own
+  where
+    after : Tables
+    after = record { threads = old.threads; used = used; epochs = new }
+
+    filled : (k : Bool) → entry after k u x ≡ cond (eqb t u && (alike k (not write) && (nat_le b.from x && nat_lt x b.to))) epoch (entry old k u x)
+    filled k = filled_at old after b t epoch (not write) p lt refl (λ c. fill c ∙ ap (λ n. cond (nat_le (n + b.cell) c && nat_lt c (n + b.cell + (b.to - b.from))) epoch (mid c)) is ∙ ap (cond (nat_le (base_of t (not write) + b.cell) c && nat_lt c (base_of t (not write) + b.cell + (b.to - b.from))) epoch) (same c)) k u x
+
+    own : (eqb t u && (nat_le b.from x && nat_lt x b.to)) ≡ true → at old true u x ≤ epoch
+    own e = subst (λ y. at old true y x ≤ epoch) (eqb-true t u (and_parts (eqb t u) (nat_le b.from x && nat_lt x b.to) e).0) (before x)
 
 -- ---- threads that made no access
 
-at_same : (old new : Tables) → new.threads ≡ old.threads → ((c : ℕ) → kept new.epochs c ≡ kept old.epochs c) → (w : Bool) (u x : ℕ) → at new w u x ≡ at old w u x
-at_same old new threads same w u x = go (cell_of x)
+entry_same : (old new : Tables) → new.threads ≡ old.threads → ((c : ℕ) → kept new.epochs c ≡ kept old.epochs c) → (w : Bool) (u x : ℕ) → entry new w u x ≡ entry old w u x
+entry_same old new threads same w u x = go (cell_of x)
   where
-    go : (o : Option ℕ) → at_cell new w u o ≡ at_cell old w u o
+    go : (o : Option ℕ) → entry_cell new w u o ≡ entry_cell old w u o
     go None = refl
     go (Some c) = ap (λ n. cond (nat_lt u n) (kept new.epochs (base_of u w + c)) 0) threads ∙ ap (λ n. cond (nat_lt u old.threads) n 0) (same (base_of u w + c))
+
+at_same : (old new : Tables) → new.threads ≡ old.threads → ((c : ℕ) → kept new.epochs c ≡ kept old.epochs c) → (w : Bool) (u x : ℕ) → at new w u x ≡ at old w u x
+at_same old new threads same true u x = ap (λ n. max n (entry new false u x)) (entry_same old new threads same true u x) ∙ ap (max (entry old true u x)) (entry_same old new threads same false u x)
+at_same old new threads same false u x = entry_same old new threads same false u x
 
 -- more threads may be used
 pub still_unused : (old new : Tables) → AreTables old → new.threads ≡ old.threads → old.used ≤ new.used → ((c : ℕ) → kept new.epochs c ≡ kept old.epochs c) → (w : Bool) (u x : ℕ) → new.used ≤ u → at new w u x ≡ 0

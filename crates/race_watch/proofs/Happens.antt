@@ -134,7 +134,6 @@ reached_first w n le h m r s z =
       past = [];
       stands = h;
       quiet = λ write t u x ne k small lt. nothing write;
-      ordered = λ u x. omega (arith, z false u x);
       few_events = omega (arith, h.events);
       width = omega (arith, ap length m, length-replicate {A = ℕ} n 0, r.long);
       few = omega (arith, r.long);

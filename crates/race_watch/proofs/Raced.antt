@@ -1,5 +1,5 @@
 -- A race with what was seen is a race with what was told.
-use Rattle.std.proofs.Common.{◌≡◌, ℕ, suc, zero, ◌<◌, ◌≤◌, Bool, true, List, [], ◌∷◌, ◌+◌, ◌^◌, length, get_or, ◌⊎◌, inl, inr, ⊎_elim, refl, sym, ap, ◌∙◌, subst, arith, eqb-true}
+use Rattle.std.proofs.Common.{◌≡◌, ℕ, suc, zero, ◌<◌, ◌≤◌, Bool, true, List, [], ◌∷◌, ◌+◌, ◌^◌, length, get_or, ◌⊎◌, inl, inr, ⊎_elim, refl, sym, ap, ◌∙◌, subst, arith}
 use Rattle.std.specs.Prelude.{slice_index}
 use Rattle.std.specs.List.{All}
 use Rattle.std.proofs.lemmas.Bool.Decides.{nat_tests}
@@ -119,6 +119,13 @@ is_race past w t a addr other h r e ts lt is f =
 pub no_race : (past : List Told) (w : WatchState) (t : Tables) (a : Tested) → Stands past w → Reached w → w.epochs ≡ cells_of t → AreTables t → a.thread < length w.rows → a.known.now ≡ get_or w.rows a.thread [] → ((x u : ℕ) → IsInRange a.range x → HasHit a w.seen x u ⊎ HasEpoch a (at t) x u → ⊥) → NoRace past a.thread a.range a.write
 no_race past w t a h r e ts lt is f = λ x u i v. f x u i (hit_at w.seen t past a x u (known_of past w a h lt is) (keeps_of past w t h r e ts) i.2 v)
 
+-- no epoch of a thread is after its place
+pub own_epochs : (w : WatchState) (ts : Tables) (t n : ℕ) → Reached w → w.epochs ≡ cells_of ts → AreTables ts → t < length w.made → n ≡ slice_index w.made t → (x : ℕ) → at ts true t x ≤ n + 1
+own_epochs w ts t n r e k lm is x =
+    let l = keeps_of r.past w ts r.stands r e k in
+    let m : at ts true t x ≤ last true t x r.past = subst (λ y. y ≤ last true t x r.past) (listed_is ts true t x k) (l.is.below true t x) in
+    omega (arith, m, last_place true t x r.past, is, r.stands.made t lm)
+
 -- where the thread's own epochs stand at its place, there is no race
 pub settled_no_race : (past : List Told) (w : WatchState) (ts : Tables) (t : ℕ) (range : Range) (write : Bool) (n : ℕ) → Stands past w → Reached w → w.epochs ≡ cells_of ts → AreTables ts → t < length w.rows → t < length w.made → n ≡ slice_index w.made t → ((x : ℕ) → covers range x ≡ true → at ts (not write) t x ≡ n + 1) → NoRace past t range write
 settled_no_race past w ts t range write n h r e k lt lm is all x u i v =
@@ -163,10 +170,14 @@ noted_listed : (old new : List Seen) (a b : Tables) (one : Seen) → AreTables a
 noted_listed old new a b one h k (inl p) = inl (p.0, λ w u x. listed_is b w u x k ∙ p.1 w u x ∙ sym (listed_is a w u x h))
 noted_listed old new a b one h k (inr p) = inr (p.0, λ w u x. listed_is b w u x k ∙ p.1 w u x ∙ ap (cond (eqb one.thread u && ((w || one.write) && covers one.range x)) (suc one.place)) (sym (listed_is a w u x h)))
 
+-- the last write is an access
+ordered : (epochs : List ℕ) (u x : ℕ) → listed epochs false u x ≤ listed epochs true u x
+ordered epochs u x = omega arith
+
 pub settled_stands : (past : List Told) (w : WatchState) (ts : Tables) (t : ℕ) (range : Range) (write : Bool) (n : ℕ) → Stands past w → Reached w → w.epochs ≡ cells_of ts → AreTables ts → t < length w.made → n ≡ slice_index w.made t → ((x : ℕ) → covers range x ≡ true → at ts (not write) t x ≡ n + 1) → Stands (Accessed t range write ∷ past) w
 settled_stands past w ts t range write n h r e k lt is all =
     by_put past w w.seen w.epochs t range write n h lt is
-    (inr (refl, settled_put past w.seen (listed w.epochs) t range write n (is ∙ h.made t lt) h.seen r.ordered (λ x c. ap (λ m. listed m (not write) t x) e ∙ listed_is ts (not write) t x k ∙ all x c)))
+    (inr (refl, settled_put past w.seen (listed w.epochs) t range write n (is ∙ h.made t lt) h.seen (ordered w.epochs) (λ x c. ap (λ m. listed m (not write) t x) e ∙ listed_is ts (not write) t x k ∙ all x c)))
 
 pub noted_stands : (past : List Told) (w : WatchState) (seen : List Seen) (a b : Tables) (t : ℕ) (range : Range) (write : Bool) (n : ℕ) → Stands past w → w.epochs ≡ cells_of a → AreTables a → AreTables b → t < length w.made → n ≡ slice_index w.made t → IsNoted w.seen seen (at a) (at b) (access t n range write) → Stands (Accessed t range write ∷ past) (record w { seen = seen; epochs = cells_of b })
 noted_stands past w seen a b t range write n h e k l lt is p = by_put past w seen (cells_of b) t range write n h lt is (subst (λ m. IsNoted w.seen seen (listed m) (listed (cells_of b)) (access t n range write)) (sym e) (noted_listed w.seen seen a b (access t n range write) k l p))
@@ -179,17 +190,6 @@ in_at (x ∷ xs) (suc k) d lt = inr (in_at xs k d (omega (arith, lt)))
 all_puts : (P : Seen → Type 0) (old new : List Seen) (one : Seen) → Puts old new one → All P old → P one → (k : ℕ) (d : Seen) → k < length new → P (get_or new k d)
 all_puts P old new one p h q k d lt = ⊎_elim (λ i. all_in P old (get_or new k d) h i) (λ e. subst P (sym e) q) (p.each (get_or new k d) (in_at new k d lt))
 
-still_ordered : (old new : List ℕ) (seen0 seen : List Seen) (one : Seen) → IsNoted seen0 seen (listed old) (listed new) one → ((x : ℕ) → listed old false one.thread x ≤ suc one.place) → ((u x : ℕ) → listed old false u x ≤ listed old true u x) → (u x : ℕ) → listed new false u x ≤ listed new true u x
-still_ordered old new seen0 seen one (inl p) own h u x = omega (arith, p.1 false u x, p.1 true u x, h u x)
-still_ordered old new seen0 seen one (inr p) own h u x = go (eqb one.thread u) one.write (covers one.range x) refl (p.1 false u x) (p.1 true u x)
-  where
-    go : (a b c : Bool) → eqb one.thread u ≡ a → listed new false u x ≡ cond (a && (b && c)) (suc one.place) (listed old false u x) → listed new true u x ≡ cond (a && c) (suc one.place) (listed old true u x) → listed new false u x ≤ listed new true u x
-    go true true true is e f = omega (arith, e, f)
-    go true true false is e f = omega (arith, e, f, h u x)
-    go true false true is e f = let o : listed old false u x ≤ suc one.place = subst (λ y. listed old false y x ≤ suc one.place) (eqb-true one.thread u is) (own x) in omega (arith, e, f, o)
-    go true false false is e f = omega (arith, e, f, h u x)
-    go false b c is e f = omega (arith, e, f, h u x)
-
 pub noted_reached : (w : WatchState) (seen : List Seen) (a b : Tables) (t : ℕ) (range : Range) (write : Bool) (n : ℕ) → Reached w → w.epochs ≡ cells_of a → AreTables a → AreTables b → t < length w.rows → t < length w.made → n ≡ slice_index w.made t → ((past : List Told) → Stands past w → NoRace past t range write) → IsNoted w.seen seen (at a) (at b) (access t n range write) → Reached (record w { seen = seen; epochs = cells_of b })
 noted_reached w seen a b t range write n r e k l lt lm is none p =
     let q : IsNoted w.seen seen (listed w.epochs) (listed (cells_of b)) (access t n range write) = subst (λ m. IsNoted w.seen seen (listed m) (listed (cells_of b)) (access t n range write)) (sym e) (noted_listed w.seen seen a b (access t n range write) k l p) in
@@ -197,7 +197,6 @@ noted_reached w seen a b t range write n r e k l lt lm is none p =
       past = Accessed t range write ∷ r.past;
       stands = by_put r.past w seen (cells_of b) t range write n r.stands lm is q;
       quiet = quiet_access r.past t range write (none r.past r.stands) r.quiet;
-      ordered = still_ordered w.epochs (cells_of b) w.seen seen (access t n range write) q (λ x. omega (arith, r.stands.seen.below false t x, last_place false t x r.past, is, r.stands.made t lm)) r.ordered;
       few_events = r.few_events;
       width = r.width;
       few = r.few;

@@ -11,9 +11,9 @@ cell_of x =
     else if nat_le 0x20000000 x && nat_lt x 0x20200000 then Some (x - 0x20000000 + 0x100000)
     else if nat_le 0x30000000 x && nat_lt x 0x30100000 then Some (x - 0x30000000 + 0x300000) else None
 
--- before the first of a thread's cells, for its writes alone or for all its accesses
+-- before the first of a thread's cells, for its writes or for its reads
 abbrev pub base_of : ℕ → Bool → ℕ
-base_of t touched = (t * 2 + (if touched then 1 else 0)) * 0x400000
+base_of t read = (t * 2 + (if read then 1 else 0)) * 0x400000
 
 -- bytes whose cells follow each other
 pub record IsPart (b : Bytes) : Type 0 where

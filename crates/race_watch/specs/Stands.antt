@@ -62,7 +62,6 @@ pub record Reached (w : WatchState) : Type 0 where
   pub past : List Told
   pub stands : Stands past w
   pub quiet : IsQuiet past
-  pub ordered : (u x : ℕ) → listed w.epochs false u x ≤ listed w.epochs true u x
   pub few_events : w.events ≤ 4000000000
   pub width : length w.made ≡ length w.rows
   pub few : length w.rows ≤ 32

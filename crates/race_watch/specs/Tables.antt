@@ -1,5 +1,5 @@
 -- What tables keep.
-use Rattle.std.specs.Prelude.{◌≡◌, ◌≢◌, ◌⊎◌, nat_le, ℕ, ◌+◌, ◌*◌, ◌<◌, ◌≤◌, Bool, ◌||◌, ◌&&◌, nat_lt, ◌==◌, if◌then◌else◌, suc, slice_index, map, List, Option, Some, None, MatchOption}
+use Rattle.std.specs.Prelude.{◌≡◌, ◌≢◌, ◌⊎◌, nat_le, max, ℕ, ◌+◌, ◌*◌, ◌<◌, ◌≤◌, Bool, true, false, ◌||◌, ◌&&◌, nat_lt, ◌==◌, if◌then◌else◌, suc, slice_index, map, List, Option, Some, None, MatchOption}
 use Rattle.std.specs.List.{range_with_len}
 use Rattle.marks.specs.declared.range.Range.{Range}
 use Rattle.marks.specs.Ranges.{IsInRange, covers}
@@ -11,21 +11,32 @@ use Rattle.race_watch.specs.Cells.{cell_of, base_of}
 use Rattle.race_watch.specs.declared.bytes.Bytes.{Bytes}
 use Rattle.race_watch.specs.Hits.{Hits, In}
 
-abbrev pub at_cell : Tables → Bool → ℕ → Option ℕ → ℕ
-at_cell t touched u None = 0
-at_cell t touched u (Some c) = if nat_lt u t.threads then kept t.epochs (base_of u touched + c) else 0
+abbrev pub entry_cell : Tables → Bool → ℕ → Option ℕ → ℕ
+entry_cell t read u None = 0
+entry_cell t read u (Some c) = if nat_lt u t.threads then kept t.epochs (base_of u read + c) else 0
+
+-- the epoch of a byte that is kept of the thread's last read of it, or of its last write
+abbrev pub entry : Tables → Bool → ℕ → ℕ → ℕ
+entry t read u x = entry_cell t read u (cell_of x)
+
+-- the last access is the last read or the last write
+abbrev pub newest : (Bool → ℕ → ℕ → ℕ) → Bool → ℕ → ℕ → ℕ
+newest entries touched u x = if touched then max (entries true u x) (entries false u x) else entries false u x
 
 -- the epoch of a byte, of the thread's last access of it or of its last write
 abbrev pub at : Tables → Bool → ℕ → ℕ → ℕ
-at t touched u x = at_cell t touched u (cell_of x)
+at t = newest (entry t)
 
 -- the same in a list of the epochs of all cells
 abbrev pub listed_cell : List ℕ → Bool → ℕ → Option ℕ → ℕ
-listed_cell epochs touched u None = 0
-listed_cell epochs touched u (Some c) = slice_index epochs (base_of u touched + c)
+listed_cell epochs read u None = 0
+listed_cell epochs read u (Some c) = slice_index epochs (base_of u read + c)
+
+abbrev pub listed_entry : List ℕ → Bool → ℕ → ℕ → ℕ
+listed_entry epochs read u x = listed_cell epochs read u (cell_of x)
 
 abbrev pub listed : List ℕ → Bool → ℕ → ℕ → ℕ
-listed epochs touched u x = listed_cell epochs touched u (cell_of x)
+listed epochs = newest (listed_entry epochs)
 
 -- the epochs of all cells
 unfoldable pub cells_of : Tables → List ℕ

@@ -14,12 +14,13 @@ use crate::seen::{Seen, take};
 use crate::tables::Tables;
 use memory_map::Range;
 
-/// Whether the thread is seen to have accessed each byte of the range since its last event, in a way that counts for
-/// this one.
+/// Whether the thread is seen to have accessed each byte of the range since its last event, at this epoch, in a way that
+/// counts for this one.
 #[inline(always)]
 pub fn is_settled(tables: &Tables, thread: u8, range: Range, write: bool, epoch: u32) -> bool
     requires tables { AreTables tables.now }
     requires thread { thread < tables.now.threads }
+    requires before { (x : ℕ) → at tables.now true thread x ≤ epoch }
     ensures { IsTrue result → (x : ℕ) → covers range x ≡ true → at tables.now (not write) thread x ≡ epoch }
 {
     match whole(range) {
@@ -42,11 +43,12 @@ pub fn first_race(tested: &Tested, seen: &[Seen], tables: &Tables) -> Option<(u6
     }
 }
 
-/// Keeps an access.
+/// Keeps an access, which is no earlier than any of its thread.
 pub fn note(seen: &mut Vec<Seen>, tables: &mut Tables, one: Seen) -> Result<(), WatchError>
     requires tables { AreTables tables.old }
     requires thread { one.thread < tables.old.threads }
     requires place { one.place + 1 < 4294967296 }
+    requires before { (x : ℕ) → at tables.old true one.thread x ≤ one.place + 1 }
     ensures tables { AreTables tables.new }
     ensures threads { tables.new.threads ≡ tables.old.threads }
     ensures noted { OnOk result (IsNoted seen.old.items seen.new.items (at tables.old) (at tables.new) one) }

@@ -1,11 +1,11 @@
-//! By thread and byte, one more than the place of the last write, and of the last access.
+//! By thread and byte, one more than the place of the last read, and of the last write.
 
 ghost use Rattle.std.specs.Prelude.{◌≡◌, ◌+◌, ◌-◌, ◌*◌, ◌<◌, ◌≤◌, ◌&&◌, ℕ, true, false, length, IfOk, IfErr, OnOk, OnErr, IsTrue, Some};
 ghost use Rattle.std.specs.List.{All};
 ghost use Rattle.memory_map.specs.declared.areas.TheConstants.{THREADS};
 ghost use Rattle.race_watch.specs.Cells.{IsPart, EachIn, base_of, cell_of};
 ghost use Rattle.race_watch.specs.declared.bytes.TheConstants.{GLOBALS, STACKS, POOL};
-ghost use Rattle.race_watch.specs.Tables.{at, cells_of, AreTables, AreBlankTables, HasEpoch, HasEpochIn, NoneUnknown, IsPut, IsFirst, IsFirstFrom, IsFirstThread};
+ghost use Rattle.race_watch.specs.Tables.{at, entry, cells_of, AreTables, AreBlankTables, HasEpoch, HasEpochIn, NoneUnknown, IsPut, IsFirst, IsFirstFrom, IsFirstThread};
 
 use crate::bytes::{Bytes, GLOBALS, POOL, STACKS, common, whole};
 use crate::error::WatchError;
@@ -13,7 +13,8 @@ use crate::first::Tested;
 use race_watch_pages::Pages;
 use std::alloc::{AllocError, Global};
 
-/// By thread and byte, one more than the place of the last write, and of the last access; 0 where there is none.
+/// By thread and byte, one more than the place of the last read, and of the last write; 0 where there is none. The last
+/// access is the greater, so a byte that a thread only reads, or only writes, takes one number.
 #[derive(Drop)]
 pub struct Tables {
     pub threads: u8,
@@ -22,13 +23,13 @@ pub struct Tables {
     pub epochs: Pages,
 }
 
-/// The first cell of a thread's writes, or of its accesses.
+/// The first cell of a thread's writes, or of its reads.
 #[inline(always)]
-fn base(thread: u8, touched: bool) -> u32
+fn base(thread: u8, read: bool) -> u32
     requires { thread < 32 }
-    ensures { result ≡ base_of thread touched }
+    ensures { result ≡ base_of thread read }
 {
-    let kind = if touched { 1 } else { 0 };
+    let kind = if read { 1 } else { 0 };
     (u32::from(thread) * 2 + kind) * 0x40_0000
 }
 
@@ -46,17 +47,51 @@ impl Tables {
         })
     }
 
-    /// Whether each of the bytes is seen to have this epoch.
+    /// Whether each of the bytes is seen to have this epoch, of the thread's reads or of its writes.
+    #[inline(always)]
+    fn has_all(&self, thread: u8, read: bool, part: Bytes, epoch: u32) -> bool
+        requires tables { AreTables self.now }
+        requires thread { thread < self.now.threads }
+        requires part { IsPart part }
+        ensures { IsTrue result → EachIn part (λ x. entry self.now read thread x ≡ epoch) }
+    {
+        let from = base(thread, read) + part.cell;
+        self.epochs
+            .is_all(from, from + (part.to - part.from) as u32, epoch)
+    }
+
+    /// Whether each of the bytes is seen to have this epoch, which no access of the thread exceeds.
     #[inline(always)]
     pub fn is_all(&self, thread: u8, touched: bool, part: Bytes, epoch: u32) -> bool
         requires tables { AreTables self.now }
         requires thread { thread < self.now.threads }
         requires part { IsPart part }
+        requires before { (x : ℕ) → at self.now true thread x ≤ epoch }
         ensures { IsTrue result → EachIn part (λ x. at self.now touched thread x ≡ epoch) }
     {
-        let from = base(thread, touched) + part.cell;
-        self.epochs
-            .is_all(from, from + (part.to - part.from) as u32, epoch)
+        if touched && self.has_all(thread, true, part, epoch) {
+            return true;
+        }
+        self.has_all(thread, false, part, epoch)
+    }
+
+    /// Whether the thread is seen to have no later access of the bytes that counts.
+    fn is_known(&self, thread: u8, touched: bool, part: Bytes, known: u32) -> bool
+        requires tables { AreTables self.now }
+        requires thread { thread < self.now.threads }
+        requires part { IsPart part }
+        ensures { IsTrue result → EachIn part (λ x. at self.now touched thread x ≤ known) }
+    {
+        let len = (part.to - part.from) as u32;
+        let wrote = base(thread, false) + part.cell;
+        if !self.epochs.is_at_most(wrote, wrote + len, known) {
+            return false;
+        }
+        if !touched {
+            return true;
+        }
+        let read = base(thread, true) + part.cell;
+        self.epochs.is_at_most(read, read + len, known)
     }
 
     /// Whether no other thread is seen to have an access of one of the bytes that isn't known and counts.
@@ -66,19 +101,30 @@ impl Tables {
         requires part { IsPart part }
         ensures { IsTrue result → NoneUnknown tested.now (at self.now) part }
     {
-        let len = (part.to - part.from) as u32;
         for thread in 0..self.used {
             if thread != tested.thread {
-                let from = base(thread, tested.write) + part.cell;
-                if !self
-                    .epochs
-                    .is_at_most(from, from + len, tested.known[thread as usize])
-                {
+                let known = tested.known[thread as usize];
+                if !self.is_known(thread, tested.write, part, known) {
                     return false;
                 }
             }
         }
         true
+    }
+
+    /// The epoch of a byte, of the thread's last access of it or of its last write.
+    fn last(&self, thread: u8, touched: bool, cell: u32) -> u32
+        requires tables { AreTables self.now }
+        requires thread { thread < self.now.threads }
+        requires cell { cell < 0x40_0000 }
+        ensures { (x : ℕ) → cell_of x ≡ Some cell → result ≡ at self.now touched thread x }
+    {
+        let wrote = self.epochs.get(base(thread, false) + cell);
+        if !touched {
+            return wrote;
+        }
+        let read = self.epochs.get(base(thread, true) + cell);
+        read.max(wrote)
     }
 
     /// The least thread with an access of the byte that isn't known and counts.
@@ -90,7 +136,7 @@ impl Tables {
             IsFirstThread (λ u. HasEpoch tested.now (at self.now) x u) result }
     {
         for thread in 0..self.used {
-            let epoch = self.epochs.get(base(thread, tested.write) + cell);
+            let epoch = self.last(thread, tested.write, cell);
             if thread != tested.thread && tested.known[thread as usize] < epoch {
                 return Some(thread);
             }
@@ -158,7 +204,7 @@ impl Tables {
         self.first_of(tested, POOL)
     }
 
-    /// Notes the bytes as accessed by the thread, and as written where it writes.
+    /// Notes the bytes as read or written by the thread, no earlier than any access of it.
     pub fn put(
         &mut self,
         thread: u8,
@@ -169,6 +215,7 @@ impl Tables {
         requires tables { AreTables self.old }
         requires thread { thread < self.old.threads }
         requires part { IsPart part }
+        requires before { (x : ℕ) → at self.old true thread x ≤ epoch }
         ensures tables { AreTables self.new }
         ensures threads { self.new.threads ≡ self.old.threads }
         ensures memory { IfErr result (λ e. e ≡ WatchError.Memory) }
@@ -176,21 +223,12 @@ impl Tables {
         ensures put { OnOk result (IsPut part thread write epoch (at self.old) (at self.new)) }
     {
         self.used = self.used.max(thread + 1);
-        let len = (part.to - part.from) as u32;
-        let touched = base(thread, true) + part.cell;
-        if self.epochs.make(touched, touched + len).is_err() {
+        let from = base(thread, !write) + part.cell;
+        let to = from + (part.to - part.from) as u32;
+        if self.epochs.make(from, to).is_err() {
             return Err(WatchError::Memory);
         }
-        if !write {
-            self.epochs.fill(touched, touched + len, epoch);
-            return Ok(());
-        }
-        let wrote = base(thread, false) + part.cell;
-        if self.epochs.make(wrote, wrote + len).is_err() {
-            return Err(WatchError::Memory);
-        }
-        self.epochs.fill(touched, touched + len, epoch);
-        self.epochs.fill(wrote, wrote + len, epoch);
+        self.epochs.fill(from, to, epoch);
         Ok(())
     }
 }

@@ -4,7 +4,7 @@ use Rattle.race_watch.specs.Tables.{cells_of}
 use Rattle.race_watch.specs.State.{WatchState}
 use Rattle.race_watch.specs.Stands.{Stands, AnswersBy}
 use Rattle.race_watch.proofs.Happens.{index_fits}
-use Rattle.race_watch.proofs.Raced.{answers_by, constants_stand, stands_by, reached_by, each_ok}
+use Rattle.race_watch.proofs.Raced.{own_epochs, answers_by, constants_stand, stands_by, reached_by, each_ok}
 use Rattle.race_watch.proofs.watch.Watch.access_anew.Goals as goal
 
 pub note-requires-clause-place : goal.note-requires-clause-place
@@ -14,6 +14,13 @@ note-requires-clause-place c =
     let lm : c.args.thread < length old.made = omega (arith, c.self.invariant.0.width, lt) in
     let is = get_or_read old.made _ _ lm c.index-place.ensures 0 in
     omega (arith, index_fits c.self.invariant.0.past old c.args.thread c.index-place.result.now c.self.invariant.0.stands lm is, c.self.invariant.0.few_events)
+
+pub note-requires-clause-before : goal.note-requires-clause-before
+note-requires-clause-before c =
+    let old : WatchState = record { events = c.self.inside.events; made = c.self.inside.made.items; rows = c.self.inside.rows.items; keys = c.self.inside.keys.entries; seen = c.self.inside.seen.items; epochs = cells_of c.self.inside.tables } in
+    let lt : c.args.thread < length old.rows = subst (λ (s : WatchState). c.args.thread < length s.rows) (sym c.self.view_is) c.requires in
+    let lm : c.args.thread < length old.made = omega (arith, c.self.invariant.0.width, lt) in
+    own_epochs old c.self.inside.tables c.args.thread c.index-place.result.now c.self.invariant.0 refl c.self.invariant.1 lm (get_or_read old.made _ _ lm c.index-place.ensures 0)
 
 pub returns-then-has_constants_alone-clause-told : goal.returns-then-has_constants_alone-clause-told
 returns-then-has_constants_alone-clause-told c = λ past h.

@@ -46,7 +46,6 @@ invariant_of-self-2 c =
         past = Happened (occurrence c.args.thread c.args.keys.now) ∷ past;
         stands = happened past old c.args.thread c.index-index.result.now c.args.keys.now new_row c.learn_keys.new.keys c.tell_keys.new.keys h lt lm isi row c.learn_keys.ensures.same c.tell_keys.ensures;
         quiet = quiet_event past (occurrence c.args.thread c.args.keys.now) c.self.invariant.0.quiet;
-        ordered = c.self.invariant.0.ordered;
         few_events = omega (arith, few);
         width = omega (arith, length-set old.made c.args.thread (c.index-index.result.now + 1), length-set old.rows c.args.thread new_row, c.self.invariant.0.width);
         few = omega (arith, length-set old.rows c.args.thread new_row, c.self.invariant.0.few);
