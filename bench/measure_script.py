@@ -1,12 +1,16 @@
 #!/usr/bin/env python3
-"""Runs `PROGRAM FILE`, the same in plain C and `wc -l FILE` in turn over several system files of 1 MiB, and prints the time of the
-first over those of the others, each the best of its runs. What a program takes to start is part of each."""
+"""Runs `PROGRAM NAMES FILE`, the same in plain C and `wc -l FILE` in turn over several system files of 1 MiB, and prints the time of
+the first over those of the others, each the best of its runs. What a program takes to start is part of each, so it is told to know
+only as many names (NAMES) as the file needs."""
 import os
 import sys
 
 from timing import timed
 
 MOST = 1 << 20
+
+# An odd number whose multiples have bytes of all kinds: 2^128 over the golden ratio.
+SPREAD = 0x9E3779B97F4A7C15F39CC0605CEDC835
 
 
 def lines(line):
@@ -26,8 +30,12 @@ FILES = {
     "answers of two names": lines("answer read 0 -\nanswer poll 0 -\n"),
     "answers of 900 names": lines("".join(f"answer f{number} 0 -\n" for number in range(100, 1000))),
     "answers of 16 bytes": lines("answer read 16 000102030405060708090a0b0c0d0e0f\n"),
+    "answers of 16 other bytes": "".join(f"answer read 16 {at * SPREAD % (1 << 128):032x}\n" for at in range(MOST // 48)),
     "one long answer": "answer read 1 " + "5a" * ((MOST - 15) // 2) + "\n",
 }
+
+# How many functions `f100`, `f101` and so on a file names; else it names `read` and `poll` alone.
+NAMES = {"answers of 900 names": 900}
 
 
 def main():
@@ -37,9 +45,10 @@ def main():
         file = os.path.join(scratch, "file.sys")
         with open(file, "w", encoding="ascii") as out:
             out.write(text)
-        words = {"read": [program, file], "plain": [plain, file], "wc": ["wc", "-l", file]}
+        names = str(NAMES.get(name, 0))
+        words = {"read": [program, names, file], "plain": [plain, names, file], "wc": ["wc", "-l", file]}
         best = dict.fromkeys(words, float("inf"))
-        for _ in range(21):
+        for _ in range(41):
             for word, command in words.items():
                 seconds, status = timed(command, printed)
                 if status != 0:

@@ -1,6 +1,6 @@
-// What bench_scripts does, in plain C: reads a system file, whose functions are `read`, `poll` and `f100` to `f999` with one piece
-// each, into a list of turns and a list of answers that own their pieces, and prints how many turns and answers there are.
-// `script.sh` compiles and times it.
+// What bench_scripts does, in plain C: reads a system file, whose functions are `read`, `poll` and as many of `f100`, `f101`, .. as its
+// first word says, with one piece each, into a list of turns and a list of answers that own their pieces, and prints how many turns and
+// answers there are. `script.sh` compiles and times it.
 #include <stdint.h>
 #include <stdio.h>
 #include <stdlib.h>
@@ -89,12 +89,14 @@ static int answer(const char *at, const char *end) {
 }
 
 int main(int words, char **word) {
-    if (words < 2) return 2;
-    FILE *file = fopen(word[1], "rb");
+    if (words < 3) return 2;
+    int names = atoi(word[1]);
+    if (names < 0 || names > 900) return 2;
+    FILE *file = fopen(word[2], "rb");
     if (!file) return 1;
     know("read");
     know("poll");
-    for (int number = 100; number < 1000; number++) {
+    for (int number = 100; number < 100 + names; number++) {
         char name[LONGEST];
         snprintf(name, sizeof name, "f%d", number);
         know(name);

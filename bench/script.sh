@@ -3,7 +3,7 @@
 # of `wc -l`. Never a gate. The aim is 3 times `wc -l`, which plain C doesn't reach where a file has many turns or answers.
 set -eu
 cd "$(dirname "${BASH_SOURCE[0]}")"
-(cd ../crates/bench_scripts && rt run -- data/small.sys) >/dev/null
+(cd ../crates/bench_scripts && rt run -- 1 data/small.sys) >/dev/null
 scratch=$(mktemp -d)
 trap 'rm -rf "$scratch"' EXIT
 

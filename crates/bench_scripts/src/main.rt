@@ -1,8 +1,12 @@
-//! A program to be timed: it reads a system file, whose name is its word, and prints how many turns and answers the file has,
-//! or the line that is wrong. It knows `read`, `poll` and 900 functions `f100` to `f999`, each of which writes one region.
+//! A program to be timed: it reads system files, and prints of each how many turns and answers it has, or the line that is wrong.
+//! Its first word is a number, at most 900, and the others name the files. It knows `read`, `poll` and as many functions as the number
+//! says, `f100`, `f101` and so on, each of which writes one region.
 #![tactic(auto)]
 
+ghost use Rattle.std.specs.Prelude.{◌≤◌};
+
 use std::alloc::{AllocError, Global};
+use std::cmp::min;
 use std::fs::File;
 use std::io::Read;
 use std::{env, io};
@@ -11,8 +15,13 @@ use sys_script_lines::{External, Externals, ScriptError, read_lines};
 /// How many bytes a file may have.
 const MOST_BYTES: usize = 1_048_576;
 
-/// The functions that are known.
-fn externals(alloc: Global) -> Result<Externals, AllocError> {
+/// How many functions of the names `f100` to `f999` there are.
+const MOST_NAMES: u16 = 900;
+
+/// The functions that are known, `names` of them beside `read` and `poll`.
+fn externals(alloc: Global, names: u16) -> Result<Externals, AllocError>
+    requires { names ≤ 900 }
+{
     let mut externals = Externals::new(alloc);
     let external = External {
         func: 16,
@@ -22,7 +31,7 @@ fn externals(alloc: Global) -> Result<Externals, AllocError> {
     };
     externals.add(b"read", external)?;
     externals.add(b"poll", external)?;
-    for number in 100..1000 {
+    for number in 100..100 + names {
         let name = format!(in alloc; "f{number}")?;
         externals.add(name.as_bytes(), external)?;
     }
@@ -30,12 +39,11 @@ fn externals(alloc: Global) -> Result<Externals, AllocError> {
 }
 
 /// What is printed of the bytes of a file.
-fn line(alloc: Global, bytes: &[u8]) -> Result<String, AllocError> {
+fn line(alloc: Global, externals: &Externals, bytes: &[u8]) -> Result<String, AllocError> {
     if bytes.len() > MOST_BYTES {
         return String::from_str(alloc, "too long");
     }
-    let externals = externals(alloc)?;
-    match read_lines(alloc, bytes, &externals) {
+    match read_lines(alloc, bytes, externals) {
         Ok(file) => {
             let turns = file.schedule.len();
             let answers = file.answers.len();
@@ -47,11 +55,14 @@ fn line(alloc: Global, bytes: &[u8]) -> Result<String, AllocError> {
 }
 
 fn main(rt: HostRuntime) -> io::Result<()> {
-    for name in env::args(&rt)?.skip(1) {
+    let mut words = env::args(&rt)?.skip(1);
+    let names = words.next().and_then(|word| word.parse().ok()).unwrap_or(0);
+    let externals = externals(rt.alloc(), min(names, MOST_NAMES))?;
+    for name in words {
         let mut bytes = Vec::with_capacity(rt.alloc(), MOST_BYTES + 1)?;
         let file = File::open(&rt, name.as_str())?;
         file.take(MOST_BYTES as u64 + 1).read_to_end(&mut bytes)?;
-        let line = line(rt.alloc(), &bytes)?;
+        let line = line(rt.alloc(), &externals, &bytes)?;
         println!(rt; "{line}")?;
     }
     Ok(())
