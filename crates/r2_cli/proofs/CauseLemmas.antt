@@ -13,7 +13,7 @@ use Rattle.r2_cli_outcome.specs.Outcome.{Outcome, printed}
 use Rattle.r2_cli_outcome.specs.Reading.{Of}
 use Rattle.r2_cli_outcome.specs.Stages.{Then, Only, Comes, passed, on, stop, done, refused}
 use Rattle.r2_cli_outcome.specs.Input as input
-use Rattle.r2_cli_outcome.specs.Input.{Input}
+use Rattle.r2_cli_outcome.specs.Input.{Input, most_log_bytes}
 use Rattle.r2_cli_outcome.specs.Log as log_stage
 use Rattle.r2_cli_outcome.specs.Log.{LogOf, IsLogPart, log}
 use Rattle.r2_cli_outcome.specs.Left.{Leaves}
@@ -42,7 +42,7 @@ Caused words held a b o = Cause words held a b o.status
 
 -- ---- logs
 
-part_there : (held : Contents) (name : List ℕ) (part : Part) → log (Of held) name (passed part) → (bytes : List ℕ) × (Some bytes ≡ held name) × (length bytes ≤ 67108864) × IsLogPart bytes part
+part_there : (held : Contents) (name : List ℕ) (part : Part) → log (Of held) name (passed part) → (bytes : List ℕ) × (Some bytes ≡ held name) × (length bytes ≤ most_log_bytes) × IsLogPart bytes part
 part_there held name part (on {a = bytes} (input.read there short) (log_stage.right is)) = (bytes, there, short, is)
 
 ends_log : (words : List (List ℕ)) (held : Contents) (a b : World) (form : Form) (name : List ℕ) → IsForm words form → log_of form ≡ Some name → In name (inputs_of form) → EndsIn (Caused words held a b) (log (Of held) name)
@@ -109,7 +109,7 @@ of_same : (words : List (List ℕ)) (held : Contents) (a b : World) (o p : Outco
 of_same words held a b o p e c = let same : o ≡ p = cc e in subst (λ (q : Outcome). Caused words held a b q) (sym same) c
 
 ordered_cause : (words : List (List ℕ)) (held : Contents) (a b : World) (name : List ℕ) (part : Part) (whole : Bool) → IsForm words (order name) → part.whole ≡ whole
-    → (bytes : List ℕ) × (Some bytes ≡ held name) × (length bytes ≤ 67108864) × IsLogPart bytes part → Caused words held a b (order_outcome whole part.events)
+    → (bytes : List ℕ) × (Some bytes ≡ held name) × (length bytes ≤ most_log_bytes) × IsLogPart bytes part → Caused words held a b (order_outcome whole part.events)
 ordered_cause words held a b name part true is e (bytes, there, short, of) =
     cause.done (order name) is (bytes, part, record { name = name; is_log = refl; there = sym there; short = short }, of, e)
 ordered_cause words held a b name part false is e (bytes, there, short, of) =

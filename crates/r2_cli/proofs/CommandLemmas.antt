@@ -1,5 +1,6 @@
 -- Each command decides one outcome, reads its inputs alone, and writes its outputs alone.
 use Rattle.std.proofs.Common.{◌≡◌, inl, inr, ◌∷◌, [], ℕ, List, Bool, Result, true, false, Option, codes, sym, ◌∙◌, refl, subst}
+use Rattle.source_limits.specs.Limits.{most_bytes}
 use Rattle.front_end.specs.declared.error.SourceError.{SourceError}
 use Rattle.front_end.specs.declared.error.SourceError.TheVariants as errors
 use Rattle.log_closure.specs.Events.{Part, In}
@@ -9,7 +10,7 @@ use Rattle.r2_cli_outcome.specs.Outcome.{Outcome, err, out, file, printed}
 use Rattle.r2_cli_outcome.specs.Reading.{Reading, Of, Sees}
 use Rattle.r2_cli_outcome.specs.Stages.{Answer, Then, Only, Comes, passed, ended, on, done, refused}
 use Rattle.r2_cli_outcome.specs.Input as input
-use Rattle.r2_cli_outcome.specs.Input.{Input}
+use Rattle.r2_cli_outcome.specs.Input.{Input, most_log_bytes, most_system_bytes}
 use Rattle.r2_cli_outcome.specs.Log as log_stage
 use Rattle.r2_cli_outcome.specs.Log.{LogOf, log}
 use Rattle.r2_cli_outcome.specs.declared.plan.End.{End}
@@ -59,7 +60,7 @@ recording_end P log rep cut bytes script o h = elim h [ ]
 
 one_system : (held : Contents) (sys cut bytes : List ℕ) → IsOne SameOutcome (system (Of held) sys cut bytes)
 one_system held sys cut bytes =
-    one_then SameOutcome (Input (Of held) sys (codes "system") 1048576) (SystemOf cut bytes) (one_input SameOutcome self held sys (codes "system") 1048576) (λ script. one_system_of SameOutcome self cut bytes script)
+    one_then SameOutcome (Input (Of held) sys (codes "system") most_system_bytes) (SystemOf cut bytes) (one_input SameOutcome self held sys (codes "system") most_system_bytes) (λ script. one_system_of SameOutcome self cut bytes script)
 
 one_command : (held : Contents) (form : Form) → IsOne SameOutcome (command (Of held) form)
 one_command held help = one_only SameOutcome (printed Done HELP.now [])
@@ -86,14 +87,14 @@ one_outcome words held o p (formed f is h) (formed g it k) =
 -- ---- the names that are read
 
 reads_log : (names : List (List ℕ)) (name : List ℕ) → has names name ≡ true → ReadsOnly names (λ reading. log reading name)
-reads_log names name is = reads_both names (λ reading. Input reading name (codes "log") 67108864) (λ reading. LogOf) (reads_input names name (codes "log") 67108864 is) (λ bytes s t f ans h. h)
+reads_log names name is = reads_both names (λ reading. Input reading name (codes "log") most_log_bytes) (λ reading. LogOf) (reads_input names name (codes "log") most_log_bytes is) (λ bytes s t f ans h. h)
 
 reads_source : (names : List (List ℕ)) (src cut : List ℕ) → has names src ≡ true → ReadsOnly names (λ reading. source reading src cut)
-reads_source names src cut is = reads_both names (λ reading. Input reading src (codes "source") 1048576) (λ reading. SourceOf cut) (reads_input names src (codes "source") 1048576 is) (λ bytes s t f ans h. h)
+reads_source names src cut is = reads_both names (λ reading. Input reading src (codes "source") most_bytes) (λ reading. SourceOf cut) (reads_input names src (codes "source") most_bytes is) (λ bytes s t f ans h. h)
 
 reads_system : (names : List (List ℕ)) (sys cut bytes : List ℕ) → has names sys ≡ true → ReadsOnly names (λ reading. system reading sys cut bytes)
 reads_system names sys cut bytes is =
-    reads_both names (λ reading. Input reading sys (codes "system") 1048576) (λ reading. SystemOf cut bytes) (reads_input names sys (codes "system") 1048576 is) (λ script s t f ans h. h)
+    reads_both names (λ reading. Input reading sys (codes "system") most_system_bytes) (λ reading. SystemOf cut bytes) (reads_input names sys (codes "system") most_system_bytes is) (λ script s t f ans h. h)
 
 -- what is read later was there before
 pub system_before : {T : Type 0} (view : T → List ℕ) (a b : Store) (sys cut bytes : List ℕ) (x y : ℕ) (result : Result T End) → OnlyReads a b → Answers view (system (Sees b) sys cut bytes) x y result
@@ -130,14 +131,14 @@ inputs_decide words held other o same (formed form is h) =
 -- ---- contents for an answer over any files
 
 named_log : (files : Store) (name : List ℕ) (ans : Answer Part) → log (Sees files) name ans → IsNamed (name ∷ []) files (λ held. log (Of held) name ans)
-named_log files name ans h = named_last (name ∷ []) files (λ reading. Input reading name (codes "log") 67108864) LogOf ans (named_input files name (codes "log") 67108864) h
+named_log files name ans h = named_last (name ∷ []) files (λ reading. Input reading name (codes "log") most_log_bytes) LogOf ans (named_input files name (codes "log") most_log_bytes) h
 
 named_source : (files : Store) (src cut : List ℕ) (ans : Answer (List ℕ)) → source (Sees files) src cut ans → IsNamed (src ∷ []) files (λ held. source (Of held) src cut ans)
-named_source files src cut ans h = named_last (src ∷ []) files (λ reading. Input reading src (codes "source") 1048576) (SourceOf cut) ans (named_input files src (codes "source") 1048576) h
+named_source files src cut ans h = named_last (src ∷ []) files (λ reading. Input reading src (codes "source") most_bytes) (SourceOf cut) ans (named_input files src (codes "source") most_bytes) h
 
 named_system : (files : Store) (sys cut bytes : List ℕ) (ans : Answer (List ℕ)) → system (Sees files) sys cut bytes ans → IsNamed (sys ∷ []) files (λ held. system (Of held) sys cut bytes ans)
 named_system files sys cut bytes ans h =
-    named_last (sys ∷ []) files (λ reading. Input reading sys (codes "system") 1048576) (SystemOf cut bytes) ans (named_input files sys (codes "system") 1048576) h
+    named_last (sys ∷ []) files (λ reading. Input reading sys (codes "system") most_system_bytes) (SystemOf cut bytes) ans (named_input files sys (codes "system") most_system_bytes) h
 
 apart : (src sys : List ℕ) → (src ≡ sys → ⊥) → (n : List ℕ) → has (src ∷ []) n ≡ true → has (sys ∷ []) n ≡ true → ⊥
 apart src sys ne n is it = ne (only_name src n is ∙ sym (only_name sys n it))
@@ -196,7 +197,7 @@ input_avoids n reading name word most o (input.too_long h m) = tt
 
 log_avoids : (n : List ℕ) (reading : Reading) (name : List ℕ) → EndsIn (λ o. Avoids n o.writes) (log reading name)
 log_avoids n reading name =
-    ends_then (λ o. Avoids n o.writes) (Input reading name (codes "log") 67108864) LogOf (input_avoids n reading name (codes "log") 67108864) of_bytes
+    ends_then (λ o. Avoids n o.writes) (Input reading name (codes "log") most_log_bytes) LogOf (input_avoids n reading name (codes "log") most_log_bytes) of_bytes
   where
     of_bytes : (bytes : List ℕ) → EndsIn (λ o. Avoids n o.writes) (LogOf bytes)
     of_bytes bytes o (log_stage.wrong is) = tt
@@ -209,7 +210,7 @@ refused_avoids n cut errors.Memory = tt
 
 source_avoids : (n : List ℕ) (reading : Reading) (src cut : List ℕ) → EndsIn (λ o. Avoids n o.writes) (source reading src cut)
 source_avoids n reading src cut =
-    ends_then (λ o. Avoids n o.writes) (Input reading src (codes "source") 1048576) (SourceOf cut) (input_avoids n reading src (codes "source") 1048576) of_bytes
+    ends_then (λ o. Avoids n o.writes) (Input reading src (codes "source") most_bytes) (SourceOf cut) (input_avoids n reading src (codes "source") most_bytes) of_bytes
   where
     of_bytes : (bytes : List ℕ) → EndsIn (λ o. Avoids n o.writes) (SourceOf cut bytes)
     of_bytes bytes o (source_stage.wrong {error = error} is) = refused_avoids n cut error
@@ -217,7 +218,7 @@ source_avoids n reading src cut =
 
 system_avoids : (n : List ℕ) (reading : Reading) (sys cut bytes : List ℕ) → EndsIn (λ o. Avoids n o.writes) (system reading sys cut bytes)
 system_avoids n reading sys cut bytes =
-    ends_then (λ o. Avoids n o.writes) (Input reading sys (codes "system") 1048576) (SystemOf cut bytes) (input_avoids n reading sys (codes "system") 1048576) of_script
+    ends_then (λ o. Avoids n o.writes) (Input reading sys (codes "system") most_system_bytes) (SystemOf cut bytes) (input_avoids n reading sys (codes "system") most_system_bytes) of_script
   where
     of_script : (script : List ℕ) → EndsIn (λ o. Avoids n o.writes) (SystemOf cut bytes script)
     of_script script o (system_stage.wrong a e) = tt

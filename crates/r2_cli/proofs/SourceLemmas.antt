@@ -1,5 +1,6 @@
 -- What reading a source comes to, and that its bytes and the name of the cut decide it.
 use Rattle.std.proofs.Common.{◌≡◌, ℕ, List, [], refl, sym, ap, subst, codes}
+use Rattle.source_limits.specs.Limits.{most_bytes}
 use Rattle.cut_check.specs.Lines.{FoundText, LinesOf, of_lines, text_of}
 use Rattle.cut_check.proofs.Lines.{no_lines, is_right}
 use Rattle.cut_check.proofs.OneText.{one_lines, one_stubs}
@@ -70,7 +71,7 @@ one_source_of cut bytes (ended o) (ended p) (stage.found a some) (stage.wrong {e
 one_source_of cut bytes (ended o) (ended p) (stage.found {lines = xs} a some) (stage.found {lines = ys} b more) = same_found bytes cut xs ys a b
 
 pub one_source : (held : Contents) (src cut : List ℕ) → IsOne SameOutcome (source (Of held) src cut)
-one_source held src cut = one_then SameOutcome (Input (Of held) src (codes "source") 1048576) (SourceOf cut) (one_input SameOutcome self held src (codes "source") 1048576) (one_source_of cut)
+one_source held src cut = one_then SameOutcome (Input (Of held) src (codes "source") most_bytes) (SourceOf cut) (one_input SameOutcome self held src (codes "source") most_bytes) (one_source_of cut)
 
 pub one_stubs_of : (cut bytes : List ℕ) → IsOne SameOutcome (StubsOf cut bytes)
 one_stubs_of cut bytes (passed x) (passed y) (printed_as a) (printed_as b) = one_stubs a b

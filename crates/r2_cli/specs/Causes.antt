@@ -1,5 +1,6 @@
 -- When each status comes.
 use Rattle.std.specs.Prelude.{◌≡◌, ◌≢◌, ◌≤◌, ◌<◌, ℕ, List, [], true, false, Option, Some, None, length}
+use Rattle.source_limits.specs.Limits.{most_bytes}
 use Rattle.cut_check.specs.Lines.{LinesOf}
 use Rattle.front_end.specs.Sources.{IsWrong}
 use Rattle.front_end.specs.declared.error.SourceError.TheVariants as errors
@@ -13,6 +14,7 @@ use Rattle.r2_cli_outcome.specs.declared.status.Status.TheVariants.{Done, Findin
 use Rattle.r2_cli_outcome.specs.World.{World}
 use Rattle.r2_cli_outcome.specs.Outcome.{Target}
 use Rattle.r2_cli_outcome.specs.Reading.{AreOf}
+use Rattle.r2_cli_outcome.specs.Input.{most_log_bytes, most_system_bytes}
 use Rattle.r2_cli_outcome.specs.Left.{faults_at}
 use Rattle.r2_cli_outcome.specs.Log.{IsLogPart, IsBadLog}
 use Rattle.front_end.specs.declared.source.CheckedSource.{CheckedSource}
@@ -26,26 +28,27 @@ use Rattle.recorded_outcome.specs.Recorded.{IsRecordingOf}
 use Rattle.recorded_outcome.specs.Stages.{script_for}
 use Rattle.r2_cli.specs.Words.{Form, help, version, order, check, stubs, gen, recording, IsForm, IsUsage, source_of, log_of, system_of, inputs_of}
 
--- the command reads a log of at most 67,108,864 bytes, and this is what it holds
+-- the command reads a log that is no longer than its limit, and this is what it holds
 pub record ReadsLog (contents : Contents) (form : Form) (bytes : List ℕ) : Type 0 where
   pub name : List ℕ
   pub is_log : log_of form ≡ Some name
   pub there : contents name ≡ Some bytes
-  pub short : length bytes ≤ 67108864
+  pub short : length bytes ≤ most_log_bytes
 
--- the command reads a source of at most 1,048,576 bytes, and this is what it holds, and the name of the cut
+-- the command reads a source that is no longer than its limit, and this is what it holds, and the name of the
+-- cut
 pub record ReadsSource (contents : Contents) (form : Form) (bytes cut : List ℕ) : Type 0 where
   pub name : List ℕ
   pub is_source : source_of form ≡ Some (name, cut)
   pub there : contents name ≡ Some bytes
-  pub short : length bytes ≤ 1048576
+  pub short : length bytes ≤ most_bytes
 
--- the command reads a system file of at most 1,048,576 bytes, and this is what it holds
+-- the command reads a system file that is no longer than its limit, and this is what it holds
 pub record ReadsSystem (contents : Contents) (form : Form) (script : List ℕ) : Type 0 where
   pub name : List ℕ
   pub is_system : system_of form ≡ Some name
   pub there : contents name ≡ Some script
-  pub short : length script ≤ 1048576
+  pub short : length script ≤ most_system_bytes
 
 -- the command reads a right source in which nothing is found, and a system file, and this is what the run that it
 -- records is told of
@@ -77,11 +80,11 @@ IsComplete contents (recording src cut sys log rep) = (told : Told) ×
 -- what an input file holds exceeds its limit
 pub data IsTooLong (contents : Contents) (form : Form) : Type 0 where
   long_log : {name bytes : List ℕ} → log_of form ≡ Some name → contents name ≡ Some bytes →
-      67108864 < length bytes → IsTooLong contents form
+      most_log_bytes < length bytes → IsTooLong contents form
   long_source : {name cut bytes : List ℕ} → source_of form ≡ Some (name, cut) →
-      contents name ≡ Some bytes → 1048576 < length bytes → IsTooLong contents form
+      contents name ≡ Some bytes → most_bytes < length bytes → IsTooLong contents form
   long_system : {name bytes : List ℕ} → system_of form ≡ Some name → contents name ≡ Some bytes →
-      1048576 < length bytes → IsTooLong contents form
+      most_system_bytes < length bytes → IsTooLong contents form
 
 -- when each status comes, by the words and what the names hold, or by a count of faults that rose in the
 -- call

@@ -17,10 +17,8 @@ use cut_check::found_text;
 use front_end::{CheckedSource, SourceError, SourceFault, check_source};
 use r2_base::Files;
 use r2_cli_outcome::{End, Status, exceeded, input, print_and_end, refused};
+use source_limits::MOST_BYTES;
 use std::alloc::Global;
-
-/// How many bytes a source may have.
-const SOURCE_LIMIT: usize = 1_048_576;
 
 /// The end of a command whose source breaks a rule.
 fn broken(alloc: Global, fault: SourceFault) -> End
@@ -111,6 +109,6 @@ pub fn source<F: Files>(
     ensures answers { Answers (λ s. s.bytes.items) (source (Sees (F.seen files.old)) name.now cut.now)
         (F.seen files.old).read_faults (F.seen files.new).read_faults result }
 {
-    let bytes = input(alloc, files, name, "source", SOURCE_LIMIT)?;
+    let bytes = input(alloc, files, name, "source", MOST_BYTES)?;
     source_of(alloc, bytes, cut)
 }

@@ -13,7 +13,7 @@ use Rattle.r2_cli_outcome.specs.declared.status.Status.TheVariants.{BadLog}
 use Rattle.r2_cli_outcome.specs.Outcome.{Outcome, refusal}
 use Rattle.r2_cli_outcome.specs.Reading.{Of}
 use Rattle.r2_cli_outcome.specs.Stages.{passed, ended}
-use Rattle.r2_cli_outcome.specs.Input.{Input}
+use Rattle.r2_cli_outcome.specs.Input.{Input, most_log_bytes}
 use Rattle.r2_cli_outcome.specs.Log as stage
 use Rattle.r2_cli_outcome.specs.Log.{IsKept, IsLogPart, IsBadLog, LogOf, log, bad_byte, bad_event, order_words}
 use Rattle.r2_cli_outcome.proofs.Decided.{IsOne, one_then, one_input}
@@ -175,4 +175,4 @@ one_log_of alike self bytes (ended o) (ended p) (stage.wrong {words = v} a) (sta
     subst (λ (u : List ℕ). alike (refusal BadLog v) (refusal BadLog u)) (same_bad bytes v w a b) (self (refusal BadLog v))
 
 pub one_log : (alike : Outcome → Outcome → Type 0) → ((o : Outcome) → alike o o) → (held : Contents) (name : List ℕ) → IsOne alike (log (Of held) name)
-one_log alike self held name = one_then alike (Input (Of held) name (codes "log") 67108864) LogOf (one_input alike self held name (codes "log") 67108864) (one_log_of alike self)
+one_log alike self held name = one_then alike (Input (Of held) name (codes "log") most_log_bytes) LogOf (one_input alike self held name (codes "log") most_log_bytes) (one_log_of alike self)

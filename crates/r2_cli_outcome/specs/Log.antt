@@ -13,7 +13,7 @@ use Rattle.r2_cli_outcome.specs.declared.status.Status.TheVariants.{BadLog}
 use Rattle.r2_cli_outcome.specs.Outcome.{refusal}
 use Rattle.r2_cli_outcome.specs.Reading.{Reading}
 use Rattle.r2_cli_outcome.specs.Stages.{Answer, Stage, passed, ended, ◌>>=◌}
-use Rattle.r2_cli_outcome.specs.Input.{Input}
+use Rattle.r2_cli_outcome.specs.Input.{Input, most_log_bytes}
 
 -- what is kept of bytes with which a log text begins: the records that stand in full, and whether they are
 -- a log text
@@ -49,4 +49,4 @@ pub data LogOf (bytes : List ℕ) : Answer Part → Type 0 where
 
 -- the reading of a log, its size, its bytes and its order
 abbrev pub log : Reading → (name : List ℕ) → Stage Part
-log reading name = Input reading name (codes "log") 67108864 >>= LogOf
+log reading name = Input reading name (codes "log") most_log_bytes >>= LogOf

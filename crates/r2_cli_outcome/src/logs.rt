@@ -7,6 +7,7 @@ ghost use Rattle.r2_base.specs.Seen.{OnlyReads};
 ghost use Rattle.r2_cli_outcome.specs.declared.status.Status.TheVariants.{BadLog};
 ghost use Rattle.r2_cli_outcome.specs.Outcome.{refusal};
 ghost use Rattle.r2_cli_outcome.specs.Reading.{Sees};
+ghost use Rattle.r2_cli_outcome.specs.Input.{most_log_bytes};
 ghost use Rattle.r2_cli_outcome.specs.Plans.{Answers, IsEnd};
 ghost use Rattle.r2_cli_outcome.specs.Log.{LogOf, log, order_words};
 
@@ -74,7 +75,7 @@ fn wrong_order(alloc: Global, error: OrderError) -> End
 
 /// The closed part of the log that the bytes are or begin, or the first wrong byte or event of it.
 fn part_of(alloc: Global, bytes: Vec<u8>) -> Result<Closed, End>
-    requires { length bytes.items ≤ 67108864 }
+    requires { length bytes.items ≤ most_log_bytes }
     ensures { Answers (λ part. part) (LogOf bytes.items) 0 0 result }
 {
     let kept = match parse(alloc, &bytes) {

@@ -4,6 +4,7 @@ ghost use Rattle.std.specs.Prelude.{◌≡◌, ◌++◌, ◌≤◌, IfOk, List, 
 ghost use Rattle.front_end.specs.Answers.{IsAccepted};
 ghost use Rattle.sys_script_lines.specs.Scripts.{IsRead};
 ghost use Rattle.r2_cli_outcome.specs.declared.status.Status.TheVariants.{System};
+ghost use Rattle.r2_cli_outcome.specs.Input.{most_system_bytes};
 ghost use Rattle.r2_cli_outcome.specs.Outcome.{refusal};
 ghost use Rattle.r2_cli_outcome.specs.Plans.{Answers, IsEnd};
 ghost use Rattle.recorded_outcome.specs.Stages.{SystemOf, line_words, script_for};
@@ -42,7 +43,7 @@ fn wrong_line(alloc: Global, number: u32) -> End
 
 /// The system file that the bytes are for an accepted source, or its first wrong line.
 pub fn system_of(alloc: Global, bytes: Vec<u8>, source: &CheckedSource) -> Result<SystemFile, End>
-    requires short { length bytes.items ≤ 1048576 }
+    requires short { length bytes.items ≤ most_system_bytes }
     requires few { length source.now.program.functions ≤ 1000 }
     ensures read { IfOk result (λ s. IsRead (script_for source.now s.bytes.items) (Ok s.file)) }
     ensures answers { (text cut : List ℕ) → IsAccepted text cut source.now →
