@@ -32,9 +32,9 @@ use Rattle.front_end.specs.declared.error.SourceError.{SourceError}
 use Rattle.front_end.specs.declared.error.SourceError.TheVariants as errors
 use Rattle.front_end.specs.declared.error.SourceLimit.TheVariants.{Types}
 use Rattle.front_end.specs.declared.error.SourceRule.TheVariants as rules
-use Rattle.front_end.specs.Answers.{IsSourceError, IsTooLarge}
+use Rattle.front_end.specs.Answers.{IsSourceError, IsTooLarge, IsTypeError}
 use Rattle.front_end.specs.Errors.{by_annotations, by_grammar, by_tokens, by_types, found}
-use Rattle.front_end.specs.Sources.{IsSource, fault_of, fault_of_annotations, fault_of_types, no_tokens, no_tree, too_deep, too_large, refused, unless_named, which_of}
+use Rattle.front_end.specs.Sources.{IsSource, fault_of, fault_of_annotations, fault_of_types, ill_typed, mistyped, no_tokens, no_tree, too_deep, too_large, type_fault, refused, unless_named, which_of}
 
 -- ---- tokens and grammar
 
@@ -42,20 +42,20 @@ use Rattle.front_end.specs.Sources.{IsSource, fault_of, fault_of_annotations, fa
 abbrev Exactly : Type 0 → List ℕ → LexError → LexError → Type 0
 Exactly T text error e = ◌≢◌ {A = Result T LexError} (Err error) (Err lexing.Memory) → (IsErrOf {T = T} (Err error) e ↔ tokens.IsLexError text e)
 
-pub by_lexing : {T : Type 0} (bytes cut : List ℕ) (error : LexError)
+pub by_lexing : {T : Type 0} (bytes : List ℕ) (error : LexError)
     → ((n : ℕ) → Exactly T bytes error (lexing.BadByte n)) → ((n : ℕ) → Exactly T bytes error (lexing.OpenText n))
     → ((n : ℕ) → Exactly T bytes error (lexing.BigNumber n)) → ((n : ℕ) → Exactly T bytes error (lexing.Directive n))
-    → IsSourceError bytes cut (by_tokens error)
-by_lexing bytes cut (lexing.BadByte n) byte open_text number directive = no_tokens (lexing.BadByte n) ((byte n (λ k. cc)).0 refl)
-by_lexing bytes cut (lexing.OpenText n) byte open_text number directive = no_tokens (lexing.OpenText n) ((open_text n (λ k. cc)).0 refl)
-by_lexing bytes cut (lexing.BigNumber n) byte open_text number directive = no_tokens (lexing.BigNumber n) ((number n (λ k. cc)).0 refl)
-by_lexing bytes cut (lexing.Directive n) byte open_text number directive = no_tokens (lexing.Directive n) ((directive n (λ k. cc)).0 refl)
-by_lexing bytes cut lexing.Memory byte open_text number directive = tt
+    → IsTypeError bytes (by_tokens error)
+by_lexing bytes (lexing.BadByte n) byte open_text number directive = no_tokens (lexing.BadByte n) ((byte n (λ k. cc)).0 refl)
+by_lexing bytes (lexing.OpenText n) byte open_text number directive = no_tokens (lexing.OpenText n) ((open_text n (λ k. cc)).0 refl)
+by_lexing bytes (lexing.BigNumber n) byte open_text number directive = no_tokens (lexing.BigNumber n) ((number n (λ k. cc)).0 refl)
+by_lexing bytes (lexing.Directive n) byte open_text number directive = no_tokens (lexing.Directive n) ((directive n (λ k. cc)).0 refl)
+by_lexing bytes lexing.Memory byte open_text number directive = tt
 
-pub by_parsing : (bytes cut : List ℕ) (ts : List Token) (error : ParseError) → tokens.IsTokens bytes ts → grammar.IsParseError ts error → IsSourceError bytes cut (by_grammar error)
-by_parsing bytes cut ts (parsing.Token at) lexed none = no_tree at ts lexed none
-by_parsing bytes cut ts (parsing.Deep at) lexed deep = too_deep at ts deep.0 lexed deep.1 deep.2
-by_parsing bytes cut ts parsing.Memory lexed none = tt
+pub by_parsing : (bytes : List ℕ) (ts : List Token) (error : ParseError) → tokens.IsTokens bytes ts → grammar.IsParseError ts error → IsTypeError bytes (by_grammar error)
+by_parsing bytes ts (parsing.Token at) lexed none = no_tree at ts lexed none
+by_parsing bytes ts (parsing.Deep at) lexed deep = too_deep at ts deep.0 lexed deep.1 deep.2
+by_parsing bytes ts parsing.Memory lexed none = tt
 
 -- ---- types
 
@@ -67,23 +67,23 @@ same_number numbers.Object = refl
 same_number numbers.Globals = refl
 same_number numbers.Frame = refl
 
-broken_types : (bytes cut : List ℕ) (ds : Decls) (texts : List TextLiteral) (N : Nodes) (o : Outcome) (error : CheckError)
-    → outcome ds ≡ o → IsSource bytes ds → IsChecked texts N ds o (Err error) → IsSourceError bytes cut (by_types error)
-broken_types bytes cut ds texts N o typing.Memory same source is = tt
-broken_types bytes cut ds texts N (limits.Rule from rule) (typing.Rule f r) same source is =
-    refused (found (rules.Type r) f) ds source
-    (ap (fault_of_types cut ds) same ∙ ap (λ (n : ℕ). Some (found (rules.Type rule) n)) (sym is.0) ∙ ap (λ (n : ℕ). Some (found (rules.Type n) f)) (sym is.1))
-broken_types bytes cut ds texts N (limits.Rule from rule) (typing.Limit v) same source is = absurd is
-broken_types bytes cut ds texts N (limits.Limit w) (typing.Limit v) same source is =
-    refused (errors.Limit (Types v)) ds source
-    (ap (fault_of_types cut ds) same ∙ ap (λ (n : limits.Which). Some (errors.Limit (Types (which_of n)))) (sym is) ∙ ap (λ (n : Which). Some (errors.Limit (Types n))) (same_number v))
-broken_types bytes cut ds texts N (limits.Limit w) (typing.Rule f r) same source is = absurd is
-broken_types bytes cut ds texts N (limits.Typed p) (typing.Rule f r) same source is = absurd is
-broken_types bytes cut ds texts N (limits.Typed p) (typing.Limit v) same source is = absurd is
+broken_types : (bytes : List ℕ) (ds : Decls) (texts : List TextLiteral) (N : Nodes) (o : Outcome) (error : CheckError)
+    → outcome ds ≡ o → IsSource bytes ds → IsChecked texts N ds o (Err error) → IsTypeError bytes (by_types error)
+broken_types bytes ds texts N o typing.Memory same source is = tt
+broken_types bytes ds texts N (limits.Rule from rule) (typing.Rule f r) same source is =
+    mistyped (found (rules.Type r) f) ds source
+    (ap type_fault same ∙ ap (λ (n : ℕ). Some (found (rules.Type rule) n)) (sym is.0) ∙ ap (λ (n : ℕ). Some (found (rules.Type n) f)) (sym is.1))
+broken_types bytes ds texts N (limits.Rule from rule) (typing.Limit v) same source is = absurd is
+broken_types bytes ds texts N (limits.Limit w) (typing.Limit v) same source is =
+    mistyped (errors.Limit (Types v)) ds source
+    (ap type_fault same ∙ ap (λ (n : limits.Which). Some (errors.Limit (Types (which_of n)))) (sym is) ∙ ap (λ (n : Which). Some (errors.Limit (Types n))) (same_number v))
+broken_types bytes ds texts N (limits.Limit w) (typing.Rule f r) same source is = absurd is
+broken_types bytes ds texts N (limits.Typed p) (typing.Rule f r) same source is = absurd is
+broken_types bytes ds texts N (limits.Typed p) (typing.Limit v) same source is = absurd is
 
-pub by_typing : (bytes cut : List ℕ) (ds : Decls) (texts : List TextLiteral) (N : Nodes) (error : CheckError)
-    → IsSource bytes ds → IsChecked texts N ds (outcome ds) (Err error) → IsSourceError bytes cut (by_types error)
-by_typing bytes cut ds texts N error source is = broken_types bytes cut ds texts N (outcome ds) error refl source is
+pub by_typing : (bytes : List ℕ) (ds : Decls) (texts : List TextLiteral) (N : Nodes) (error : CheckError)
+    → IsSource bytes ds → IsChecked texts N ds (outcome ds) (Err error) → IsTypeError bytes (by_types error)
+by_typing bytes ds texts N error source is = broken_types bytes ds texts N (outcome ds) error refl source is
 
 typed_program : (ds : Decls) (texts : List TextLiteral) (N : Nodes) (o : Outcome) (s : TypedSource) → outcome ds ≡ o → IsChecked texts N ds o (Ok s)
     → (p : Program) × IsTypedSource ds p s × (s.texts ≡ texts)
@@ -95,6 +95,13 @@ typed_program ds texts N (limits.Limit w) s same is = absurd is
 pub program_of : (ds : Decls) (texts : List TextLiteral) (N : Nodes) (s : TypedSource) → IsChecked texts N ds (outcome ds) (Ok s)
     → (p : Program) × IsTypedSource ds p s × (s.texts ≡ texts)
 program_of ds texts N s is = typed_program ds texts N (outcome ds) s refl is
+
+-- what is wrong with the bytes by their types is so, whatever the cut
+pub for_each_cut : (bytes cut : List ℕ) (error : SourceError) → IsTypeError bytes error → IsSourceError bytes cut error
+for_each_cut bytes cut (errors.Fault f) is = ill_typed is
+for_each_cut bytes cut errors.NoSuchCut is = ill_typed is
+for_each_cut bytes cut (errors.Limit l) is = ill_typed is
+for_each_cut bytes cut errors.Memory is = tt
 
 -- ---- annotations
 
@@ -111,23 +118,25 @@ no_cut cut ds p (Broken from rule) is = absurd is
 pub by_reading : (bytes cut : List ℕ) (ds : Decls) (p : Program) (error : InterfaceError) → outcome ds ≡ limits.Typed p → IsSource bytes ds
     → IsInterface cut (annotations ds p) (Err error) → IsSourceError bytes cut (by_annotations error)
 by_reading bytes cut ds p (reading.Rule f r) same source is =
-    refused (found (rules.Annotation r) f) ds source (ap (fault_of_types cut ds) same ∙ broken_annotations cut ds p (annotations ds p) f r is)
-by_reading bytes cut ds p reading.NoSuchCut same source is = refused errors.NoSuchCut ds source (ap (fault_of_types cut ds) same ∙ no_cut cut ds p (annotations ds p) is)
+    refused (found (rules.Annotation r) f) ds p source same (broken_annotations cut ds p (annotations ds p) f r is)
+by_reading bytes cut ds p reading.NoSuchCut same source is = refused errors.NoSuchCut ds p source same (no_cut cut ds p (annotations ds p) is)
 by_reading bytes cut ds p reading.Memory same source is = tt
 
-named : (cut : List ℕ) (ds : Decls) (p : Program) (c : Checked Annotated) (i : Interface) → IsInterface cut c (Ok i) → fault_of_annotations cut ds p c ≡ too_large ds p
+-- where the interface of the cut was read, nothing else can be wrong than that the source is too large
+pub named : (cut : List ℕ) (ds : Decls) (p : Program) (c : Checked Annotated) (i : Interface) → IsInterface cut c (Ok i) → fault_of_annotations cut ds p c ≡ too_large ds p
 named cut ds p (Fine a) i is = ap (unless_named ds p) is.1
 named cut ds p (Noted n a) i is = ap (unless_named ds p) is.1
 named cut ds p (Broken from rule) i is = absurd is
 
--- where the interface of the cut was read, nothing else can be wrong than that the source is too large
+-- the same of the declarations
 pub read : (cut : List ℕ) (ds : Decls) (p : Program) (i : Interface) → outcome ds ≡ limits.Typed p → IsInterface cut (annotations ds p) (Ok i) → fault_of cut ds ≡ too_large ds p
 read cut ds p i same is = ap (fault_of_types cut ds) same ∙ named cut ds p (annotations ds p) i is
 
 -- ---- code
 
-pub by_size : (bytes cut : List ℕ) (ds : Decls) (p : Program) (error : SourceError) → IsSource bytes ds → fault_of cut ds ≡ too_large ds p → IsTooLarge ds p error → IsSourceError bytes cut error
-by_size bytes cut ds p (errors.Fault f) source same is = refused (errors.Fault f) ds source (same ∙ is)
-by_size bytes cut ds p errors.NoSuchCut source same is = refused errors.NoSuchCut ds source (same ∙ is)
-by_size bytes cut ds p (errors.Limit l) source same is = refused (errors.Limit l) ds source (same ∙ is)
-by_size bytes cut ds p errors.Memory source same is = tt
+pub by_size : (bytes cut : List ℕ) (ds : Decls) (p : Program) (error : SourceError) → IsSource bytes ds → outcome ds ≡ limits.Typed p
+    → fault_of_annotations cut ds p (annotations ds p) ≡ too_large ds p → IsTooLarge ds p error → IsSourceError bytes cut error
+by_size bytes cut ds p (errors.Fault f) source typed same is = refused (errors.Fault f) ds p source typed (same ∙ is)
+by_size bytes cut ds p errors.NoSuchCut source typed same is = refused errors.NoSuchCut ds p source typed (same ∙ is)
+by_size bytes cut ds p (errors.Limit l) source typed same is = refused (errors.Limit l) ds p source typed (same ∙ is)
+by_size bytes cut ds p errors.Memory source typed same is = tt

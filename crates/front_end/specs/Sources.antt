@@ -60,9 +60,15 @@ fault_of_annotations cut ds p (Fine a) = unless_named ds p (is_named cut a)
 fault_of_annotations cut ds p (Noted n a) = unless_named ds p (is_named cut a)
 fault_of_annotations cut ds p (Broken from rule) = Some (found (rules.Annotation rule) from)
 
+-- what is wrong with a source that has a tree, by its types and their limits
+abbrev pub type_fault : typing.Outcome → Option SourceError
+type_fault (typing.Rule from rule) = Some (found (rules.Type rule) from)
+type_fault (typing.Limit which) = Some (Limit (Types (which_of which)))
+type_fault (typing.Typed p) = None
+
 abbrev pub fault_of_types : (cut : List ℕ) → Decls → typing.Outcome → Option SourceError
-fault_of_types cut ds (typing.Rule from rule) = Some (found (rules.Type rule) from)
-fault_of_types cut ds (typing.Limit which) = Some (Limit (Types (which_of which)))
+fault_of_types cut ds (typing.Rule from rule) = type_fault (typing.Rule from rule)
+fault_of_types cut ds (typing.Limit which) = type_fault (typing.Limit which)
 fault_of_types cut ds (typing.Typed p) = fault_of_annotations cut ds p (annotations ds p)
 
 -- what is wrong with a source that has a tree: its types, their limits, its annotations, that none names
@@ -70,17 +76,24 @@ fault_of_types cut ds (typing.Typed p) = fault_of_annotations cut ds p (annotati
 abbrev pub fault_of : (cut : List ℕ) → Decls → Option SourceError
 fault_of cut ds = fault_of_types cut ds (outcome ds)
 
--- what is wrong with the bytes: they aren't tokens, and this is the first rule that they break; no source
--- has the tokens, whatever the
--- offset; a node there is held by more than 200 others; or it is what is wrong with the source that they
--- are
-pub data IsWrong (bytes cut : List ℕ) : SourceError → Type 0 where
-  no_tokens : (error : LexError) → lexing.IsLexError bytes error → IsWrong bytes cut (by_tokens error)
+-- what is wrong with the bytes before any annotation is read: they aren't tokens, and this is the first rule
+-- that they break; no source has the tokens, whatever the offset; a node there is held by more than 200
+-- others; or it is what is wrong with the types of the source that they are
+pub data IsIllTyped (bytes : List ℕ) : SourceError → Type 0 where
+  no_tokens : (error : LexError) → lexing.IsLexError bytes error → IsIllTyped bytes (by_tokens error)
   no_tree : (at : ℕ) (ts : List Token) → lexing.IsTokens bytes ts → ((ds : Decls) → Spells ts ds → ⊥) →
-      IsWrong bytes cut (found rules.Token at)
+      IsIllTyped bytes (found rules.Token at)
   too_deep : (at : ℕ) (ts : List Token) (ds : Decls) → lexing.IsTokens bytes ts → Spells ts ds →
-      IsDeepAt ds at → IsWrong bytes cut (found rules.Deep at)
-  refused : (error : SourceError) (ds : Decls) → IsSource bytes ds → fault_of cut ds ≡ Some error →
+      IsDeepAt ds at → IsIllTyped bytes (found rules.Deep at)
+  mistyped : (error : SourceError) (ds : Decls) → IsSource bytes ds → type_fault (outcome ds) ≡ Some error →
+      IsIllTyped bytes error
+
+-- what is wrong with the bytes: that, whatever the cut; or what is wrong with the source that they are, which
+-- is typed as this program, by its annotations, the cut or its size
+pub data IsWrong (bytes cut : List ℕ) : SourceError → Type 0 where
+  ill_typed : {error : SourceError} → IsIllTyped bytes error → IsWrong bytes cut error
+  refused : (error : SourceError) (ds : Decls) (p : Program) → IsSource bytes ds →
+      outcome ds ≡ typing.Typed p → fault_of_annotations cut ds p (annotations ds p) ≡ Some error →
       IsWrong bytes cut error
 
 -- nothing is wrong with the source that the bytes are

@@ -6,4 +6,4 @@ mod error;
 mod source;
 
 pub use error::{SourceError, SourceFault, SourceLimit, SourceRule};
-pub use source::{CheckedSource, check_source};
+pub use source::{CheckedSource, CountedSource, check_source, typed_source};

@@ -9,7 +9,7 @@ ghost use Rattle.c_syntax.specs.Syntax.{Decls};
 ghost use Rattle.c_parser.specs.Parsed.{IsCounted};
 ghost use Rattle.c_types.specs.Answers.{IsSource as IsFit};
 ghost use Rattle.c_types.specs.Texts.{texts_among};
-ghost use Rattle.front_end.specs.Answers.{IsChecked, IsRead, IsSourceError, IsTyped};
+ghost use Rattle.front_end.specs.Answers.{IsChecked, IsRead, IsTypeChecked, IsTypeError, IsTyped};
 ghost use Rattle.front_end.specs.Sources.{IsSource};
 
 use crate::code::code_of;
@@ -25,6 +25,13 @@ use c_types_program::TypedProgram;
 use c_types_source::TypedSource;
 use std::alloc::Global;
 
+/// A source that keeps all rules and limits of types, with the number of its nodes, whatever its annotations say.
+#[derive(Drop)]
+pub struct CountedSource {
+    pub source: TypedSource,
+    pub nodes: usize,
+}
+
 /// A source that is accepted: its typed program, the interface of the cut, and its flat code.
 #[derive(Drop)]
 pub struct CheckedSource {
@@ -38,7 +45,7 @@ fn tokens_of(alloc: Global, bytes: &[u8]) -> Result<Vec<Token>, SourceError>
     requires { length bytes.now ≤ most_bytes }
     ensures tokens { IfOk result (λ v. IsTokens bytes.now v.items) }
     ensures few { IfOk result (λ v. length v.items ≤ length bytes.now) }
-    ensures refused { (cut : List ℕ) → IfErr result (IsSourceError bytes.now cut) }
+    ensures refused { IfErr result (IsTypeError bytes.now) }
 {
     match lex(alloc, bytes) {
         Ok(tokens) => Ok(tokens),
@@ -61,8 +68,7 @@ fn strings_of(tokens: Vec<Token>) -> Vec<Token>
 fn tree_of(alloc: Global, tokens: Vec<Token>) -> Result<(Parsed, Vec<Token>), SourceError>
     ensures tree { IfOk result (λ found. IsCounted tokens.items found.0) }
     ensures strings { IfOk result (λ found. texts_among found.1.items ≡ texts_among tokens.items) }
-    ensures refused { (bytes cut : List ℕ) → IsTokens bytes tokens.items →
-        IfErr result (IsSourceError bytes cut) }
+    ensures refused { (bytes : List ℕ) → IsTokens bytes tokens.items → IfErr result (IsTypeError bytes) }
 {
     let actions = match postfix(alloc, &tokens) {
         Ok(actions) => actions,
@@ -79,13 +85,32 @@ fn tree_of(alloc: Global, tokens: Vec<Token>) -> Result<(Parsed, Vec<Token>), So
 fn typed(alloc: Global, tokens: &[Token], tree: Tree) -> Result<TypedSource, SourceError>
     requires { IsFit tree }
     ensures typed { (ds : Decls) → Holds tree ds → IfOk result (IsTyped tokens.now ds) }
-    ensures refused { (bytes cut : List ℕ) (ds : Decls) → Holds tree ds → IsSource bytes ds →
-        IfErr result (IsSourceError bytes cut) }
+    ensures refused { (bytes : List ℕ) (ds : Decls) → Holds tree ds → IsSource bytes ds →
+        IfErr result (IsTypeError bytes) }
 {
     match check(alloc, tokens, tree) {
         Ok(source) => Ok(source),
         Err(error) => Err(SourceError::from(error)),
     }
+}
+
+/// The source that these bytes are, at most 1 MiB, by its types alone: for whoever asks for all its cuts (`cut_advisor::cuts`).
+///
+/// `Fault` names a rule of tokens, of the grammar or of types that the source breaks, with the offset where; `Limit` the first limit of
+/// its types that it exceeds, where it breaks no rule; `Memory` where there is no memory. Each but `Memory` is an error of `check_source`
+/// too, whatever the cut.
+pub fn typed_source(alloc: Global, bytes: &[u8]) -> Result<CountedSource, SourceError>
+    requires { length bytes.now ≤ most_bytes }
+    // The source is given where nothing is wrong with its tokens, its tree and its types; else this is.
+    ensures typed { IsTypeChecked bytes.now result }
+    ensures few { IfOk result (λ s. length s.source.texts ≤ length bytes.now) }
+{
+    let tokens = tokens_of(alloc, bytes)?;
+    let (parsed, strings) = tree_of(alloc, tokens)?;
+    numbers_fit();
+    let Parsed { tree, nodes } = parsed;
+    let source = typed(alloc, &strings, tree)?;
+    Ok(CountedSource { source, nodes })
 }
 
 // The typed program with the interface of the cut.
@@ -113,12 +138,7 @@ pub fn check_source(alloc: Global, bytes: &[u8], cut: &[u8]) -> Result<CheckedSo
     // The source is accepted where nothing is wrong with it; else this is.
     ensures { IsChecked bytes.now cut.now result }
 {
-    let tokens = tokens_of(alloc, bytes)?;
-    let (parsed, strings) = tree_of(alloc, tokens)?;
-    numbers_fit();
-    let Parsed { tree, nodes } = parsed;
-    let source = typed(alloc, &strings, tree)?;
-    drop(strings);
+    let CountedSource { source, nodes } = typed_source(alloc, bytes)?;
     let (program, interface) = with_interface(alloc, source, cut)?;
     let code = code_of(alloc, nodes, &program)?;
     Ok(CheckedSource {
