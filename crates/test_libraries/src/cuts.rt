@@ -58,6 +58,10 @@ fn a_source_that_is_not_typed_has_no_cuts(rt: HostRuntime) {
         ),
     ] {
         let error = names_of(rt.alloc(), source).err();
-        assert_eq!(rt; error, Some(SourceError::Fault(SourceFault { rule, at })), "{source}");
+        assert_eq!(rt;
+            error,
+            Some(SourceError::Fault(SourceFault { rule, at })),
+            "{source}"
+        );
     }
 }
