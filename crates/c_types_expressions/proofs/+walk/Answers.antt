@@ -646,17 +646,17 @@ pub calls::arguments-returns-in-Some-clause-kept : goal.calls::arguments-returns
 calls::arguments-returns-in-Some-clause-kept t c =
     c.loop-number.invariant.kept
 
-pub calls::arguments-returns-in-None-clause-agrees : goal.calls::arguments-returns-in-None-clause-agrees
-calls::arguments-returns-in-None-clause-agrees t c =
+pub calls::arguments-returns-in_ok-new-in-None-clause-agrees : goal.calls::arguments-returns-in_ok-new-in-None-clause-agrees
+calls::arguments-returns-in_ok-new-in-None-clause-agrees t c =
     let at_end : c.loop-number.number ≡ length c.args.ids.now = omega arith in
-    λ xs h. rw c.in_ok-new.ensures (arguments_end c.args.tree.now c.args.env.now.env c.args.from (notes_of c.args.env.now) c.loop-number.env c.loop-number.values.items _ xs (params_of (type_at c.args.env.now.table.types c.args.function)) c.loop-number.number (drop_all c.loop-number.number c.args.ids.now (omega arith)) (ap (λ u. types_after c.loop-number.number (params_of u)) (sym (type_stays c.args.env.now.table c.loop-number.env.table c.args.function c.loop-number.invariant.kept.numbers c.requires.function)) ∙ (ap (λ n. types_after n (params_of (type_at c.loop-number.env.table.types c.args.function))) (at_end) ∙ c.in-None.ensures)) (c.loop-number.invariant.rest xs h))
+    λ xs h. rw c.in_ok-new-in-None.ensures (arguments_end c.args.tree.now c.args.env.now.env c.args.from (notes_of c.args.env.now) c.loop-number.env c.loop-number.values.items _ xs (params_of (type_at c.args.env.now.table.types c.args.function)) c.loop-number.number (drop_all c.loop-number.number c.args.ids.now (omega arith)) (ap (λ u. types_after c.loop-number.number (params_of u)) (sym (type_stays c.args.env.now.table c.loop-number.env.table c.args.function c.loop-number.invariant.kept.numbers c.requires.function)) ∙ (ap (λ n. types_after n (params_of (type_at c.loop-number.env.table.types c.args.function))) (at_end) ∙ c.in-None.ensures)) (c.loop-number.invariant.rest xs h))
 
-pub calls::arguments-returns-in-None-clause-kept : goal.calls::arguments-returns-in-None-clause-kept
-calls::arguments-returns-in-None-clause-kept t c =
+pub calls::arguments-returns-in_ok-new-in-None-clause-kept : goal.calls::arguments-returns-in_ok-new-in-None-clause-kept
+calls::arguments-returns-in_ok-new-in-None-clause-kept t c =
     c.loop-number.invariant.kept
 
-pub calls::arguments-returns-in_err-new-clause-kept : goal.calls::arguments-returns-in_err-new-clause-kept
-calls::arguments-returns-in_err-new-clause-kept t c =
+pub calls::arguments-returns-in_err-new-in-None-clause-kept : goal.calls::arguments-returns-in_err-new-in-None-clause-kept
+calls::arguments-returns-in_err-new-in-None-clause-kept t c =
     c.loop-number.invariant.kept
 
 pub declarators::declared_type-decl-decl-requires : goal.declarators::declared_type-decl-decl-requires
