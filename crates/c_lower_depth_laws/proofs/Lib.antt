@@ -1,0 +1,15 @@
+pub mod Found
+pub mod Operators
+pub mod Agreeing
+pub mod Positive
+pub mod Typings
+pub mod Calls
+pub mod Expressions
+pub mod Reached
+pub mod Locals
+pub mod Statements
+pub mod Params
+pub mod Bodies
+pub mod Rows
+pub mod Programs
+pub mod Whole
