@@ -1,5 +1,5 @@
--- The stage that reads an input file: it is there, and no longer than a limit. That of a source is with its other
--- limits, in source_limits.
+-- The stage that reads an input file: it is there, and no longer than a limit. The limit of a source is with its
+-- other limits, in source_limits.
 use Rattle.std.specs.Prelude.{◌≤◌, ◌<◌, ◌++◌, ℕ, List, Option, length, codes, Some, None}
 use Rattle.r2_cli_outcome.specs.declared.status.Status.TheVariants.{ReadFault, Limit}
 use Rattle.r2_cli_outcome.specs.Outcome.{refusal, limit_words}
