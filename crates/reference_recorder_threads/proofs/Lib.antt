@@ -1,0 +1,5 @@
+pub mod Bytes
+pub mod Replied
+pub mod Reported
+pub mod Marked
+pub mod Oldest
