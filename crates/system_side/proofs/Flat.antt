@@ -1,53 +1,73 @@
 -- Answers whose pieces lie in one list.
-use Rattle.std.proofs.Common.{◌≡◌, ℕ, ◌≤◌, List, [], ◌∷◌, ◌++◌, length, take, drop, refl, sym, ap, ◌∙◌, subst, arith}
+use Rattle.std.proofs.Common.{◌≡◌, ℕ, ◌+◌, ◌-◌, ◌≤◌, List, [], ◌∷◌, ◌++◌, get_or, length, take, drop, refl, sym, ap, ◌∙◌, arith}
 use Rattle.std.specs.List.{All}
-use Rattle.std.proofs.lemmas.List.{drop-append-le, take-append-le, length-drop, length-take, take-append-drop, drop_all, map-append}
-use Rattle.std.proofs.lemmas.List.Elements.{All-head, All-tail, All-push, All-weaker}
+use Rattle.std.proofs.lemmas.List.{drop-append-le, take-append-le, length-drop, length-take, take-append-drop, take_all, drop_all, map-append, get_or_append_left, get_or-append-add}
+use Rattle.std.proofs.lemmas.List.Elements.{All-get_or, All-head, All-tail, All-weaker}
 use Rattle.system_side.specs.declared.answer_list.Entry.{Entry}
-use Rattle.system_side.specs.AnswerLists.{AreBegun, IsWithin, SoFar, answer_in, answers_in, pieces_in}
+use Rattle.system_side.specs.declared.answer_list.Group.{Group}
+use Rattle.system_side.specs.AnswerLists.{AreBegun, AreThere, HasGroup, IsWithin, SoFar, answer_in, answers_in, group_in, none, pieces_in}
 
--- the pieces of an answer stay where more follow those of all answers
-kept : (ps more : List (List ℕ)) (e : Entry) → IsWithin (length ps) e → pieces_in (ps ++ more) e ≡ pieces_in ps e
-kept ps more e high =
-    let n = length-drop e.first ps in
-    ap (take e.count) (drop-append-le e.first ps more (omega (arith, high)))
-    ∙ take-append-le e.count (drop e.first ps) more (omega (arith, high, n))
+-- the pieces of a group stay where more follow those of all answers
+kept : (ps more : List (List ℕ)) (g : Group) → IsWithin (length ps) g → pieces_in (ps ++ more) g ≡ pieces_in ps g
+kept ps more g high =
+    let n = length-drop g.first ps in
+    ap (take g.count) (drop-append-le g.first ps more (omega (arith, high)))
+    ∙ take-append-le g.count (drop g.first ps) more (omega (arith, high, n))
 
-pub all_kept : (ps more : List (List ℕ)) (es : List Entry) → All (IsWithin (length ps)) es → answers_in (ps ++ more) es ≡ answers_in ps es
-all_kept ps more [] h = refl
-all_kept ps more (e ∷ es) h =
-    let same = kept ps more e (All-head (IsWithin (length ps)) e es h) in
-    let rest = all_kept ps more es (All-tail (IsWithin (length ps)) e es h) in
+pub all_kept : (gs : List Group) (ps more : List (List ℕ)) (es : List Entry) → AreThere (length ps) gs es → answers_in gs (ps ++ more) es ≡ answers_in gs ps es
+all_kept gs ps more [] h = refl
+all_kept gs ps more (e ∷ es) h =
+    let inside = All-get_or (IsWithin (length ps)) gs e.group none (All-head (HasGroup gs) e es h.grouped) h.inside in
+    let same = kept ps more (group_in gs e) inside in
+    let rest = all_kept gs ps more es (record { grouped = All-tail (HasGroup gs) e es h.grouped; inside = h.inside }) in
     λ i. record { func = e.func; result = e.result; pieces = same i } ∷ rest i
 
--- answers whose pieces are among the first are among more
-pub among_more : (n m : ℕ) (es : List Entry) → n ≤ m → All (IsWithin n) es → All (IsWithin m) es
-among_more n m es le h = All-weaker (IsWithin n) (IsWithin m) (λ e low. omega (arith, low, le)) es h
+-- answers stay where more groups follow theirs
+pub all_grouped : (gs more : List Group) (ps : List (List ℕ)) (es : List Entry) → All (HasGroup gs) es → answers_in (gs ++ more) ps es ≡ answers_in gs ps es
+all_grouped gs more ps [] h = refl
+all_grouped gs more ps (e ∷ es) h =
+    let same = get_or_append_left gs more none e.group (All-head (HasGroup gs) e es h) in
+    let rest = all_grouped gs more ps es (All-tail (HasGroup gs) e es h) in
+    λ i. record { func = e.func; result = e.result; pieces = pieces_in ps (same i) } ∷ rest i
 
--- they stay where those that follow go
-pub all_cut : (ps : List (List ℕ)) (n : ℕ) (es : List Entry) → All (IsWithin n) es → n ≤ length ps → answers_in (take n ps) es ≡ answers_in ps es
-all_cut ps n es h high =
+-- groups whose pieces are among the first are among more
+pub there_in_more : (n m : ℕ) (gs : List Group) (es : List Entry) → n ≤ m → AreThere n gs es → AreThere m gs es
+there_in_more n m gs es le h = record {
+  grouped = h.grouped;
+  inside = All-weaker (IsWithin n) (IsWithin m) (λ g low. omega (arith, low, le)) gs h.inside;
+}
+
+-- they stay where the pieces that follow go
+pub all_cut : (gs : List Group) (ps : List (List ℕ)) (n : ℕ) (es : List Entry) → AreThere n gs es → n ≤ length ps → answers_in gs (take n ps) es ≡ answers_in gs ps es
+all_cut gs ps n es h high =
     let long = length-take n ps in
-    sym (all_kept (take n ps) (drop n ps) es (among_more n (length (take n ps)) es (omega (arith, long, high)) h))
-    ∙ ap (λ (qs : List (List ℕ)). answers_in qs es) (take-append-drop n ps)
+    sym (all_kept gs (take n ps) (drop n ps) es (there_in_more n (length (take n ps)) gs es (omega (arith, long, high)) h))
+    ∙ ap (λ (qs : List (List ℕ)). answers_in gs qs es) (take-append-drop n ps)
 
 pub none_begun : (ps : List (List ℕ)) (n : ℕ) → drop n (take n ps) ≡ []
 none_begun ps n = let long = length-take n ps in drop_all n (take n ps) (omega (arith, long))
 
 -- one more piece of the answer that was begun
-pub piece_added : (first : ℕ) (ps qs : List (List ℕ)) (p : List ℕ) (es : List Entry) (s : SoFar) → qs ≡ ps ++ p ∷ [] → AreBegun first ps es → answers_in ps es ≡ s.ended → drop first ps ≡ s.begun
-    → (answers_in qs es ≡ s.ended) × (drop first qs ≡ s.begun ++ p ∷ [])
-piece_added first ps qs p es s is kept ended begun = (
-  ap (λ (xs : List (List ℕ)). answers_in xs es) is ∙ (all_kept ps (p ∷ []) es (among_more first (length ps) es kept.start kept.inside) ∙ ended),
+pub piece_added : (first : ℕ) (gs : List Group) (ps qs : List (List ℕ)) (p : List ℕ) (es : List Entry) (s : SoFar) → qs ≡ ps ++ p ∷ [] → AreBegun first gs ps es → answers_in gs ps es ≡ s.ended → drop first ps ≡ s.begun
+    → (answers_in gs qs es ≡ s.ended) × (drop first qs ≡ s.begun ++ p ∷ [])
+piece_added first gs ps qs p es s is kept ended begun = (
+  ap (λ (xs : List (List ℕ)). answers_in gs xs es) is ∙ (all_kept gs ps (p ∷ []) es (there_in_more first (length ps) gs es kept.start kept.there) ∙ ended),
   ap (drop first) is ∙ (drop-append-le first ps (p ∷ []) kept.start ∙ ap (λ xs. xs ++ p ∷ []) begun),
 )
 
 -- one more answer
-pub one_more : (ps : List (List ℕ)) (es more : List Entry) (e : Entry) (s : SoFar) → more ≡ es ++ e ∷ [] → answers_in ps es ≡ s.ended → pieces_in ps e ≡ s.begun
-    → answers_in ps more ≡ s.ended ++ record { func = e.func; result = e.result; pieces = s.begun } ∷ []
-one_more ps es more e s is ended begun =
-    ap (answers_in ps) is ∙ (map-append (answer_in ps) es (e ∷ [])
-    ∙ (λ i. ended i ++ record { func = e.func; result = e.result; pieces = begun i } ∷ []))
+pub one_more : (gs : List Group) (ps : List (List ℕ)) (es more : List Entry) (e : Entry) (s : SoFar) (pieces : List (List ℕ)) → more ≡ es ++ e ∷ [] → answers_in gs ps es ≡ s.ended → pieces_in ps (group_in gs e) ≡ pieces
+    → answers_in gs ps more ≡ s.ended ++ record { func = e.func; result = e.result; pieces = pieces } ∷ []
+one_more gs ps es more e s pieces is ended here =
+    ap (answers_in gs ps) is ∙ (map-append (answer_in gs ps) es (e ∷ [])
+    ∙ (λ i. ended i ++ record { func = e.func; result = e.result; pieces = here i } ∷ []))
 
-pub within_more : (n m : ℕ) (es more : List Entry) (e : Entry) → more ≡ es ++ e ∷ [] → n ≤ m → All (IsWithin n) es → IsWithin m e → All (IsWithin m) more
-within_more n m es more e is le h one = subst (All (IsWithin m)) (sym is) (All-push (IsWithin m) es e (among_more n m es le h) one)
+-- the group that is put in last
+pub last_group : (gs : List Group) (g : Group) → get_or (gs ++ g ∷ []) (length gs) none ≡ g
+last_group gs g =
+    let here : length gs ≡ length gs + 0 = omega arith in
+    ap (λ n. get_or (gs ++ g ∷ []) n none) here ∙ get_or-append-add gs (g ∷ []) 0 none
+
+-- a group of all pieces from the first on
+pub all_from : (ps : List (List ℕ)) (first : ℕ) → take (length ps - first) (drop first ps) ≡ drop first ps
+all_from ps first = let n = length-drop first ps in take_all (length ps - first) (drop first ps) (omega (arith, n))

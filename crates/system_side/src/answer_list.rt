@@ -1,26 +1,32 @@
 //! What functions answer, in the order of the file. All pieces of all answers lie in one vector, so that an answer takes no
-//! memory of its own, and answers that follow one another with the same pieces share them.
+//! memory of its own, and an answer that repeats the pieces of the one before shares its group of them.
 
-ghost use Rattle.std.specs.Prelude.{◌≡◌, ◌<◌, ◌≤◌, ◌++◌, [], ◌∷◌, length, drop, true, Some, IfSome, OnOk, OnErr};
+ghost use Rattle.std.specs.Prelude.{◌≡◌, ◌<◌, ◌++◌, [], ◌∷◌, length, Some, OnOk, OnErr};
 ghost use Rattle.std.specs.List.{slice_get};
-ghost use Rattle.system_side.specs.AnswerLists.{AreBegun, IsWithin, as_scripted, pieces_in};
+ghost use Rattle.system_side.specs.AnswerLists.{IsWithin, as_scripted, last_pieces, pieces_in};
 
 use crate::file::Scripted;
 use run_events::Bytes;
 use std::alloc::{AllocError, Global};
 use std::marker::Model;
 
-/// How many pieces all answers have at most.
-const MOST_PIECES: usize = 0xffff_ffff;
+/// How many pieces all answers have at most, and how many groups of them.
+const MOST: usize = 0xffff_ffff;
 
-/// One answer: its result, a 64-bit two's complement pattern, the place of its first piece among those of all answers, how many
-/// pieces it has, and the number of its function.
+/// One answer: its result, a 64-bit two's complement pattern, the place of the group of its pieces, and the number of its
+/// function.
 #[derive(Clone, Copy)]
 pub struct Entry {
     result: u64,
+    group: u32,
+    func: u16,
+}
+
+/// Pieces that lie together: the place of the first among those of all answers, and how many they are.
+#[derive(Clone, Copy)]
+pub struct Group {
     first: u32,
     count: u32,
-    func: u16,
 }
 
 /// One answer of a list, as `Scripted`, whose pieces stay where they are.
@@ -35,6 +41,7 @@ pub struct Answer<'a> {
 #[derive(Drop)]
 pub struct Answers {
     entries: Vec<Entry>,
+    groups: Vec<Group>,
     pieces: Vec<Bytes>,
 }
 
@@ -42,14 +49,13 @@ impl Model for Answers {
     ghost use Rattle.std.specs.Prelude.{List};
     ghost use Rattle.system_side.specs.declared.file.Scripted.{Scripted};
     ghost use Rattle.std.specs.Prelude.{length};
-    ghost use Rattle.std.specs.List.{All};
-    ghost use Rattle.system_side.specs.AnswerLists.{IsWithin, answers_in};
+    ghost use Rattle.system_side.specs.AnswerLists.{AreThere, answers_in};
 
     ghost Value = { List Scripted };
 
-    ghost view = { λ l. answers_in l.pieces.items l.entries.items };
+    ghost view = { λ l. answers_in l.groups.items l.pieces.items l.entries.items };
 
-    ghost invariant = { λ l. All (IsWithin (length l.pieces.items)) l.entries.items };
+    ghost invariant = { λ l. AreThere (length l.pieces.items) l.groups.items l.entries.items };
 }
 
 impl Answers {
@@ -66,88 +72,29 @@ impl Answers {
         ensures { slice_get self.now place ≡ Some (as_scripted result) }
     {
         let entry = self.entries[place];
+        let group = self.groups[entry.group as usize];
         Answer {
             func: entry.func,
             result: entry.result,
-            pieces: pieces_of(&self.pieces, entry),
+            pieces: pieces_of(&self.pieces, group),
         }
     }
 }
 
-// The pieces of an answer, among those of all.
-fn pieces_of(pieces: &[Bytes], entry: Entry) -> &[Bytes]
-    requires { IsWithin (length pieces.now) entry }
-    ensures { result.now ≡ pieces_in pieces.now entry }
+// The pieces of a group, among those of all.
+fn pieces_of(pieces: &[Bytes], group: Group) -> &[Bytes]
+    requires { IsWithin (length pieces.now) group }
+    ensures { result.now ≡ pieces_in pieces.now group }
 {
-    let first = entry.first as usize;
-    &pieces[first..first + entry.count as usize]
-}
-
-// Whether two pieces are the same.
-#[inline(always)]
-fn is_same(one: &[u8], other: &[u8]) -> bool
-    ensures { result ≡ true → one.now ≡ other.now }
-{
-    one == other
-}
-
-// Whether these are one piece without bytes.
-#[inline(always)]
-fn is_lone_empty(pieces: &[Bytes]) -> bool
-    ensures { result ≡ true → pieces.now ≡ [] ∷ [] }
-{
-    match pieces {
-        [piece] => piece.as_slice().is_empty(),
-        _ => false,
-    }
-}
-
-// Whether two lists of pieces are the same. Most answers have one piece without bytes.
-#[inline(always)]
-fn are_same(some: &[Bytes], others: &[Bytes]) -> bool
-    ensures { result ≡ true → some.now ≡ others.now }
-{
-    if is_lone_empty(some) && is_lone_empty(others) {
-        return true;
-    }
-    are_each_same(some, others)
-}
-
-// The same, piece by piece.
-#[inline(never)]
-fn are_each_same(some: &[Bytes], others: &[Bytes]) -> bool
-    ensures { result ≡ true → some.now ≡ others.now }
-{
-    if some.len() != others.len() {
-        return false;
-    }
-    for at in 0..some.len() {
-        if !is_same(some[at].as_slice(), others[at].as_slice()) {
-            return false;
-        }
-    }
-    true
-}
-
-// The last answer, where its pieces are the same as those from the first on.
-#[inline(always)]
-fn same_before(entries: &[Entry], pieces: &[Bytes], first: usize) -> Option<Entry>
-    requires { AreBegun first pieces.now entries.now }
-    ensures same { IfSome result (λ e. pieces_in pieces.now e ≡ drop first pieces.now) }
-    ensures within { IfSome result (λ e. IsWithin first e) }
-{
-    let last = *entries.last()?;
-    if are_same(pieces_of(pieces, last), &pieces[first..]) {
-        Some(last)
-    } else {
-        None
-    }
+    let first = group.first as usize;
+    &pieces[first..first + group.count as usize]
 }
 
 /// A list of answers that is being made: the answers that are ended, and the pieces of one more.
 #[derive(Drop)]
 pub struct AnswersSoFar {
     entries: Vec<Entry>,
+    groups: Vec<Group>,
     pieces: Vec<Bytes>,
     first: usize,
 }
@@ -159,11 +106,11 @@ impl Model for AnswersSoFar {
     ghost Value = { SoFar };
 
     ghost view = { λ l. record {
-      ended = answers_in l.pieces.items l.entries.items;
+      ended = answers_in l.groups.items l.pieces.items l.entries.items;
       begun = drop l.first l.pieces.items;
     } };
 
-    ghost invariant = { λ l. AreBegun l.first l.pieces.items l.entries.items };
+    ghost invariant = { λ l. AreBegun l.first l.groups.items l.pieces.items l.entries.items };
 }
 
 impl AnswersSoFar {
@@ -174,6 +121,7 @@ impl AnswersSoFar {
     {
         AnswersSoFar {
             entries: Vec::new(alloc),
+            groups: Vec::new(alloc),
             pieces: Vec::new(alloc),
             first: 0,
         }
@@ -204,32 +152,47 @@ impl AnswersSoFar {
 
     /// Ends the answer, which is one of the function with this number, with this result.
     ///
-    /// `AllocError` also where all answers have 2^32 pieces, which take 96 GiB.
+    /// `AllocError` also where all answers have 2^32 pieces, which take 96 GiB, or as many groups, which take 32.
     pub fn end(&mut self, func: u16, value: u64) -> Result<(), AllocError>
         ensures ended { OnOk result (self.new.ended ≡ self.old.ended ++
             record { func = func; result = value; pieces = self.old.begun } ∷ []) }
         ensures unchanged { OnErr result (self.new ≡ self.old) }
     {
-        if let Some(last) = same_before(&self.entries, &self.pieces, self.first) {
-            self.entries.push(Entry {
-                result: value,
-                func,
-                ..last
-            })?;
-            self.pieces.truncate(self.first);
-            return Ok(());
-        }
         let end = self.pieces.len();
-        if end > MOST_PIECES {
+        let group = self.groups.len();
+        if end > MOST || group > MOST {
             return Err(AllocError);
         }
+        self.groups.reserve(1)?;
         self.entries.push(Entry {
             result: value,
-            first: self.first as u32,
-            count: (end - self.first) as u32,
+            group: group as u32,
             func,
         })?;
+        self.groups.push_reserved(Group {
+            first: self.first as u32,
+            count: (end - self.first) as u32,
+        });
         self.first = end;
+        Ok(())
+    }
+
+    /// One more answer, of the function with this number, with this result and the pieces of the answer that was ended last. What
+    /// was begun stays so.
+    pub fn repeat(&mut self, func: u16, value: u64) -> Result<(), AllocError>
+        requires some { 0 < length self.old.ended }
+        ensures ended { OnOk result (self.new ≡ record self.old {
+          ended = self.old.ended ++
+              record { func = func; result = value; pieces = last_pieces self.old.ended } ∷ [];
+        }) }
+        ensures unchanged { OnErr result (self.new ≡ self.old) }
+    {
+        let last = self.entries[self.entries.len() - 1];
+        self.entries.push(Entry {
+            result: value,
+            group: last.group,
+            func,
+        })?;
         Ok(())
     }
 
@@ -239,9 +202,14 @@ impl AnswersSoFar {
     {
         let AnswersSoFar {
             entries,
+            groups,
             pieces,
             first: _,
         } = self;
-        Answers { entries, pieces }
+        Answers {
+            entries,
+            groups,
+            pieces,
+        }
     }
 }

@@ -6,4 +6,4 @@ use Rattle.system_side.proofs.answer_list.Answers.len.Goals as goal
 pub returns : goal.returns
 returns c =
     let l = c.self.inside in
-    c.len.ensures ∙ (l.entries.ok.0 ∙ (sym (length-map l.entries.items (answer_in l.pieces.items)) ∙ ap length c.self.view_is))
+    c.len.ensures ∙ (l.entries.ok.0 ∙ (sym (length-map l.entries.items (answer_in l.groups.items l.pieces.items)) ∙ ap length c.self.view_is))
