@@ -8,3 +8,4 @@ pub mod Names
 pub mod Steps
 pub mod NearTurns
 mod Ranges
+mod Repeats

@@ -1,10 +1,12 @@
 -- What a line says of an answer of a function.
-use Rattle.std.specs.Prelude.{ℕ, ◌-◌, ◌^◌, ◌==◌, if◌then◌else◌, List, [], ◌∷◌, ◌++◌, length, Option, None}
+use Rattle.std.specs.Prelude.{◌≡◌, ℕ, ◌-◌, ◌^◌, ◌<◌, ◌==◌, if◌then◌else◌, List, [], ◌∷◌, ◌++◌, length, Option, Some, None}
 use Rattle.std.specs.Option.{option_map, option_and_then}
+use Rattle.system_side.specs.AnswerLists.{last_pieces}
 use Rattle.system_side.specs.declared.file.Scripted.{Scripted}
 use Rattle.sys_script_lines.specs.declared.externals.External.{External}
 use Rattle.sys_script_lines.specs.Each.{each}
 use Rattle.sys_script_lines.specs.Numbers.{number_in}
+use Rattle.sys_script_lines.specs.Parts.{parts}
 use Rattle.sys_script_lines.specs.Pieces.{piece}
 
 -- the result that a text spells, in the range of the function's type, as its two's complement pattern of 64
@@ -36,3 +38,14 @@ answer who (name ∷ words) = option_and_then (λ e. answer_of e words) (who nam
 -- the answers so far, and one more, where there is one
 abbrev pub with_answer : List Scripted → Option Scripted → Option (List Scripted)
 with_answer so_far more = option_map (λ a. so_far ++ a ∷ []) more
+
+-- the last of some answers has these pieces, so many
+pub record HasLast (answers : List Scripted) (pieces : List (List ℕ)) (count : ℕ) : Type 0 where
+  pub some : 0 < length answers
+  pub pieces_are : last_pieces answers ≡ pieces
+  pub count_is : length pieces ≡ count
+
+-- the words spell the pieces of the last answer, so many; nothing where these are none
+abbrev pub IsSpelled : (words : List ℕ) (count : ℕ) → List Scripted → Type 0
+IsSpelled words count answers = 0 < count → (each piece (parts 32 words) ≡ Some (last_pieces answers)) ×
+    HasLast answers (last_pieces answers) count

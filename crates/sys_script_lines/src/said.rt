@@ -7,7 +7,7 @@ ghost use Rattle.sys_script_lines.specs.Lines.{answer_line, budget_line, chunk_l
 ghost use Rattle.sys_script_lines.specs.Says.{Says};
 ghost use Rattle.sys_script_lines.specs.Scripts.{after_line, file_of, heard, nothing, once};
 
-use crate::answer::answer;
+use crate::answer::AnswersRead;
 use crate::cut::cut;
 use crate::error::Wrong;
 use crate::finder::Finder;
@@ -15,7 +15,7 @@ use crate::number::number;
 use crate::turns::turns;
 use std::alloc::{AllocError, Global};
 use std::marker::Model;
-use system_side::{AnswersSoFar, Schedule, SysFile};
+use system_side::{Schedule, SysFile};
 
 /// The most steps of a budget.
 const MOST_BUDGET: u64 = 100_000_000;
@@ -28,14 +28,14 @@ const CHUNK: u16 = 64;
 
 /// What the lines so far say.
 #[derive(Drop)]
-pub(crate) struct Said {
+pub(crate) struct Said<'a> {
     budget: Option<u64>,
     chunk: Option<u16>,
     schedule: Option<Schedule>,
-    answers: AnswersSoFar,
+    answers: AnswersRead<'a>,
 }
 
-impl Model for Said {
+impl<'a> Model for Said<'a> {
     ghost use Rattle.sys_script_lines.specs.Scripts.{SaidSoFar};
 
     ghost Value = { SaidSoFar };
@@ -44,20 +44,20 @@ impl Model for Said {
       budget = s.budget;
       chunk = s.chunk;
       schedule = s.schedule;
-      answers =
-          s.answers.ended;
+      answers = s.answers;
     } };
 }
 
-impl Said {
-    pub(crate) fn new(alloc: Global) -> Said
+impl<'a> Said<'a> {
+    /// Nothing. The lines to come are of this text.
+    pub(crate) fn new(alloc: Global, text: &'a [u8]) -> Said<'a>
         ensures { result ≡ nothing }
     {
         Said {
             budget: None,
             chunk: None,
             schedule: None,
-            answers: AnswersSoFar::new(alloc),
+            answers: AnswersRead::new(alloc, text),
         }
     }
 
@@ -91,7 +91,7 @@ impl Said {
 
     // Takes a line that says what a function answers.
     #[inline(always)]
-    fn hear_answer<'a>(
+    fn hear_answer(
         &mut self,
         alloc: Global,
         finder: &mut Finder<'a>,
@@ -101,12 +101,12 @@ impl Said {
             (option_and_then (heard self.old) (answer_line (named_in finder.old.externals.now) text.now)) }
         ensures same { finder.new.externals.now ≡ finder.old.externals.now }
     {
-        answer(alloc, finder, &mut self.answers, text)
+        self.answers.add(alloc, finder, text)
     }
 
     // Takes a line that begins with this word, where this follows after a blank.
     #[inline(never)]
-    fn hear_by<'a>(
+    fn hear_by(
         &mut self,
         alloc: Global,
         finder: &mut Finder<'a>,
@@ -131,7 +131,7 @@ impl Said {
     }
 
     /// Takes what one more line says, without the byte that ends it. What stands once at most is wrong where it stands again.
-    pub(crate) fn hear<'a>(
+    pub(crate) fn hear(
         &mut self,
         alloc: Global,
         finder: &mut Finder<'a>,
@@ -155,7 +155,7 @@ impl Said {
 
     /// The file in which all lines are read.
     pub(crate) fn finish(self, alloc: Global) -> Result<SysFile, AllocError>
-        ensures { IfOk result (λ file. file ≡ file_of self) }
+        ensures { IfOk result (λ file. file ≡ file_of self.entry) }
     {
         let Said {
             budget,

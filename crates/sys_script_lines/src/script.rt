@@ -16,15 +16,15 @@ use system_side::SysFile;
 ///
 /// `Line` is the number of the first line, from 1, that says nothing that it may say there; bytes after the last line end
 /// are such a line.
-pub fn read_lines(
+pub fn read_lines<'a>(
     alloc: Global,
-    bytes: &[u8],
-    externals: &Externals,
+    bytes: &'a [u8],
+    externals: &'a Externals,
 ) -> Result<SysFile, ScriptError>
     requires { length bytes.now ≤ 1048576 }
     ensures { IsRead (script_of (named_in externals.now) bytes.now) result }
 {
-    let mut said = Said::new(alloc);
+    let mut said = Said::new(alloc, bytes);
     let mut finder = Finder::new(externals);
     let mut rest = bytes;
     let mut number = 1;
