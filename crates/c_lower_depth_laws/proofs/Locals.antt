@@ -122,5 +122,5 @@ pub locals_reach : (xs : Decls) (objects : List (List ℕ)) (d : Declared) → A
 locals_reach NoDecls objects d agrees = (agrees, refl)
 locals_reach (MoreDecls x xs) objects d agrees =
     let after = with_locals xs (with_local x objects) in
-    reaches_start made_depth (Declares (with_local x objects)) made_depth (Declares after) (local_depth x objects) (locals_depth xs (with_local x objects)) (local x d) _ (local_reaches x objects d agrees)
+    reaches_start made_depth (Declares (with_local x objects)) made_depth (Declares after) (local_depth x objects) (locals_depth xs (with_local x objects)) (local x d) (λ a. locals_of xs a.0 >>= (λ b. Fine (b.0, joined a.1 b.1))) (local_reaches x objects d agrees)
     (λ a h. reaches_last made_depth (Declares after) made_depth (Declares after) (made_depth a) (locals_depth xs (with_local x objects)) (locals_of xs a.0) (λ b. (b.0, joined a.1 b.1)) (locals_reach xs (with_local x objects) a.0 h) (λ b k. (k, joined_depth a.1 b.1)))

@@ -2,7 +2,7 @@
 use Rattle.std.proofs.Common.{◌≡◌, ℕ, max, List, refl, arith}
 use Rattle.c_syntax.specs.Syntax.{Expr, MaybeExpr, Stmt, Entries, Entry, First, NoExpr, OneExpr, Block, Expression, If, IfElse, While, Do, For, Break, Continue, Return, NoEntries, MoreEntries, LocalEntry, StmtEntry, NoFirst, LocalFirst, ExprFirst}
 use Rattle.c_types_model.specs.Types.{CType, Void, Integer, PointerTo, ArrayOf, StructOf, UndefinedStruct, FunctionOf}
-use Rattle.c_types_rules.specs.Checked.{Fine, ◌>>=◌}
+use Rattle.c_types_rules.specs.Checked.{Checked, Fine, ◌>>=◌}
 use Rattle.c_types_rules.specs.TypeTests.{is_void}
 use Rattle.c_types_rules.specs.Environment.{Environment}
 use Rattle.c_types_rules.specs.Expressions.{start_of}
@@ -65,6 +65,17 @@ evaluated_depth : (v : MaybeValue) → statement_depth (evaluated v) ≡ heights
 evaluated_depth NoValue = refl
 evaluated_depth (OneValue v) = refl
 
+-- ---- loops
+
+-- what follows the first part of a `for`
+looped_reaches : (from : ℕ) (a : Declared × Statements) (x y : MaybeExpr) (objects : List (List ℕ)) (k : ℕ) (c : Checked (List CType × Statement)) → AgreesIn objects a.0.env → Reaches depth_at Any k c
+    → Reaches depth_at Any (max (made_depth a) (max (maybe_depth x objects) (max (maybe_depth y objects) k))) (maybe_condition a.0.env x >>= (λ v. maybe_in a.0.env y >>= (λ z. c >>= (λ b. Fine (b.0, typed.For from a.1 v z b.1)))))
+looped_reaches from a x y objects k c agrees h =
+    reaches_then heights.maybe_depth Any depth_at Any (made_depth a) (maybe_depth x objects) (max (maybe_depth y objects) k) (maybe_condition a.0.env x) _ (maybe_condition_reaches x objects a.0.env agrees)
+    (λ v i. reaches_then heights.maybe_depth Any depth_at Any (max (made_depth a) (heights.maybe_depth v)) (maybe_depth y objects) k (maybe_in a.0.env y) _ (maybe_reaches y objects a.0.env agrees)
+    (λ z j. reaches_last depth_at Any depth_at Any (max (max (made_depth a) (heights.maybe_depth v)) (heights.maybe_depth z)) k c (λ b. (b.0, typed.For from a.1 v z b.1)) h
+    (λ b l. (tt, of_four (made_depth a) (heights.maybe_depth v) (heights.maybe_depth z) (depth_at b)))))
+
 -- ---- statements
 
 mutual
@@ -88,12 +99,10 @@ mutual
       reaches_start depth_at Any depth_at Any (stmt_depth s objects) (whole_depth x objects) (statement s (looping p) d) _ (statement_reaches s objects (looping p) d agrees)
       (λ a h. reaches_last value_depth Any depth_at Any (depth_at a) (whole_depth x objects) (condition_in d.env x) (λ c. (a.0, typed.Do from a.1 c)) (condition_reaches x objects d.env agrees) (λ c k. (tt, refl)))
   statement_reaches (For from f x y s) objects p d agrees =
-      let o = after_first f objects in
-      reaches_start made_depth (Declares o) depth_at Any (first_depth f objects) (max (maybe_depth x o) (max (maybe_depth y o) (stmt_depth s o))) (first f p (inside d)) _ (first_reach f objects p (inside d) (agrees_inner objects d.env agrees))
-      (λ a h. reaches_then heights.maybe_depth Any depth_at Any (made_depth a) (maybe_depth x o) (max (maybe_depth y o) (stmt_depth s o)) (maybe_condition a.0.env x) _ (maybe_condition_reaches x o a.0.env h)
-      (λ c k. reaches_then heights.maybe_depth Any depth_at Any (max (made_depth a) (heights.maybe_depth c)) (maybe_depth y o) (stmt_depth s o) (maybe_in a.0.env y) _ (maybe_reaches y o a.0.env h)
-      (λ z j. reaches_last depth_at Any depth_at Any (max (max (made_depth a) (heights.maybe_depth c)) (heights.maybe_depth z)) (stmt_depth s o) (statement s (looping p) a.0) (λ b. (b.0, typed.For from a.1 c z b.1)) (statement_reaches s o (looping p) a.0 h)
-      (λ b i. (tt, of_four (made_depth a) (heights.maybe_depth c) (heights.maybe_depth z) (depth_at b))))))
+      reaches_start made_depth (Declares (after_first f objects)) depth_at Any (first_depth f objects) (max (maybe_depth x (after_first f objects)) (max (maybe_depth y (after_first f objects)) (stmt_depth s (after_first f objects)))) (first f p (inside d))
+      (λ a. maybe_condition a.0.env x >>= (λ c. maybe_in a.0.env y >>= (λ z. statement s (looping p) a.0 >>= (λ b. Fine (b.0, typed.For from a.1 c z b.1)))))
+      (first_reach f objects p (inside d) (agrees_inner objects d.env agrees))
+      (λ a h. looped_reaches from a x y (after_first f objects) (stmt_depth s (after_first f objects)) (statement s (looping p) a.0) h (statement_reaches s (after_first f objects) (looping p) a.0 h))
   statement_reaches (Break from) objects p d agrees = reaches_kept depth_at Any 0 from 11 p.in_loop (Fine (d.locals, typed.Break)) (tt, refl)
   statement_reaches (Continue from) objects p d agrees = reaches_kept depth_at Any 0 from 11 p.in_loop (Fine (d.locals, typed.Continue)) (tt, refl)
   statement_reaches (Return from x) objects p d agrees =
@@ -103,7 +112,7 @@ mutual
   entries_reach NoEntries objects p d agrees = (tt, refl)
   entries_reach (MoreEntries e es) objects p d agrees =
       let o = after_entry e objects in
-      reaches_start made_depth (Declares o) depths_at Any (entry_depth e objects) (entries_depth es o) (entry e p d) _ (entry_reaches e objects p d agrees)
+      reaches_start made_depth (Declares o) depths_at Any (entry_depth e objects) (entries_depth es o) (entry e p d) (λ a. entries es p a.0 >>= (λ b. Fine (b.0, joined a.1 b.1))) (entry_reaches e objects p d agrees)
       (λ a h. reaches_last depths_at Any depths_at Any (made_depth a) (entries_depth es o) (entries es p a.0) (λ b. (b.0, joined a.1 b.1)) (entries_reach es o p a.0 h) (λ b k. (tt, joined_depth a.1 b.1)))
 
   entry_reaches : (e : Entry) (objects : List (List ℕ)) (p : Surroundings) (d : Declared) → AgreesIn objects d.env → Reaches made_depth (Declares (after_entry e objects)) (entry_depth e objects) (entry e p d)
