@@ -1,0 +1,3 @@
+pub mod Annotated
+pub mod Places
+pub mod Said
