@@ -1,0 +1,42 @@
+use Rattle.std.proofs.Common.{◌∙◌, [], cond, sym, ap}
+use Rattle.std.specs.Prelude.{leb}
+use Rattle.marks.specs.Places.{thread_count}
+use Rattle.c_machine.specs.Positions.{laid}
+use Rattle.system_side.specs.System.{is_thread}
+use Rattle.whole_runs.specs.Outcomes.{minus_one}
+use Rattle.whole_runs.specs.Below.{Says}
+use Rattle.reference_recorder_given.specs.Given.{given_by_builtin}
+use Rattle.reference_recorder_given.proofs.Giving.{holder_is, started_is}
+use Rattle.reference_recorder_given.proofs.gives.by_builtin.Goals as goal
+
+pub returns-in-Malloc : goal.returns-in-Malloc
+returns-in-Malloc c = λ w run f h. ap (given_by_builtin w run c.args.thread c.args.argument) (sym c.in-Malloc.is)
+
+pub returns-in-Free : goal.returns-in-Free
+returns-in-Free c = λ w run f h. ap (given_by_builtin w run c.args.thread c.args.argument) (sym c.in-Free.is)
+
+pub returns-in-Spawn : goal.returns-in-Spawn
+returns-in-Spawn c = λ w run f h.
+    let l = laid c.args.code.now c.args.placed.now in
+    c.says.ensures
+    ∙ (ap (λ n. Says n []) (c.number_of_next.ensures ∙ ap (λ n. cond (leb thread_count n) minus_one n) (started_is w run l f c.args.marks.now c.args.threads.now h))
+    ∙ ap (given_by_builtin w run c.args.thread c.args.argument) (sym c.in-Spawn.is))
+
+pub returns-in-Join : goal.returns-in-Join
+returns-in-Join c = λ w run f h.
+    c.says.ensures
+    ∙ (ap (λ n. Says n []) (c.joined.ensures w run h.laid h.threads)
+    ∙ ap (given_by_builtin w run c.args.thread c.args.argument) (sym c.in-Join.is))
+
+pub returns-in-Lock : goal.returns-in-Lock
+returns-in-Lock c = λ w run f h. c.says.ensures ∙ ap (given_by_builtin w run c.args.thread c.args.argument) (sym c.in-Lock.is)
+
+pub returns-in-Unlock : goal.returns-in-Unlock
+returns-in-Unlock c = λ w run f h.
+    let l = laid c.args.code.now c.args.placed.now in
+    c.says.ensures
+    ∙ (ap (λ n. Says n []) (c.unlocked.ensures ∙ ap (λ o. cond (is_thread c.args.thread o) 0 minus_one) (holder_is w run l f c.args.marks.now c.args.threads.now h c.args.argument))
+    ∙ ap (given_by_builtin w run c.args.thread c.args.argument) (sym c.in-Unlock.is))
+
+pub returns-in-Print : goal.returns-in-Print
+returns-in-Print c = λ w run f h. c.says.ensures ∙ ap (given_by_builtin w run c.args.thread c.args.argument) (sym c.in-Print.is)
