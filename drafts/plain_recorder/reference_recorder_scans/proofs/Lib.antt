@@ -1,4 +1,0 @@
-pub mod AboveCut
-pub mod Bytes
-pub mod Found
-pub mod Scanning
