@@ -6,7 +6,7 @@ use Rattle.c_scopes.specs.Scopes.{same_name}
 use Rattle.c_types_model.specs.Types.{CType}
 use Rattle.c_types_rules.specs.Sources.{Function, body_at, with_body}
 use Rattle.c_types_rules.specs.TypedTree.{Body}
-use Rattle.c_lower_depth_laws.specs.Functions.{Row, either_depth, with_row}
+use Rattle.c_lower_depth_laws.specs.Functions.{Row, with_row}
 use Rattle.c_lower_depth_laws.specs.Laws.{row_of, typed_body_depth}
 
 pub names_equal : (a b : List ℕ) → same_name a b ≡ true → a ≡ b
@@ -29,13 +29,13 @@ row_more [] name t h = refl
 row_more (f ∷ fs) name t h = by (same_name name f.name) (place_of name fs) h (row_more fs name t)
   where
     by : (b : Bool) (o : Option ℕ) → cond b (Some 0) (option_map (λ (k : ℕ). suc k) o) ≡ None → (o ≡ None → map row_of (fs ++ bare name t ∷ []) ≡ with_row name None (map row_of fs))
-        → row_of f ∷ map row_of (fs ++ bare name t ∷ []) ≡ cond b (record { name = f.name; depth = either_depth (option_map typed_body_depth f.body) None } ∷ map row_of fs) (row_of f ∷ with_row name None (map row_of fs))
+        → row_of f ∷ map row_of (fs ++ bare name t ∷ []) ≡ cond b (record { name = f.name; depth = option_or (option_map typed_body_depth f.body) None } ∷ map row_of fs) (row_of f ∷ with_row name None (map row_of fs))
     by true o h k = absurd cc
     by false None h k = ap (λ rs. row_of f ∷ rs) (k refl)
     by false (Some n) h k = absurd cc
 
 -- a function that is there
-either_none : (o : Option ℕ) → either_depth o None ≡ o
+either_none : (o : Option ℕ) → option_or o None ≡ o
 either_none None = refl
 either_none (Some n) = refl
 
@@ -44,7 +44,7 @@ row_same [] name k h = absurd cc
 row_same (f ∷ fs) name k h = by (same_name name f.name) (place_of name fs) h (row_same fs name)
   where
     by : (b : Bool) (o : Option ℕ) → cond b (Some 0) (option_map (λ (i : ℕ). suc i) o) ≡ Some k → ((i : ℕ) → o ≡ Some i → map row_of fs ≡ with_row name None (map row_of fs))
-        → row_of f ∷ map row_of fs ≡ cond b (record { name = f.name; depth = either_depth (option_map typed_body_depth f.body) None } ∷ map row_of fs) (row_of f ∷ with_row name None (map row_of fs))
+        → row_of f ∷ map row_of fs ≡ cond b (record { name = f.name; depth = option_or (option_map typed_body_depth f.body) None } ∷ map row_of fs) (row_of f ∷ with_row name None (map row_of fs))
     by true o h g = ap (λ (d : Option ℕ). let r : Row = record { name = f.name; depth = d } in r ∷ map row_of fs) (sym (either_none (option_map typed_body_depth f.body)))
     by false None h g = absurd cc
     by false (Some i) h g = ap (λ rs. row_of f ∷ rs) (g i refl)
@@ -69,13 +69,13 @@ row_given [] name k b h e = absurd cc
 row_given (f ∷ fs) name zero b h e = by (same_name name f.name) h
   where
     by : (c : Bool) → cond c (Some 0) (option_map (λ (i : ℕ). suc i) (place_of name fs)) ≡ Some 0
-        → row_of (record f { body = Some b }) ∷ map row_of fs ≡ cond c (record { name = f.name; depth = either_depth (option_map typed_body_depth f.body) (Some (typed_body_depth b)) } ∷ map row_of fs) (row_of f ∷ with_row name (Some (typed_body_depth b)) (map row_of fs))
-    by true h = ap (λ (d : Option ℕ). let r : Row = record { name = f.name; depth = d } in r ∷ map row_of fs) (sym (ap (λ (o : Option Body). either_depth (option_map typed_body_depth o) (Some (typed_body_depth b))) e))
+        → row_of (record f { body = Some b }) ∷ map row_of fs ≡ cond c (record { name = f.name; depth = option_or (option_map typed_body_depth f.body) (Some (typed_body_depth b)) } ∷ map row_of fs) (row_of f ∷ with_row name (Some (typed_body_depth b)) (map row_of fs))
+    by true h = ap (λ (d : Option ℕ). let r : Row = record { name = f.name; depth = d } in r ∷ map row_of fs) (sym (ap (λ (o : Option Body). option_or (option_map typed_body_depth o) (Some (typed_body_depth b))) e))
     by false h = absurd (none_first (place_of name fs) h)
 row_given (f ∷ fs) name (suc k) b h e = by (same_name name f.name) h (λ at. row_given fs name k b at e)
   where
     by : (c : Bool) → cond c (Some 0) (option_map (λ (i : ℕ). suc i) (place_of name fs)) ≡ Some (suc k) → (place_of name fs ≡ Some k → map row_of (with_body fs k b) ≡ with_row name (Some (typed_body_depth b)) (map row_of fs))
-        → row_of f ∷ map row_of (with_body fs k b) ≡ cond c (record { name = f.name; depth = either_depth (option_map typed_body_depth f.body) (Some (typed_body_depth b)) } ∷ map row_of fs) (row_of f ∷ with_row name (Some (typed_body_depth b)) (map row_of fs))
+        → row_of f ∷ map row_of (with_body fs k b) ≡ cond c (record { name = f.name; depth = option_or (option_map typed_body_depth f.body) (Some (typed_body_depth b)) } ∷ map row_of fs) (row_of f ∷ with_row name (Some (typed_body_depth b)) (map row_of fs))
     by true h g = absurd (none_next k h)
     by false h g = ap (λ rs. row_of f ∷ rs) (g (one_less (place_of name fs) k h))
 
@@ -87,16 +87,16 @@ row_twice [] name d =
     ap (λ c. cond c (given ∷ []) (without ∷ with_row name (Some d) [])) (name_itself name)
 row_twice (f ∷ fs) name d = by (same_name name f.name) refl (row_twice fs name d)
   where
-    twice : (o : Option ℕ) → either_depth (either_depth o None) (Some d) ≡ either_depth o (Some d)
+    twice : (o : Option ℕ) → option_or (option_or o None) (Some d) ≡ option_or o (Some d)
     twice None = refl
     twice (Some n) = refl
 
-    by : (c : Bool) → same_name name f.name ≡ c → with_row name (Some d) (with_row name None fs) ≡ with_row name (Some d) fs → with_row name (Some d) (cond c (record f { depth = either_depth f.depth None } ∷ fs) (f ∷ with_row name None fs)) ≡ cond c (record f { depth = either_depth f.depth (Some d) } ∷ fs) (f ∷ with_row name (Some d) fs)
+    by : (c : Bool) → same_name name f.name ≡ c → with_row name (Some d) (with_row name None fs) ≡ with_row name (Some d) fs → with_row name (Some d) (cond c (record f { depth = option_or f.depth None } ∷ fs) (f ∷ with_row name None fs)) ≡ cond c (record f { depth = option_or f.depth (Some d) } ∷ fs) (f ∷ with_row name (Some d) fs)
     by true e g =
-        ap (λ c. cond c (record f { depth = either_depth (either_depth f.depth None) (Some d) } ∷ fs) (record f { depth = either_depth f.depth None } ∷ with_row name (Some d) fs)) e
+        ap (λ c. cond c (record f { depth = option_or (option_or f.depth None) (Some d) } ∷ fs) (record f { depth = option_or f.depth None } ∷ with_row name (Some d) fs)) e
         ∙ ap (λ (o : Option ℕ). record f { depth = o } ∷ fs) (twice f.depth)
     by false e g =
-        ap (λ c. cond c (record f { depth = either_depth f.depth (Some d) } ∷ with_row name None fs) (f ∷ with_row name (Some d) (with_row name None fs))) e
+        ap (λ c. cond c (record f { depth = option_or f.depth (Some d) } ∷ with_row name None fs) (f ∷ with_row name (Some d) (with_row name None fs))) e
         ∙ ap (λ rs. f ∷ rs) g
 
 -- ---- places

@@ -12,7 +12,7 @@ use Rattle.c_types_rules.specs.TypedTree.{Body}
 use Rattle.c_types_program.specs.Declarations.{Declared}
 use Rattle.c_types_program.specs.Programs.{IsProgram}
 use Rattle.c_lower.specs.Depths.{body_depth, first_wide, functions_in, is_wide}
-use Rattle.c_lower_depth_laws.specs.Functions.{Row, first_deep, functions_of, is_deep}
+use Rattle.c_lower_depth_laws.specs.Functions.{Row, first_wide_row, functions_of, is_wide_row}
 use Rattle.c_lower_depth_laws.specs.Laws.{row_of, typed_body_depth}
 use Rattle.c_lower_laws.proofs.Held.{Holds}
 use Rattle.c_lower_depth_laws.proofs.Programs.{Rows, source_matches}
@@ -35,17 +35,17 @@ deep_alike : (n : ℕ) → nat_lt most_values n ≡ nat_lt most_values (max 1 n)
 deep_alike zero = refl
 deep_alike (suc n) = let e : suc n ≡ max 1 (suc n) = omega arith in ap (nat_lt most_values) e
 
-wide_alike : (o : Option Body) → is_wide o ≡ is_deep (option_map typed_body_depth o)
+wide_alike : (o : Option Body) → is_wide o ≡ is_wide_row (option_map typed_body_depth o)
 wide_alike None = refl
 wide_alike (Some b) = deep_alike (body_depth b)
 
-first_alike : (place : ℕ) (fs : List Function) → first_wide place fs ≡ first_deep place (map row_of fs)
+first_alike : (place : ℕ) (fs : List Function) → first_wide place fs ≡ first_wide_row place (map row_of fs)
 first_alike place [] = refl
-first_alike place (f ∷ fs) = ap (λ b. cond b (Some (first_source_function + place)) (first_wide (suc place) fs)) (wide_alike f.body) ∙ ap (cond (is_deep (option_map typed_body_depth f.body)) (Some (first_source_function + place))) (first_alike (suc place) fs)
+first_alike place (f ∷ fs) = ap (λ b. cond b (Some (first_source_function + place)) (first_wide (suc place) fs)) (wide_alike f.body) ∙ ap (cond (is_wide_row (option_map typed_body_depth f.body)) (Some (first_source_function + place))) (first_alike (suc place) fs)
 
-pub first_is_counted : (ds : Decls) (p : Program) → outcome ds ≡ Typed p → first_wide 0 p.functions ≡ first_deep 0 (functions_of ds)
-first_is_counted ds p e = first_alike 0 p.functions ∙ ap (first_deep 0) (depths_are_counted ds p e)
+pub first_is_counted : (ds : Decls) (p : Program) → outcome ds ≡ Typed p → first_wide 0 p.functions ≡ first_wide_row 0 (functions_of ds)
+first_is_counted ds p e = first_alike 0 p.functions ∙ ap (first_wide_row 0) (depths_are_counted ds p e)
 
 -- of a program that is what the source declares
-pub first_in_is_counted : (ds : Decls) (p : Program) (d : Declared) → outcome ds ≡ Typed p → IsProgram d p → first_wide 0 (functions_in d) ≡ first_deep 0 (functions_of ds)
+pub first_in_is_counted : (ds : Decls) (p : Program) (d : Declared) → outcome ds ≡ Typed p → IsProgram d p → first_wide 0 (functions_in d) ≡ first_wide_row 0 (functions_of ds)
 first_in_is_counted ds p d e is = ap (λ (q : Program). first_wide 0 q.functions) is ∙ first_is_counted ds p e

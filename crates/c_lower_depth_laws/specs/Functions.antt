@@ -1,5 +1,6 @@
 -- The depths of the evaluation stack in the functions of a source, by its syntax.
 use Rattle.std.specs.Prelude.{ℕ, suc, ◌+◌, max, Bool, true, false, if◌then◌else◌, nat_lt, List, [], ◌∷◌, Option, Some, None}
+use Rattle.std.specs.Option.{option_or}
 use Rattle.source_limits.specs.Limits.{most_values}
 use Rattle.c_syntax.specs.Syntax.{Decl, Decls, Parts, Rest, Stmt, Declare, NoDecls, MoreDecls, NoParts, Pointer, Array, Params, Body, Members}
 use Rattle.c_scopes.specs.Scopes.{same_name}
@@ -27,7 +28,7 @@ abbrev pub with_params : Decls → (objects : List (List ℕ)) → List (List �
 with_params NoDecls objects = objects
 with_params (MoreDecls d ds) objects = with_params ds (with_param d objects)
 
--- of a function's body: what it returns is on the stack, also where it returns nothing
+-- of a function's body: 1 at least, since a return pushes a value
 abbrev pub function_depth : Parts → Stmt → (objects : List (List ℕ)) → ℕ
 function_depth ps s objects = max 1 (stmt_depth s (with_params (nearest ps) objects))
 
@@ -36,16 +37,11 @@ abbrev pub depth_in : Parts → Rest → (objects : List (List ℕ)) → Option 
 depth_in ps (Body s) objects = Some (function_depth ps s objects)
 depth_in ps r objects = None
 
--- the first of two that is there
-abbrev pub either_depth : Option ℕ → Option ℕ → Option ℕ
-either_depth (Some n) o = Some n
-either_depth None o = o
-
 -- with one more function at the end, or with the body of one that is there
 abbrev pub with_row : List ℕ → Option ℕ → List Row → List Row
 with_row name o [] = record { name = name; depth = o } ∷ []
 with_row name o (f ∷ fs) = if same_name name f.name
-    then record f { depth = either_depth f.depth o } ∷ fs else f ∷ with_row name o fs
+    then record f { depth = option_or f.depth o } ∷ fs else f ∷ with_row name o fs
 
 -- the functions after a declaration at file scope
 abbrev pub rows_after : Decl → (objects : List (List ℕ)) → List Row → List Row
@@ -69,12 +65,12 @@ abbrev pub functions_of : Decls → List Row
 functions_of ds = rows_of ds [] []
 
 -- deeper than 64 values
-abbrev pub is_deep : Option ℕ → Bool
-is_deep None = false
-is_deep (Some n) = nat_lt most_values n
+abbrev pub is_wide_row : Option ℕ → Bool
+is_wide_row None = false
+is_wide_row (Some n) = nat_lt most_values n
 
 -- the number of the first such function, where these have the places from one on
-abbrev pub first_deep : (place : ℕ) → List Row → Option ℕ
-first_deep place [] = None
-first_deep place (f ∷ fs) = if is_deep f.depth then Some (first_source_function + place)
-    else first_deep (suc place) fs
+abbrev pub first_wide_row : (place : ℕ) → List Row → Option ℕ
+first_wide_row place [] = None
+first_wide_row place (f ∷ fs) = if is_wide_row f.depth then Some (first_source_function + place)
+    else first_wide_row (suc place) fs

@@ -7,7 +7,7 @@ use Rattle.c_types_rules.specs.Sources.{Function}
 use Rattle.c_lower.specs.Depths.{body_depth}
 use Rattle.c_lower_depth_laws.specs.Functions.{Row}
 
--- what a function returns is on the stack in any case
+-- 1 at least, since a return pushes a value
 abbrev pub typed_body_depth : Body → ℕ
 typed_body_depth b = max 1 (body_depth b)
 

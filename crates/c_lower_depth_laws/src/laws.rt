@@ -13,7 +13,7 @@ ghost use Rattle.c_lower_rules.specs.Heights.{value_depth};
 ghost use Rattle.c_lower.specs.Depths.{first_wide, functions_in};
 ghost use Rattle.c_lower_depth_laws.specs.Expressions.{expression_depth};
 ghost use Rattle.c_lower_depth_laws.specs.Names.{AgreesIn};
-ghost use Rattle.c_lower_depth_laws.specs.Functions.{first_deep, functions_of};
+ghost use Rattle.c_lower_depth_laws.specs.Functions.{first_wide_row, functions_of};
 ghost use Rattle.c_lower_depth_laws.specs.Laws.{Gives, row_of};
 
 /// A law: an expression that keeps the rules of types (C11 6.5) is as deep as its syntax says, where these are the names of objects.
@@ -32,5 +32,5 @@ pub fn depths_are_counted()
 /// A law: the first function that is deeper than 64 values is the first that is by the source's syntax.
 pub fn first_wide_is_counted()
     ensures { (ds : Decls) (p : Program) (d : Declared) → outcome ds ≡ Typed p → IsProgram d p →
-        first_wide 0 (functions_in d) ≡ first_deep 0 (functions_of ds) }
+        first_wide 0 (functions_in d) ≡ first_wide_row 0 (functions_of ds) }
 {}
