@@ -3,6 +3,7 @@
 the first over those of the others, each the best of its runs. What a program takes to start is part of each, so it is told to know
 only as many names (NAMES) as the file needs."""
 import os
+import random
 import sys
 
 from timing import timed
@@ -11,6 +12,9 @@ MOST = 1 << 20
 
 # An odd number whose multiples have bytes of all kinds: 2^128 over the golden ratio.
 SPREAD = 0x9E3779B97F4A7C15F39CC0605CEDC835
+
+# The same numbers in each run.
+PICKS = random.Random(1)
 
 
 def lines(line):
@@ -29,13 +33,14 @@ FILES = {
     "answers without bytes": lines("answer read 0 -\n"),
     "answers of two names": lines("answer read 0 -\nanswer poll 0 -\n"),
     "answers of 900 names": lines("".join(f"answer f{number} 0 -\n" for number in range(100, 1000))),
+    "answers of 900 names in no order": "".join(f"answer f{PICKS.randrange(100, 1000)} 0 -\n" for _ in range(MOST // 17)),
     "answers of 16 bytes": lines("answer read 16 000102030405060708090a0b0c0d0e0f\n"),
     "answers of 16 other bytes": "".join(f"answer read 16 {at * SPREAD % (1 << 128):032x}\n" for at in range(MOST // 48)),
     "one long answer": "answer read 1 " + "5a" * ((MOST - 15) // 2) + "\n",
 }
 
 # How many functions `f100`, `f101` and so on a file names; else it names `read` and `poll` alone.
-NAMES = {"answers of 900 names": 900}
+NAMES = {"answers of 900 names": 900, "answers of 900 names in no order": 900}
 
 
 def main():

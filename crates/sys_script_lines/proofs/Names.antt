@@ -1,10 +1,13 @@
 -- Functions by their names, as they are kept.
-use Rattle.std.proofs.Common.{◌≡◌, ℕ, Bool, true, false, cond, List, [], ◌∷◌, ◌++◌, Option, Some, None, refl, ap, ◌∙◌}
+use Rattle.std.proofs.Common.{◌≡◌, ℕ, Bool, true, false, cond, List, [], ◌∷◌, ◌++◌, Option, Some, None, refl, sym, ap, ◌∙◌, subst}
+use Rattle.std.specs.List.{All}
 use Rattle.std.specs.Option.{option_or, is_some}
 use Rattle.std.specs.Str.{bytes_eq}
+use Rattle.std.proofs.lemmas.List.Elements.{All-nil, All-cons, All-head, All-tail}
 use Rattle.std.proofs.lemmas.Slice.Eq.{bytes_eq-Decides}
 use Rattle.sys_script_lines.specs.declared.externals.External.{External}
 use Rattle.sys_script_lines.specs.Externals.{Name, external_named, kept_at, only_named, texts}
+use Rattle.sys_script_lines.specs.Parts.{IsPart}
 
 -- the function of a name is what is kept under it
 pub named_kept : (name : List ℕ) (es : List (Name × External)) → external_named name (texts es) ≡ kept_at name es
@@ -36,3 +39,21 @@ named_there name own es e there =
 pub not_there : {A : Type 0} (o : Option A) → false ≡ is_some o → o ≡ None
 not_there None h = refl
 not_there (Some x) h = absurd cc
+
+-- the name of an entry has no blank
+abbrev HasNoBlank : List ℕ × External → Type 0
+HasNoBlank e = IsPart 32 e.0
+
+-- a name that is found has no blank, where none has
+pub named_part : (name : List ℕ) (es : List (List ℕ × External)) (x : External) → All HasNoBlank es → external_named name es ≡ Some x → IsPart 32 name
+named_part name [] x h is = absurd cc
+named_part name (e ∷ es) x h is = by (bytes_eq name e.0) refl is (named_part name es x (All-tail HasNoBlank e es h))
+  where
+    by : (b : Bool) → bytes_eq name e.0 ≡ b → cond b (Some e.1) (external_named name es) ≡ Some x → (external_named name es ≡ Some x → IsPart 32 name) → IsPart 32 name
+    by true same is later = subst (λ n. IsPart 32 n) (sym ((bytes_eq-Decides name e.0).0 same)) (All-head HasNoBlank e es h)
+    by false other is later = later is
+
+-- one name more without a blank
+pub none_pushed : (own : List ℕ) (es : List (List ℕ × External)) (e : External) → All HasNoBlank es → IsPart 32 own → All HasNoBlank (es ++ (own, e) ∷ [])
+none_pushed own [] e h part = All-cons HasNoBlank (own, e) [] part (All-nil HasNoBlank)
+none_pushed own (f ∷ es) e h part = All-cons HasNoBlank f (es ++ (own, e) ∷ []) (All-head HasNoBlank f es h) (none_pushed own es e (All-tail HasNoBlank f es h) part)

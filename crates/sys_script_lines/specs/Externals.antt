@@ -1,10 +1,11 @@
 -- The functions that a system file answers, by their names.
-use Rattle.std.specs.Prelude.{◌≡◌, ℕ, List, [], ◌∷◌, map, Option, Some, None, if◌then◌else◌, Vec}
+use Rattle.std.specs.Prelude.{◌≡◌, ℕ, Bool, true, List, [], ◌∷◌, map, Option, Some, None, if◌then◌else◌, Vec}
 use Rattle.std.specs.declared.alloc.Global.{Global}
+use Rattle.std.specs.List.{All}
 use Rattle.std.specs.Map.{lookup}
 use Rattle.std.specs.Str.{bytes_eq}
 use Rattle.sys_script_lines.specs.declared.externals.External.{External}
-use Rattle.sys_script_lines.specs.Parts.{parts}
+use Rattle.sys_script_lines.specs.Parts.{IsPart, parts}
 
 -- the function of a name; where several have it, the first
 abbrev pub external_named : List ℕ → List (List ℕ × External) → Option External
@@ -30,6 +31,10 @@ texts entries = map (λ e. (e.0.items, e.1)) entries
 -- what is kept under a name
 abbrev pub kept_at : List ℕ → List (Name × External) → Option External
 kept_at name entries = lookup (λ k. bytes_eq name k.items) entries
+
+-- where the flag is set, no name has a blank
+abbrev pub HaveNoBlank : Bool → List (List ℕ × External) → Type 0
+HaveNoBlank flag es = flag ≡ true → All (λ e. IsPart 32 e.0) es
 
 -- the words are a name and others; the function is that of the name
 pub record IsNamed (es : List (List ℕ × External)) (words : List ℕ) (found : Option External) (rest : List ℕ) : Type 0 where

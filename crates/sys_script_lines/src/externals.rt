@@ -1,10 +1,11 @@
 //! The functions that a system file answers.
 
-ghost use Rattle.std.specs.Prelude.{◌≡◌, ℕ, List, [], None, Some, IfSome, OnOk, OnErr, if◌then◌else◌};
-ghost use Rattle.std.specs.Option.{option_copied, option_map, option_or};
-ghost use Rattle.std.specs.Str.{bytes_eq};
+ghost use Rattle.std.specs.Prelude.{◌≡◌, ℕ, true, List, [], Some, IfSome, OnOk, OnErr};
+ghost use Rattle.std.specs.Option.{option_map, option_or};
 ghost use Rattle.sys_script_lines.specs.Externals.{external_named, only_named};
+ghost use Rattle.sys_script_lines.specs.Parts.{IsPart};
 
+use crate::cut::cut;
 use indexmap::IndexMap;
 use std::alloc::{AllocError, Global};
 use std::marker::Model;
@@ -22,21 +23,31 @@ pub struct External {
     pub pieces: usize,
 }
 
-/// The functions without a body, by their names.
+/// Whether no name had a blank, and this one has none.
+fn stays_blank_free(is_blank_free: bool, name: &[u8]) -> bool
+    ensures { result ≡ true → (is_blank_free ≡ true) × IsPart 32 name.now }
+{
+    is_blank_free && cut(name, b' ').is_none()
+}
+
+/// The functions without a body, by their names. It knows that no name has a blank, where that is so, as of the names of C.
 #[derive(Drop)]
 pub struct Externals {
     alloc: Global,
     by_name: IndexMap<Vec<u8>, External>,
+    is_blank_free: bool,
 }
 
 impl Model for Externals {
     ghost use Rattle.std.specs.Prelude.{ℕ, List};
-    ghost use Rattle.sys_script_lines.specs.Externals.{texts};
+    ghost use Rattle.sys_script_lines.specs.Externals.{HaveNoBlank, texts};
     ghost use Rattle.sys_script_lines.specs.declared.externals.External.{External};
 
     ghost Value = { List (List ℕ × External) };
 
     ghost view = { λ e. texts e.by_name.entries };
+
+    ghost invariant = { λ e. HaveNoBlank e.is_blank_free (texts e.by_name.entries) };
 }
 
 impl Externals {
@@ -47,6 +58,7 @@ impl Externals {
         Externals {
             alloc,
             by_name: IndexMap::new(alloc),
+            is_blank_free: true,
         }
     }
 
@@ -60,8 +72,10 @@ impl Externals {
         if self.by_name.contains_key(name) {
             return Ok(());
         }
+        let is_blank_free = stays_blank_free(self.is_blank_free, name);
         let name = Vec::from_slice(self.alloc, name)?;
         self.by_name.insert(name, external)?;
+        self.is_blank_free = is_blank_free;
         Ok(())
     }
 
@@ -69,14 +83,7 @@ impl Externals {
     pub fn find(&self, name: &[u8]) -> Option<External>
         ensures { result ≡ external_named name.now self.now }
     {
-        self.get(name).copied()
-    }
-
-    /// The same, which stays where it is.
-    pub(crate) fn get(&self, name: &[u8]) -> Option<&External>
-        ensures { option_copied result ≡ external_named name.now self.now }
-    {
-        self.by_name.get(name)
+        self.by_name.get(name).copied()
     }
 
     /// The function that was put in at this place, where its name is this one.
@@ -90,6 +97,19 @@ impl Externals {
         } else {
             None
         }
+    }
+
+    /// The function that was put in at this place, and its name. `None` also where any name has a blank.
+    #[inline(always)]
+    pub(crate) fn named_at(&self, place: usize) -> Option<(&[u8], &External)>
+        ensures named { IfSome result (λ x. external_named x.0.now self.now ≡ Some x.1.now) }
+        ensures part { IfSome result (λ x. IsPart 32 x.0.now) }
+    {
+        if !self.is_blank_free {
+            return None;
+        }
+        let (name, external) = self.by_name.get_index(place)?;
+        Some((name.as_slice(), external))
     }
 
     /// The function of this name, and its place.

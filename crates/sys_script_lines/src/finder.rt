@@ -1,26 +1,27 @@
 //! Functions that are looked up by name, one after the other.
 
-ghost use Rattle.std.specs.Prelude.{◌≡◌, ◌∷◌, ◌<◌, [], IfSome, IfNone};
+ghost use Rattle.std.specs.Prelude.{◌≡◌, ◌∷◌, ◌<◌, ◌^◌, [], Some, IfSome, IfNone};
 ghost use Rattle.std.specs.Option.{option_copied};
 ghost use Rattle.sys_script_lines.specs.Externals.{IsNamed, external_named};
 ghost use Rattle.sys_script_lines.specs.Parts.{IsPart, parts};
 
 use crate::externals::{External, Externals};
 
-/// How many places a finder remembers.
+/// How many places a finder remembers by a sum.
 const ROOM: usize = 8192;
 
-/// Finds functions by name. It keeps the last name, since answers of one function often follow one another, and remembers where
-/// names were found, each by a sum over its bytes; another name of the same sum takes its room. Both are looked at first, and
-/// only make a search needless.
+/// Of how many functions it remembers the successor; a source has no more.
+const SUCCESSORS: usize = 1024;
+
+/// Finds functions by name. Answers mostly come in the order of calls, so it remembers of each function which one came next the last time,
+/// its successor, and tries that first; else it looks where the name was found, by a sum over its bytes. Both only make a search
+/// needless: a name that is no successor, or takes the room of another, is found as well.
 #[derive(Drop)]
 pub(crate) struct Finder<'a> {
     pub(crate) externals: &'a Externals,
-    name: &'a [u8],
-    found: Option<&'a External>,
+    last: usize,
+    successors: [u16; SUCCESSORS],
     places: [u16; ROOM],
-    ghost last: { option_copied found ≡ external_named name.now externals.now },
-    ghost part: { IsPart 32 name.now },
 }
 
 /// What follows the name and a blank, where the words begin with them.
@@ -57,11 +58,10 @@ impl<'a> Finder<'a> {
     pub(crate) fn new(externals: &'a Externals) -> Finder<'a>
         ensures { result.externals.now ≡ externals.now }
     {
-        let name = b"".as_slice();
         Finder {
             externals,
-            name,
-            found: externals.get(name),
+            last: 0,
+            successors: [0; SUCCESSORS],
             places: [0; ROOM],
         }
     }
@@ -74,13 +74,37 @@ impl<'a> Finder<'a> {
         ensures last { IfNone result (parts 32 words.now ≡ words.now ∷ []) }
         ensures same { self.new.externals.now ≡ self.old.externals.now }
     {
-        if let Some(rest) = after_name(words, self.name) {
-            return Some((self.found, rest));
+        match self.cut_successor(words) {
+            Some((external, rest)) => Some((Some(external), rest)),
+            None => self.cut_any(words),
         }
+    }
+
+    // The same where the name is the successor of the last one; `None` where it isn't.
+    #[inline(always)]
+    fn cut_successor(&mut self, words: &'a [u8]) -> Option<(&'a External, &'a [u8])>
+        ensures found { IfSome result (λ x.
+            IsNamed self.old.externals.now words.now (Some x.0.now) x.1.now) }
+        ensures same { self.new.externals.now ≡ self.old.externals.now }
+    {
+        let externals = self.externals;
+        let place = usize::from(self.successors[self.last % SUCCESSORS]);
+        let (name, external) = externals.named_at(place)?;
+        let rest = after_name(words, name)?;
+        self.last = place;
+        Some((external, rest))
+    }
+
+    // The same as `cut`, of any name.
+    #[inline(never)]
+    fn cut_any(&mut self, words: &'a [u8]) -> Option<(Option<&'a External>, &'a [u8])>
+        ensures found { IfSome result (λ x.
+            IsNamed self.old.externals.now words.now (option_copied x.0) x.1.now) }
+        ensures last { IfNone result (parts 32 words.now ≡ words.now ∷ []) }
+        ensures same { self.new.externals.now ≡ self.old.externals.now }
+    {
         let (name, rest, sum) = cut_name(words)?;
         let found = self.find(name, sum as usize % ROOM);
-        self.name = name;
-        self.found = found;
         Some((found, rest))
     }
 
@@ -92,8 +116,12 @@ impl<'a> Finder<'a> {
         ensures same { self.new.externals.now ≡ self.old.externals.now }
     {
         let externals = self.externals;
-        match externals.at(usize::from(self.places[room]), name) {
-            Some(external) => Some(external),
+        let place = usize::from(self.places[room]);
+        match externals.at(place, name) {
+            Some(external) => {
+                self.remember_successor(place);
+                Some(external)
+            }
             None => self.search(name, room),
         }
     }
@@ -109,7 +137,18 @@ impl<'a> Finder<'a> {
         let (place, external) = externals.place_of(name)?;
         if place <= usize::from(u16::MAX) {
             self.places[room] = place as u16;
+            self.remember_successor(place);
         }
         Some(external)
+    }
+
+    // The function at this place is the successor of the last one.
+    #[inline(always)]
+    fn remember_successor(&mut self, place: usize)
+        requires { place < 2 ^ 16 }
+        ensures { self.new.externals.now ≡ self.old.externals.now }
+    {
+        self.successors[self.last % SUCCESSORS] = place as u16;
+        self.last = place;
     }
 }
