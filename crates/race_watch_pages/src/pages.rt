@@ -1,16 +1,31 @@
 //! Numbers by cell.
 
-ghost use Rattle.std.specs.Prelude.{◌≡◌, ◌+◌, ◌*◌, ◌/◌, ◌<◌, ◌≤◌, ◌&&◌, ℕ, nat_le, nat_lt, if◌then◌else◌, IfOk, OnOk, IsTrue, MatchOption};
-ghost use Rattle.race_watch_pages.specs.Kept.{kept, size, IsThere, StandsAt};
+ghost use Rattle.std.specs.Prelude.{◌≡◌, ◌+◌, ◌*◌, ◌/◌, ◌%◌, ◌<◌, ◌≤◌, ◌&&◌, ℕ, nat_le, nat_lt, if◌then◌else◌, slice_index, IfOk, OnOk, IsTrue, MatchOption};
+ghost use Rattle.race_watch_pages.specs.Kept.{kept, size, IsThere, IsSplit, IsReady, StandsAt, StandsInWords};
 
-use crate::part::{are_all, are_at_most, fill};
+use crate::part::{are_all, are_at_most, are_words, fill, spread};
 use std::alloc::{AllocError, Global};
 
-/// The numbers of the 256 cells of a page.
+/// A page of 256 cells: one number for four in a row, or where each has its own.
 #[derive(Drop)]
-pub struct Page {
+pub struct WordPage {
+    number: u32,
+    split: Option<u32>,
+    values: [u32; 64],
+}
+
+/// The numbers of the 256 cells of a page, one for each.
+#[derive(Drop)]
+pub struct CellPage {
     number: u32,
     values: [u32; 256],
+}
+
+/// Where the numbers of a page stand.
+#[derive(Clone, Copy)]
+pub enum Place {
+    Words(u32),
+    Cells(u32),
 }
 
 /// Numbers by cell. A page that isn't there has zeros.
@@ -18,7 +33,8 @@ pub struct Page {
 pub struct Pages {
     /// By page, where it stands if it is there; no number counts where another page stands (Briggs and Torczon 1993).
     index: Vec<u32>,
-    pages: Vec<Page>,
+    words: Vec<WordPage>,
+    cells: Vec<CellPage>,
 }
 
 impl Pages {
@@ -29,20 +45,27 @@ impl Pages {
     {
         Ok(Pages {
             index: vec![in alloc; 0; pages as usize]?,
-            pages: Vec::new(alloc),
+            words: Vec::new(alloc),
+            cells: Vec::new(alloc),
         })
     }
 
     /// Where a page stands, if it is there.
     #[inline(always)]
-    fn find(&self, page: u32) -> Option<usize>
+    fn find(&self, page: u32) -> Option<Place>
         requires { page < size self.now }
-        ensures { MatchOption result ((c : ℕ) → c / 256 ≡ page →
-            kept self.now c ≡ 0) (λ at. StandsAt self.now page at) }
+        ensures { MatchOption result (IsThere self.now page → ⊥) (λ at. StandsAt self.now page at) }
     {
-        let at = self.index[page as usize] as usize;
-        if at < self.pages.len() && self.pages[at].number == page {
-            return Some(at);
+        let at = self.index[page as usize];
+        if (at as usize) < self.words.len() && self.words[at as usize].number == page {
+            match self.words[at as usize].split {
+                None => return Some(Place::Words(at)),
+                Some(to) => {
+                    if (to as usize) < self.cells.len() && self.cells[to as usize].number == page {
+                        return Some(Place::Cells(to));
+                    }
+                }
+            }
         }
         None
     }
@@ -52,10 +75,11 @@ impl Pages {
         requires { cell / 256 < size self.now }
         ensures { result ≡ kept self.now cell }
     {
-        if let Some(at) = self.find(cell / 256) {
-            return self.pages[at].values[(cell % 256) as usize];
+        match self.find(cell / 256) {
+            None => 0,
+            Some(Place::Words(at)) => self.words[at as usize].values[(cell % 256 / 4) as usize],
+            Some(Place::Cells(at)) => self.cells[at as usize].values[(cell % 256) as usize],
         }
-        0
     }
 
     /// Whether the cells of one page, from the first to before the last, are seen to have no number above the bound.
@@ -69,7 +93,13 @@ impl Pages {
         let last = first + (to - from) as usize;
         match self.find(from / 256) {
             None => true,
-            Some(at) => are_at_most(&self.pages[at].values, first, last, bound),
+            Some(Place::Words(at)) => {
+                let values = &self.words[at as usize].values;
+                are_at_most(values, first / 4, (last - 1) / 4 + 1, bound)
+            }
+            Some(Place::Cells(at)) => {
+                are_at_most(&self.cells[at as usize].values, first, last, bound)
+            }
         }
     }
 
@@ -85,7 +115,10 @@ impl Pages {
         let last = first + (to - from) as usize;
         match self.find(from / 256) {
             None => false,
-            Some(at) => are_all(&self.pages[at].values, first, last, value),
+            Some(Place::Words(at)) => {
+                are_words(&self.words[at as usize].values, first, last, value)
+            }
+            Some(Place::Cells(at)) => are_all(&self.cells[at as usize].values, first, last, value),
         }
     }
 
@@ -142,70 +175,147 @@ impl Pages {
 
     /// Makes a page, if it isn't there.
     fn make_page(&mut self, page: u32) -> Result<(), AllocError>
-        requires page { page < size self.old }
+        requires { page < size self.old }
         ensures size { size self.new ≡ size self.old }
         ensures same { (c : ℕ) → kept self.new c ≡ kept self.old c }
         ensures there { OnOk result (IsThere self.new page) }
         ensures stays { (p : ℕ) → IsThere self.old p → IsThere self.new p }
+        ensures split { (p : ℕ) → IsSplit self.old p → IsSplit self.new p }
     {
         if let Some(_at) = self.find(page) {
             return Ok(());
         }
-        let at = self.pages.len();
+        let at = self.words.len();
         if at > 0xffff_ffff {
             return Err(AllocError);
         }
-        self.pages.push(Page {
+        self.words.push(WordPage {
             number: page,
-            values: [0; 256],
+            split: None,
+            values: [0; 64],
         })?;
         self.index[page as usize] = at as u32;
         Ok(())
     }
 
-    /// Makes the pages of the cells from the first to before the last. No number changes.
+    /// Gives each cell of a page that is there a number of its own, if it has none.
+    fn split(&mut self, page: u32) -> Result<(), AllocError>
+        requires page { page < size self.old }
+        requires there { IsThere self.old page }
+        ensures size { size self.new ≡ size self.old }
+        ensures same { (c : ℕ) → kept self.new c ≡ kept self.old c }
+        ensures there { OnOk result (IsSplit self.new page) }
+        ensures stays { (p : ℕ) → IsThere self.old p → IsThere self.new p }
+        ensures split { (p : ℕ) → IsSplit self.old p → IsSplit self.new p }
+    {
+        match self.find(page) {
+            Some(Place::Words(at)) => {
+                let values = spread(&self.words[at as usize].values);
+                self.put_cells(page, at, values)
+            }
+            Some(Place::Cells(_to)) => Ok(()),
+            None => Ok(()),
+        }
+    }
+
+    /// Gives each cell of a page its own number, the one that it has.
+    fn put_cells(&mut self, page: u32, at: u32, values: [u32; 256]) -> Result<(), AllocError>
+        requires place { StandsInWords self.old page at }
+        requires values { (c : ℕ) → c / 256 ≡ page → slice_index values (c % 256) ≡ kept self.old c }
+        ensures size { size self.new ≡ size self.old }
+        ensures same { (c : ℕ) → kept self.new c ≡ kept self.old c }
+        ensures there { OnOk result (IsSplit self.new page) }
+        ensures stays { (p : ℕ) → IsThere self.old p → IsThere self.new p }
+        ensures split { (p : ℕ) → IsSplit self.old p → IsSplit self.new p }
+    {
+        let to = self.cells.len();
+        if to > 0xffff_ffff {
+            return Err(AllocError);
+        }
+        self.cells.push(CellPage {
+            number: page,
+            values,
+        })?;
+        self.words[at as usize].split = Some(to as u32);
+        Ok(())
+    }
+
+    /// Makes the page of cells of one page, so that they can be filled.
+    fn make_part(&mut self, from: u32, to: u32) -> Result<(), AllocError>
+        requires page { to ≤ from / 256 * 256 + 256 }
+        requires within { from / 256 < size self.old }
+        ensures size { size self.new ≡ size self.old }
+        ensures same { (c : ℕ) → kept self.new c ≡ kept self.old c }
+        ensures ready { OnOk result (IsReady self.new from to) }
+        ensures stays { (p : ℕ) → IsThere self.old p → IsThere self.new p }
+        ensures split { (p : ℕ) → IsSplit self.old p → IsSplit self.new p }
+    {
+        self.make_page(from / 256)?;
+        if from % 4 == 0 && to % 4 == 0 {
+            return Ok(());
+        }
+        self.split(from / 256)
+    }
+
+    /// Makes the pages of the cells from the first to before the last, so that they can be filled. No number changes.
     pub fn make(&mut self, from: u32, to: u32) -> Result<(), AllocError>
         requires order { from ≤ to }
         requires within { to ≤ 256 * size self.old }
         requires small { to ≤ 4000000000 }
         ensures size { size self.new ≡ size self.old }
         ensures same { (c : ℕ) → kept self.new c ≡ kept self.old c }
-        ensures there { OnOk result ((c : ℕ) → from ≤ c → c < to → IsThere self.new (c / 256)) }
+        ensures ready { OnOk result (IsReady self.new from to) }
         ensures stays { (p : ℕ) → IsThere self.old p → IsThere self.new p }
+        ensures split { (p : ℕ) → IsSplit self.old p → IsSplit self.new p }
     {
         let mut at = from;
         while at < to {
-            self.make_page(at / 256)?;
-            at = to.min(at / 256 * 256 + 256);
+            let stop = to.min(at / 256 * 256 + 256);
+            self.make_part(at, stop)?;
+            at = stop;
         }
         Ok(())
     }
 
-    /// Puts a number at the cells of one page that is there.
+    /// Puts a number at the cells of one page, which are made ready.
     fn fill_part(&mut self, from: u32, to: u32, value: u32)
         requires order { from < to }
         requires page { to ≤ from / 256 * 256 + 256 }
         requires within { from / 256 < size self.old }
-        requires there { IsThere self.old (from / 256) }
+        requires ready { IsReady self.old from to }
         ensures size { size self.new ≡ size self.old }
         ensures stays { (p : ℕ) → IsThere self.old p → IsThere self.new p }
+        ensures split { (p : ℕ) → IsSplit self.old p → IsSplit self.new p }
         ensures filled { (c : ℕ) → kept self.new c ≡
             (if nat_le from c && nat_lt c to then value else kept self.old c) }
     {
         let first = (from % 256) as usize;
         let last = first + (to - from) as usize;
-        let at = self.index[(from / 256) as usize] as usize;
-        fill(&mut self.pages[at].values, first, last, value);
+        match self.find(from / 256) {
+            None => {}
+            Some(Place::Words(at)) => {
+                fill(
+                    &mut self.words[at as usize].values,
+                    first / 4,
+                    last / 4,
+                    value,
+                );
+            }
+            Some(Place::Cells(at)) => {
+                fill(&mut self.cells[at as usize].values, first, last, value);
+            }
+        }
     }
 
-    /// Puts a number at the cells from the first to before the last, whose pages are there.
+    /// Puts a number at the cells from the first to before the last, which are made ready.
     pub fn fill(&mut self, from: u32, to: u32, value: u32)
         requires order { from ≤ to }
         requires within { to ≤ 256 * size self.old }
         requires small { to ≤ 4000000000 }
-        requires there { (c : ℕ) → from ≤ c → c < to → IsThere self.old (c / 256) }
+        requires ready { IsReady self.old from to }
         ensures size { size self.new ≡ size self.old }
         ensures stays { (p : ℕ) → IsThere self.old p → IsThere self.new p }
+        ensures split { (p : ℕ) → IsSplit self.old p → IsSplit self.new p }
         ensures filled { (c : ℕ) → kept self.new c ≡
             (if nat_le from c && nat_lt c to then value else kept self.old c) }
     {

@@ -1,11 +1,11 @@
-//! Some cells of one page.
+//! Some numbers of one page.
 
-ghost use Rattle.std.specs.Prelude.{◌≡◌, ℕ, ◌+◌, ◌<◌, ◌≤◌, ◌&&◌, nat_le, nat_lt, if◌then◌else◌, slice_index, length, IsTrue};
+ghost use Rattle.std.specs.Prelude.{◌≡◌, ℕ, ◌+◌, ◌/◌, ◌<◌, ◌≤◌, ◌&&◌, nat_le, nat_lt, if◌then◌else◌, slice_index, length, IsTrue};
 
 /// Whether no number from the first place to before the last is above the bound.
-pub fn are_at_most(values: &[u32; 256], from: usize, to: usize, bound: u32) -> bool
+pub fn are_at_most(values: &[u32], from: usize, to: usize, bound: u32) -> bool
     requires order { from ≤ to }
-    requires within { to ≤ 256 }
+    requires within { to ≤ length values.now }
     ensures { IsTrue result → (k : ℕ) → from ≤ k → k < to → slice_index values.now k ≤ bound }
 {
     for k in from..to {
@@ -42,11 +42,26 @@ fn are_four(values: &[u32; 256], from: usize, value: u32) -> bool
         & (values[from + 3] == value)
 }
 
+/// Whether each cell from the first to before the last has this number, where four cells in a row have one.
+#[inline(always)]
+pub fn are_words(values: &[u32; 64], from: usize, to: usize, value: u32) -> bool
+    requires order { from < to }
+    requires within { to ≤ 256 }
+    ensures { IsTrue result → (k : ℕ) → from ≤ k → k < to → slice_index values.now (k / 4) ≡ value }
+{
+    let first = from / 4;
+    let last = (to - 1) / 4;
+    if values[first] != value || values[last] != value {
+        return false;
+    }
+    last - first < 2 || are_many(values, first + 1, last, value)
+}
+
 // The same of any count.
 #[inline(never)]
-fn are_many(values: &[u32; 256], from: usize, to: usize, value: u32) -> bool
+fn are_many(values: &[u32], from: usize, to: usize, value: u32) -> bool
     requires order { from ≤ to }
-    requires within { to ≤ 256 }
+    requires within { to ≤ length values.now }
     ensures { IsTrue result → (k : ℕ) → from ≤ k → k < to → slice_index values.now k ≡ value }
 {
     for k in from..to {
@@ -68,4 +83,15 @@ pub fn fill(values: &mut [u32], from: usize, to: usize, value: u32)
     for k in from..to {
         values[k] = value;
     }
+}
+
+/// The numbers of cells of which four in a row have one.
+pub fn spread(words: &[u32; 64]) -> [u32; 256]
+    ensures { (k : ℕ) → k < 256 → slice_index result k ≡ slice_index words.now (k / 4) }
+{
+    let mut values = [0; 256];
+    for k in 0..256 {
+        values[k] = words[k / 4];
+    }
+    values
 }

@@ -1,20 +1,36 @@
-use Rattle.std.proofs.Common.{◌≡◌, ◌∙◌, ◌%◌, ◌/◌, ◌<◌, ◌++◌, ◌∷◌, [], ℕ, List, MatchOption, refl, ap, subst, arith}
-use Rattle.std.proofs.Math.ListN.{set, replicate}
+use Rattle.std.proofs.Common.{ℕ, ◌%◌, ◌/◌, ◌<◌, List, None, ◌∙◌, refl, arith}
+use Rattle.std.proofs.Math.ListN.{replicate}
 use Rattle.std.proofs.lemmas.List.{get_or-replicate}
-use Rattle.race_watch_pages.specs.declared.pages.Page.{Page}
-use Rattle.race_watch_pages.specs.Kept.{kept, page_at, value_of, StandsAt}
-use Rattle.race_watch_pages.proofs.Cells.{made_same}
+use Rattle.std.specs.Vec.{with_item}
+use Rattle.race_watch_pages.specs.declared.pages.WordPage.{WordPage}
+use Rattle.race_watch_pages.specs.declared.pages.Pages.{Pages}
+use Rattle.race_watch_pages.proofs.Cells.{IsMade, made_same, made_there, made_split}
 use Rattle.race_watch_pages.proofs.pages.Pages.make_page.Goals as goal
 
 pub returns-clause-same : goal.returns-clause-same
 returns-clause-same c = λ k.
-    let zeros : List ℕ = replicate 256 0 in
-    let page : Page = record { number = c.args.page; values = zeros } in
-    let index : List ℕ = c.args.self.now.index.items in
-    let pages : List Page = c.args.self.now.pages.items in
-    let lt : k % 256 < 256 = omega arith in
-    let none = subst (λ r. MatchOption r ((c' : ℕ) → c' / 256 ≡ c.args.page → kept c.args.self.now c' ≡ 0) (λ at. StandsAt c.args.self.now c.args.page at)) c.in_default.is c.find.ensures in
-    ap (λ ps. value_of (page_at (set index c.args.page c.len-at.result) ps (k / 256)) k) c.in_ok-push.ensures.items
-    ∙ ap (λ n. value_of (page_at (set index c.args.page n) (pages ++ page ∷ []) (k / 256)) k) c.len-at.ensures
-    ∙ ap (λ n. value_of (page_at (set index c.args.page n) (pages ++ page ∷ []) (k / 256)) k) c.args.self.now.pages.ok.0
-    ∙ made_same index pages page c.args.page k c.requires.page refl (get_or-replicate 256 (k % 256) 0 0 lt) (none k)
+    let old : Pages = c.args.self.now in
+    let new : Pages = record { index = with_item old.index c.args.page c.len-at.result; words = c.push.new.self; cells = old.cells } in
+    let zeros : List ℕ = replicate 64 0 in
+    let page : WordPage = record { number = c.args.page; split = None; values = zeros } in
+    let made : IsMade old new page c.args.page c.len-at.result = record { size = c.requires; index = refl; end = c.len-at.ensures ∙ old.words.ok.0; words = c.in_ok-push.ensures.items; cells = refl; number = refl; whole = refl; away = c.in_default.ensures } in
+    let lt : k % 256 / 4 < 64 = omega arith in
+    made_same old new page c.args.page c.len-at.result k made (get_or-replicate 64 (k % 256 / 4) 0 0 lt)
+
+pub returns-clause-stays : goal.returns-clause-stays
+returns-clause-stays c = λ p.
+    let old : Pages = c.args.self.now in
+    let new : Pages = record { index = with_item old.index c.args.page c.len-at.result; words = c.push.new.self; cells = old.cells } in
+    let zeros : List ℕ = replicate 64 0 in
+    let page : WordPage = record { number = c.args.page; split = None; values = zeros } in
+    let made : IsMade old new page c.args.page c.len-at.result = record { size = c.requires; index = refl; end = c.len-at.ensures ∙ old.words.ok.0; words = c.in_ok-push.ensures.items; cells = refl; number = refl; whole = refl; away = c.in_default.ensures } in
+    made_there old new page c.args.page c.len-at.result p made
+
+pub returns-clause-split : goal.returns-clause-split
+returns-clause-split c = λ p.
+    let old : Pages = c.args.self.now in
+    let new : Pages = record { index = with_item old.index c.args.page c.len-at.result; words = c.push.new.self; cells = old.cells } in
+    let zeros : List ℕ = replicate 64 0 in
+    let page : WordPage = record { number = c.args.page; split = None; values = zeros } in
+    let made : IsMade old new page c.args.page c.len-at.result = record { size = c.requires; index = refl; end = c.len-at.ensures ∙ old.words.ok.0; words = c.in_ok-push.ensures.items; cells = refl; number = refl; whole = refl; away = c.in_default.ensures } in
+    made_split old new page c.args.page c.len-at.result p made
