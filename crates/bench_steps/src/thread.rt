@@ -224,10 +224,11 @@ fn over_source(alloc: Global, source: &[u8], main: u16) -> anyhow::Result<(u64, 
     requires { length source.now ≤ most_bytes }
 {
     let source = check_source(alloc, source, b"bench")?;
+    let code = FusedCode::new(alloc, source.code)?;
     let placed = placed(alloc)?;
-    let mut thread = begun(alloc, &source.code, &placed, main, &[])?;
+    let mut thread = begun(alloc, &code, &placed, main, &[])?;
     let mut memory = Memory::new(alloc)?;
-    made(&mut thread, &source.code, &placed, &mut memory).context("the thread doesn't end")
+    made(&mut thread, &code, &placed, &mut memory).context("the thread doesn't end")
 }
 
 /// How many marks the loop without calls makes, and what its `main`, its second function, gives.

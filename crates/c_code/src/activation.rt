@@ -5,7 +5,7 @@ use marks::Side;
 /// Where a function that was entered goes on: at an instruction, with its frame and mode.
 #[derive(Clone, Copy)]
 pub struct Activation {
-    pub at: u32,
+    pub at: usize,
     /// The first byte of the frame, and its size.
     pub base: u64,
     pub size: u64,

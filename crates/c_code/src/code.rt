@@ -20,7 +20,7 @@ pub struct FuncInfo {
     /// The size of its frame in bytes.
     pub frame: u64,
     /// Its first instruction; `None` for a builtin or an external.
-    pub entry: Option<u32>,
+    pub entry: Option<usize>,
 }
 
 /// The code of a program. Each jump lands on an instruction, a backward one on a Turn. It is known at each

@@ -64,16 +64,16 @@ pub enum Instr {
     Change(Change),
     Combine(Combine),
     /// Where the topmost value is 0, passes instructions and keeps 0; else drops it.
-    EndIfZero(u32),
+    EndIfZero(usize),
     /// Where the topmost value isn't 0, passes instructions and keeps 1; else drops it.
-    EndUnlessZero(u32),
+    EndUnlessZero(usize),
     /// Drops the topmost value, and passes instructions where it was 0.
-    SkipIfZero(u32),
-    GoOn(u32),
+    SkipIfZero(usize),
+    GoOn(usize),
     /// The start of a round of a loop.
     Turn,
     /// Goes back to the start of the next round, makes its Turn, and goes on after it, this many instructions before.
-    GoBack(u32),
+    GoBack(usize),
     /// Calls the function with so many arguments, which lie on top.
     Call(u16, u8),
     /// The same by an address that lies below the arguments, of a function of this type.

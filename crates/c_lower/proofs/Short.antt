@@ -1,4 +1,4 @@
--- The numbers in the code of a program fit its instructions, and the code is short.
+-- The numbers in the code of a program fit its instructions.
 use Rattle.std.proofs.Common.{◌≡◌, ℕ, zero, suc, ◌+◌, ◌-◌, ◌^◌, ◌<◌, ◌≤◌, Bool, true, false, cond, ltb, List, [], ◌∷◌, ◌++◌, length, length-append, map, get_or, Option, Some, None, refl, sym, ap, ◌∙◌, subst, arith}
 use Rattle.std.specs.Prelude.{slice_get}
 use Rattle.std.specs.Option.{option_map}
@@ -24,7 +24,6 @@ use Rattle.c_lower_laws.specs.Fits.{IsFit}
 use Rattle.c_lower_layout.specs.Indexed.{HasNumbers, members_end}
 use Rattle.c_lower_layout.specs.Sources.{source_in}
 use Rattle.c_lower_bodies.specs.Short.{IsShort}
-use Rattle.c_lower_sizes.specs.Sizes.{body_size, functions_size, size_of_body}
 use Rattle.c_types_program.specs.declared.function.Body.{Body}
 use Rattle.c_types_program.specs.declared.function.Function.{Function}
 use Rattle.c_types_program.specs.Declarations.{Declared, body_in, function_in}
@@ -56,12 +55,12 @@ short code valid k (instr.StoreLocal m offset) e h = tt
 short code valid k (instr.StoreStep m by old o) e h = tt
 short code valid k (instr.Change how) e h = tt
 short code valid k (instr.Combine how) e h = tt
-short code valid k (instr.EndIfZero n) e h = omega (arith, valid.placed, h.goes_on.1.0)
-short code valid k (instr.EndUnlessZero n) e h = omega (arith, valid.placed, h.goes_on.1.0)
-short code valid k (instr.SkipIfZero n) e h = omega (arith, valid.placed, h.goes_on.1.0)
-short code valid k (instr.GoOn n) e h = omega (arith, valid.placed, h.goes_on.0)
+short code valid k (instr.EndIfZero n) e h = tt
+short code valid k (instr.EndUnlessZero n) e h = tt
+short code valid k (instr.SkipIfZero n) e h = tt
+short code valid k (instr.GoOn n) e h = tt
 short code valid k instr.Turn e h = tt
-short code valid k (instr.GoBack n) e h = let here : k < length code.instrs = slice_get_within code.instrs k (instr.GoBack n) e in omega (arith, valid.placed, here, h.sound.0)
+short code valid k (instr.GoBack n) e h = tt
 short code valid k (instr.Call f n) e h =
     let known = h.sound in
     (number_short code f known.0 valid.numbered known.1, omega (arith, known.2, valid.few_params f known.0 known.1))
@@ -91,24 +90,6 @@ code_short p [] k f h e = absurd cc
 code_short p (g ∷ fs) zero f h e = let is : g ≡ f = cc in subst (λ (x : Function). All IsShort (code_of p x.body)) is (first_part (code_of p g.body) (codes_of p fs) h)
 code_short p (g ∷ fs) (suc k) f h e = code_short p fs k f (last_part (code_of p g.body) (codes_of p fs) h) e
 
--- ---- how much code there is
-
--- the code of no body is longer than its size
-abbrev NoLonger : Type 0
-NoLonger = (b : typed.Body) (x : Making) → length (body_code b x) ≤ body_size b
-
-one_small : (p : Declared) (b : Option Body) → NoLonger → length (code_of p b) ≤ size_of_body (option_map (body_in p.table) b)
-one_small p None h = omega arith
-one_small p (Some b) h = h (body_in p.table b) _
-
-pub codes_small : (p : Declared) (fs : List Function) → NoLonger → length (codes_of p fs) ≤ functions_size (map (function_in p.table) fs)
-codes_small p [] h = omega arith
-codes_small p (f ∷ fs) h = omega (arith, length-append (code_of p f.body) (codes_of p fs), one_small p f.body h, codes_small p fs h)
-
-pub codes_short : (p : Declared) → NoLonger → functions_size (source_in p).program.functions < 2 ^ 32 → length (codes_of p p.functions) < 2 ^ 32
-unfolding source_in
-codes_short p h small = let few : functions_size (map (function_in p.table) p.functions) < 2 ^ 32 = small in omega (arith, few, codes_small p p.functions h)
-
 -- ---- what a fit program has
 
 -- numbers are enough for what is looked up
@@ -137,9 +118,9 @@ frames_small p fit k f e = by f.body refl
         (fit.bodies (builtin_count + k) (body_in p.table b) body).small
 
 -- of a program whose evaluation stack is small all numbers in the code fit
-pub all_short : (p : Declared) → IsFit p → first_wide 0 (functions_in p) ≡ None → length (codes_of p p.functions) < 2 ^ 32
+pub all_short : (p : Declared) → IsFit p → first_wide 0 (functions_in p) ≡ None
     → ((s : Source) (code : Flat) (sig : CType → ℕ) (height : ℕ → ℕ) → IsMadeOf s code sig height → IsSteady code height) → All IsShort (codes_of p p.functions)
-all_short p fit few small law = valid_short (lowered p) (valid_made p (map (builtin_info p) BUILTINS) (infos_from p 0 p.functions) (codes_of p p.functions) refl refl refl fit few small law)
+all_short p fit few law = valid_short (lowered p) (valid_made p (map (builtin_info p) BUILTINS) (infos_from p 0 p.functions) (codes_of p p.functions) refl refl refl fit few law)
 
 -- the function at a place has a small frame, and code whose numbers fit
 at_place : (p : Declared) (items : List Function) (k : ℕ) (f : Function) → items ≡ p.functions → k < length items → f ≡ get_or items k f → slice_get p.functions k ≡ Some f

@@ -148,9 +148,9 @@ module _ (p : Declared) where
   is_builtin : (b : Builtin) → IsBuiltin (builtin_info p b) (prototype (shapes_of (params_of_prototype (prototype_of b))) (shape_of (result_of_prototype (prototype_of b))))
   is_builtin b = record { params = refl; result = refl; no_body = refl }
 
-  pub valid : IsFit p → first_wide 0 (functions_in p) ≡ None → length (codes_of p p.functions) < 2 ^ 32 → ((height : ℕ → ℕ) → IsMadeOf s code sig height → IsSteady code height) → IsValid code
+  pub valid : IsFit p → first_wide 0 (functions_in p) ≡ None → ((height : ℕ → ℕ) → IsMadeOf s code sig height → IsSteady code height) → IsValid code
   unfolding source_in
-  valid fit few short law = record {
+  valid fit few law = record {
     height = height;
     steady = law height (made fit few);
     few_params = λ f info e. let h = typed_at p [] nowhere f info e in subst (λ ps. length ps ≤ 8) (sym h.0) (fit.few_params f);
@@ -158,17 +158,15 @@ module _ (p : Declared) where
     starts = starts;
     builtins = (is_builtin Malloc, (is_builtin Free, (is_builtin Spawn, (is_builtin Join, (is_builtin Lock, (is_builtin Unlock, (is_builtin Print, tt)))))));
     numbered = omega (arith, fit.few_functions, infos_counted p p.functions 0, length-map p.functions (function_in p.table));
-    placed = short;
   }
 
 -- the same of parts that were put together
 pub valid_made : (p : Declared) (bs ss : List FuncInfo) (is : List Instr) → bs ≡ map (builtin_info p) BUILTINS → ss ≡ infos_from p 0 p.functions → is ≡ codes_of p p.functions
-    → IsFit p → first_wide 0 (functions_in p) ≡ None → length is < 2 ^ 32 → ((s : Source) (code : Flat) (sig : CType → ℕ) (height : ℕ → ℕ) → IsMadeOf s code sig height → IsSteady code height)
+    → IsFit p → first_wide 0 (functions_in p) ≡ None → ((s : Source) (code : Flat) (sig : CType → ℕ) (height : ℕ → ℕ) → IsMadeOf s code sig height → IsSteady code height)
     → IsValid (flat bs ss is)
-valid_made p bs ss is eb es ei fit few short law =
+valid_made p bs ss is eb es ei fit few law =
     let same : flat bs ss is ≡ lowered p = ap (λ l. flat l ss is) eb ∙ (ap (λ l. flat (map (builtin_info p) BUILTINS) l is) es ∙ ap (λ l. flat (map (builtin_info p) BUILTINS) (infos_from p 0 p.functions) l) ei) in
-    let few_instrs : length (codes_of p p.functions) < 2 ^ 32 = subst (λ (l : List Instr). length l < 2 ^ 32) ei short in
-    subst (λ (c : Flat). IsValid c) (sym same) (valid p fit few few_instrs (λ height made. law (source p [] nowhere) (lowered p) (sig_in p) height made))
+    subst (λ (c : Flat). IsValid c) (sym same) (valid p fit few (λ height made. law (source p [] nowhere) (lowered p) (sig_in p) height made))
 
 -- the code makes the marks of each source that the program stands for
 pub marks : (p : Declared) (s : Source) → IsSourceOf p s → ((s : Source) (code : Flat) (sig : CType → ℕ) → IsEmitted s code sig → MakesTheMarks s code) → MakesTheMarks s (lowered p)

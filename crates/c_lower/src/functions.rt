@@ -67,7 +67,7 @@ fn info(
     index: &Index,
     function: &Function,
     frame: u64,
-    entry: Option<u32>,
+    entry: Option<usize>,
 ) -> Result<FuncInfo, AllocError>
     requires { function.now.ty.0 < length index.now.table.types }
     ensures { IfOk result (λ i. i ≡ known_info index.now function.now frame entry) }
@@ -93,7 +93,6 @@ pub fn function_info(
 ) -> Result<FuncInfo, AllocError>
     requires inside { IsFunction index.now.table function.now }
     requires frame { frame_of index.now function.now.body ≤ greatest_frame }
-    requires small { length instrs.old.items < 2 ^ 32 }
     requires short { All IsShort (code_of index.now function.now.body) }
     ensures info { IfOk result (λ i. i ≡ info_of index.now (length instrs.old.items) function.now) }
     ensures code { OnOk result (instrs.new.items ≡ instrs.old.items ++
@@ -102,7 +101,7 @@ pub fn function_info(
     match &function.body {
         None => info(alloc, index, function, 0, None),
         Some(body) => {
-            let entry = instrs.len() as u32;
+            let entry = instrs.len();
             let frame = index.frame(alloc, body.locals.as_slice())?;
             let code = Emitter::new(index, &frame.offsets).body(alloc, body)?;
             code.append_to(instrs)?;

@@ -6,8 +6,6 @@ ghost use Rattle.c_code.specs.Typed.{KeepsTypes};
 ghost use Rattle.c_semantics.specs.Context.{Source};
 ghost use Rattle.c_lower_rules.specs.Laws.{MakesTheMarks, laid};
 ghost use Rattle.c_lower_laws.specs.Fits.{IsFit};
-ghost use Rattle.c_lower_layout.specs.Sources.{source_in};
-ghost use Rattle.c_lower_sizes.specs.Sizes.{functions_size, most_per_node};
 ghost use Rattle.c_lower.specs.Lowered.{IsSourceOf, lowered};
 ghost use Rattle.c_lower.specs.Named.{NamesNoMore};
 ghost use Rattle.c_lower.specs.Types.{TellsTypes};
@@ -21,7 +19,6 @@ use c_lower_layout::Index;
 use c_lower_rules::{
     code_of_sources_keeps_types, emitted_code_is_steady, emitted_code_makes_the_marks,
 };
-use c_lower_sizes::code_is_no_longer;
 use c_types_program::TypedProgram;
 use source_limits::MOST_NODES;
 use std::alloc::{AllocError, Global};
@@ -31,14 +28,12 @@ fn code(alloc: Global, program: &TypedProgram) -> Result<Code, AllocError>
     requires fit { IsFit program.now }
     requires few { first_wide_of 0 (functions_in program.now) ≡ None }
     requires texts { length program.now.texts < 2 ^ 32 }
-    requires small { functions_size (source_in program.now).program.functions < 2 ^ 32 }
     ensures { IfOk result (λ c. c ≡ lowered program.now) }
 {
     let index = Index::new(alloc, program)?;
     let builtins = builtin_infos(alloc)?;
     let mut sources = Vec::with_capacity(alloc, program.functions().len())?;
     let mut instrs = Vec::new(alloc);
-    code_is_no_longer();
     emitted_code_is_steady();
     for function in program.functions() {
         sources.push(function_info(alloc, &index, function, &mut instrs)?)?;
@@ -54,9 +49,6 @@ fn code(alloc: Global, program: &TypedProgram) -> Result<Code, AllocError>
 pub fn lower(alloc: Global, program: &TypedProgram, nodes: usize) -> Result<Code, LowerError>
     requires fit { IsFit program.now }
     requires texts { length program.now.texts < 2 ^ 32 }
-    // The code needs no more instructions than its nodes may give.
-    requires small { nodes ≤ most_nodes →
-        functions_size (source_in program.now).program.functions ≤ most_per_node * nodes }
     ensures long { (result ≡ Err LowerError.Long) ↔ (most_nodes < nodes) }
     ensures wide { (f : ℕ) → (result ≡ Err (LowerError.Wide f)) ↔ ((nodes ≤ most_nodes) ×
         (first_wide_of 0 (functions_in program.now) ≡ Some f)) }

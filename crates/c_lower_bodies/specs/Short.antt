@@ -3,8 +3,7 @@ use Rattle.std.specs.Prelude.{ℕ, ◌<◌, ◌^◌}
 use Rattle.c_code.specs.declared.instr.Instr.{Instr}
 use Rattle.c_code.specs.declared.instr.Instr.TheVariants as instr
 
--- a jump passes fewer than 2^32 instructions, a function has a number of 16 bits, and a call fewer than 256
--- arguments
+-- a function has a number of 16 bits, and a call fewer than 256 arguments
 abbrev pub IsShort : Instr → Type 0
 IsShort (instr.Push what) = Unit {0}
 IsShort (instr.Load k o) = Unit {0}
@@ -14,12 +13,12 @@ IsShort (instr.StoreLocal k offset) = Unit {0}
 IsShort (instr.StoreStep k by old o) = Unit {0}
 IsShort (instr.Change how) = Unit {0}
 IsShort (instr.Combine how) = Unit {0}
-IsShort (instr.EndIfZero n) = n < 2 ^ 32
-IsShort (instr.EndUnlessZero n) = n < 2 ^ 32
-IsShort (instr.SkipIfZero n) = n < 2 ^ 32
-IsShort (instr.GoOn n) = n < 2 ^ 32
+IsShort (instr.EndIfZero n) = Unit {0}
+IsShort (instr.EndUnlessZero n) = Unit {0}
+IsShort (instr.SkipIfZero n) = Unit {0}
+IsShort (instr.GoOn n) = Unit {0}
 IsShort instr.Turn = Unit {0}
-IsShort (instr.GoBack n) = n < 2 ^ 32
+IsShort (instr.GoBack n) = Unit {0}
 IsShort (instr.Call f n) = (f < 2 ^ 16) × (n < 2 ^ 8)
 IsShort (instr.CallPointer sig n) = n < 2 ^ 8
 IsShort instr.Drop = Unit {0}

@@ -7,11 +7,6 @@ use Rattle.c_lower_bodies.specs.declared.step.Step.TheVariants as steps
 
 abbrev pub instr_in : Step → Instr
 instr_in (steps.Instr i) = i
-instr_in (steps.EndIfZero n) = instr.EndIfZero n
-instr_in (steps.EndUnlessZero n) = instr.EndUnlessZero n
-instr_in (steps.SkipIfZero n) = instr.SkipIfZero n
-instr_in (steps.GoOn n) = instr.GoOn n
-instr_in (steps.GoBack n) = instr.GoBack n
 instr_in (steps.Call f n) = instr.Call f n
 instr_in (steps.CallPointer sig n) = instr.CallPointer sig n
 

@@ -45,7 +45,7 @@ impl Backward {
         self.put_step(Step::Instr(instr))
     }
 
-    /// The same of one whose numbers may not fit yet.
+    /// The same of a call whose numbers may not fit.
     pub(crate) fn put_step(&mut self, step: Step) -> Result<(), AllocError>
         ensures { OnOk result (self.new ≡ instr_in step ∷ self.old) }
     {
@@ -61,12 +61,12 @@ impl Backward {
     }
 
     /// Puts an instruction in the place of the one that so many follow.
-    pub(crate) fn replace(&mut self, following: usize, step: Step)
+    pub(crate) fn replace(&mut self, following: usize, instr: Instr)
         requires { following < length self.old }
         ensures { (before after : List Instr) (old : Instr) → self.old ≡ before ++ (old ∷ after) →
-            length after ≡ following → self.new ≡ before ++ (instr_in step ∷ after) }
+            length after ≡ following → self.new ≡ before ++ (instr ∷ after) }
     {
-        self.reversed[following] = step;
+        self.reversed[following] = Step::Instr(instr);
     }
 
     /// Puts the instructions, whose numbers fit, at the end of others. `AllocError` only where there is no memory for them; some

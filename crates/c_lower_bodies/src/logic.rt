@@ -8,7 +8,6 @@ ghost use Rattle.c_lower_bodies.specs.Making.{making};
 
 use crate::backward::Backward;
 use crate::emitter::Emitter;
-use crate::step::Step;
 use c_code::{Change, Instr};
 use c_types_nodes::NodeId;
 use std::alloc::AllocError;
@@ -30,7 +29,7 @@ impl Emitter<'_, '_, '_> {
     {
         let end = code.len();
         self.change(code, right, Change::Truth)?;
-        code.put_step(Step::EndIfZero(code.len() - end))?;
+        code.put(Instr::EndIfZero(code.len() - end))?;
         self.value(code, left)
     }
 
@@ -50,7 +49,7 @@ impl Emitter<'_, '_, '_> {
     {
         let end = code.len();
         self.change(code, second, Change::Truth)?;
-        code.put_step(Step::EndUnlessZero(code.len() - end))?;
+        code.put(Instr::EndUnlessZero(code.len() - end))?;
         self.value(code, first)
     }
 
@@ -74,9 +73,9 @@ impl Emitter<'_, '_, '_> {
         let end = code.len();
         self.value(code, other)?;
         let second = code.len();
-        code.put_step(Step::GoOn(second - end))?;
+        code.put(Instr::GoOn(second - end))?;
         self.value(code, then)?;
-        code.put_step(Step::SkipIfZero(code.len() - second))?;
+        code.put(Instr::SkipIfZero(code.len() - second))?;
         self.value(code, condition)
     }
 

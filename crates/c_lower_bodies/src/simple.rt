@@ -11,7 +11,6 @@ ghost use Rattle.c_lower_bodies.specs.TypedCode.{initialise_code};
 
 use crate::backward::Backward;
 use crate::emitter::Emitter;
-use crate::step::Step;
 use c_code::{Instr, Push};
 use c_types_nodes::NodeId;
 use c_types_table::TypeId;
@@ -73,7 +72,7 @@ impl Emitter<'_, '_, '_> {
         match condition {
             None => Ok(()),
             Some(condition) => {
-                code.put_step(Step::SkipIfZero(over))?;
+                code.put(Instr::SkipIfZero(over))?;
                 self.value(code, condition)
             }
         }

@@ -10,7 +10,6 @@ ghost use Rattle.c_lower_bodies.specs.TypedCode.{Turns, guarded_code};
 
 use crate::backward::Backward;
 use crate::emitter::Emitter;
-use crate::step::Step;
 use c_code::Instr;
 use c_types_nodes::NodeId;
 use c_types_program::Statement;
@@ -21,7 +20,7 @@ fn turn(code: &mut Backward, end: usize) -> Result<(), AllocError>
     requires { end < length code.old }
     ensures { OnOk result (Turns code.old code.new end) }
 {
-    code.replace(end, Step::GoBack(code.len() - end - 1));
+    code.replace(end, Instr::GoBack(code.len() - end - 1));
     code.put(Instr::Turn)
 }
 
@@ -57,7 +56,7 @@ impl Emitter<'_, '_, '_> {
                 let end = code.len();
                 self.statement(code, other, stop, again)?;
                 let middle = code.len();
-                code.put_step(Step::GoOn(middle - end))?;
+                code.put(Instr::GoOn(middle - end))?;
                 self.guarded(code, *condition, then, stop, again, middle)
             }
             Statement::While {
@@ -80,8 +79,8 @@ impl Emitter<'_, '_, '_> {
                 self.for_loop(code, *condition, *last, body)?;
                 self.statements(code, first, stop, again)
             }
-            Statement::Break => code.put_step(Step::GoOn(code.len() - stop)),
-            Statement::Continue => code.put_step(Step::GoOn(code.len() - again)),
+            Statement::Break => code.put(Instr::GoOn(code.len() - stop)),
+            Statement::Continue => code.put(Instr::GoOn(code.len() - again)),
             Statement::Return { value, .. } => self.give(code, *value),
         }
     }
@@ -129,7 +128,7 @@ impl Emitter<'_, '_, '_> {
             (length code.old - again) (length code.old - end) ++ code.old) }
     {
         self.statement(code, then, stop, again)?;
-        code.put_step(Step::SkipIfZero(code.len() - end))?;
+        code.put(Instr::SkipIfZero(code.len() - end))?;
         self.value(code, condition)
     }
 
@@ -148,7 +147,7 @@ impl Emitter<'_, '_, '_> {
             (statement_in self.now.declared.table body.now)) (making self.now) 0 0 ++ code.old) }
     {
         let end = code.len();
-        code.put_step(Step::GoBack(0))?;
+        code.put(Instr::GoBack(0))?;
         let again = code.len();
         self.guarded(code, condition, body, end, again, end)?;
         turn(code, end)
@@ -169,8 +168,8 @@ impl Emitter<'_, '_, '_> {
             (value_at self.now.declared.table condition)) (making self.now) 0 0 ++ code.old) }
     {
         let end = code.len();
-        code.put_step(Step::GoBack(0))?;
-        code.put_step(Step::SkipIfZero(1))?;
+        code.put(Instr::GoBack(0))?;
+        code.put(Instr::SkipIfZero(1))?;
         self.value(code, condition)?;
         let test = code.len();
         self.statement(code, body, end, test)?;
@@ -195,7 +194,7 @@ impl Emitter<'_, '_, '_> {
             (making self.now) 0 0 ++ code.old) }
     {
         let end = code.len();
-        code.put_step(Step::GoBack(0))?;
+        code.put(Instr::GoBack(0))?;
         self.last(code, last)?;
         let next = code.len();
         self.statement(code, body, end, next)?;

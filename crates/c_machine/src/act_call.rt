@@ -21,7 +21,7 @@ use marks::FaultKind;
 // A call of a function by its number; of one of the pool by replay code it is an event.
 pub(crate) fn call(func: u16, n: u8, a: Activation, values: &Stack<u64>) -> Outcome
     requires enough { n ≤ length (held values.now) }
-    requires place { a.at + 1 < 2 ^ 32 }
+    requires place { a.at + 1 < 2 ^ 64 }
     ensures { (l : Laid) → IsOutcome l (instrs.Call func n) a (held values.now) result }
 {
     if is_pool(a.side, func) {
@@ -38,7 +38,7 @@ pub(crate) fn call(func: u16, n: u8, a: Activation, values: &Stack<u64>) -> Outc
 // An event of the pool: what it gives takes the place of the argument.
 fn pool(func: u16, n: u8, a: Activation, values: &Stack<u64>) -> Outcome
     requires enough { n ≤ length (held values.now) }
-    requires place { a.at + 1 < 2 ^ 32 }
+    requires place { a.at + 1 < 2 ^ 64 }
     requires pool { is_pool_of a.side func ≡ true }
     ensures { (l : Laid) → IsOutcome l (instrs.Call func n) a (held values.now) result }
 {
@@ -63,7 +63,7 @@ pub(crate) fn call_through(
 ) -> Outcome
     requires valid { IsValid code.now }
     requires enough { n < length (held values.now) }
-    requires place { a.at + 1 < 2 ^ 32 }
+    requires place { a.at + 1 < 2 ^ 64 }
     ensures { (placed : Places) → IsOutcome (laid code.now placed) (instrs.CallPointer sig n) a
         (held values.now) result }
 {

@@ -19,7 +19,7 @@ use r2_num::IntKind;
 #[inline(always)]
 pub(crate) fn hearing(instr: &Instr, a: &Activation, values: &Stack<u64>) -> Heard
     requires enough { needs instr.now ≤ length (held values.now) }
-    requires place { a.now.at + 1 < 2 ^ 32 }
+    requires place { a.now.at + 1 < 2 ^ 64 }
     ensures { (l : Laid) → IsHearing l instr.now a.now (held values.now) result }
 {
     let next = a.at + 1;
@@ -62,7 +62,7 @@ fn kept(kind: IntKind, by: u64, old: bool, value: u64) -> u64
 // The same of a call, which makes a mark where it is an event of the pool.
 #[inline(never)]
 fn hearing_call(func: u16, n: u8, a: &Activation) -> Heard
-    requires place { a.now.at + 1 < 2 ^ 32 }
+    requires place { a.now.at + 1 < 2 ^ 64 }
     ensures { (l : Laid) (vs : List ℕ) → n ≤ length vs → IsHearing l (instrs.Call func n) a.now vs result }
 {
     if !is_pool(a.side, func) {

@@ -41,7 +41,7 @@ fn give(n: u8, value: u64, values: &mut Stack<u64>)
 
 // What the answer to a mark does: the instruction that it leads to; `None` where the activation ends, and nothing changes.
 #[inline(always)]
-pub(crate) fn hear(heard: Heard, values: &mut Stack<u64>, answer: Answer) -> Option<u32>
+pub(crate) fn hear(heard: Heard, values: &mut Stack<u64>, answer: Answer) -> Option<usize>
     requires enough { hearing_takes heard ≤ length (held values.old) }
     requires room { length (held values.old) < room_of values.old }
     ensures hears { Hears heard (held values.old) (held values.new) (told answer) result }

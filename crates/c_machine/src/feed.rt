@@ -38,7 +38,7 @@ impl Position {
             self.take_elsewhere(code, answer);
             return;
         };
-        let instr = &code.instrs()[a.at as usize];
+        let instr = &code.instrs()[a.at];
         let heard = hearing(instr, a, &self.values);
         match hear(heard, &mut self.values, answer) {
             Some(at) => a.at = at,

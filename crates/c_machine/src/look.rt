@@ -59,7 +59,7 @@ impl Position {
             (action (laid code.now placed.now)
             (Going a.now (held self.now.values) (held self.now.waits.all))) }
     {
-        let instr = &code.instrs()[a.at as usize];
+        let instr = &code.instrs()[a.at];
         match act(instr, a, &self.values, code, placed) {
             Outcome::Asks(want, _) => Some(want),
             Outcome::Silent(_, _) => None,

@@ -22,13 +22,13 @@ pub(crate) enum Edit {
 #[derive(Clone, Copy)]
 pub(crate) enum Heard {
     // Whatever it says, the activation goes on at the place.
-    Goes(Edit, u32),
+    Goes(Edit, usize),
     // A loaded value is converted to the kind; it takes the place of its address.
-    Loads(IntKind, u32),
+    Loads(IntKind, usize),
     // The same, above its address.
-    LoadsAbove(IntKind, u32),
+    LoadsAbove(IntKind, usize),
     // What the pool gives takes the place of so many arguments.
-    Takes(u8, u32),
+    Takes(u8, usize),
     // The function ends with the topmost value.
     Ends,
     // There is no way on.
@@ -39,7 +39,7 @@ pub(crate) enum Heard {
 // that is no event of the pool.
 #[derive(Clone, Copy)]
 pub(crate) enum Outcome {
-    Silent(Edit, u32),
+    Silent(Edit, usize),
     Asks(Want, Heard),
     Pends(Call),
 }
@@ -47,7 +47,7 @@ pub(crate) enum Outcome {
 // Where passing some instructions leads: the activation goes on at the place; or the instruction there makes this mark, or this call.
 #[derive(Clone, Copy)]
 pub(crate) enum Passed {
-    On(u32),
-    Marks(u32, Want),
-    Calls(u32, Call),
+    On(usize),
+    Marks(usize, Want),
+    Calls(usize, Call),
 }

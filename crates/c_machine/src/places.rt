@@ -41,7 +41,7 @@ fn address(objects: &[Place], number: u32) -> u64
 // The next instruction.
 #[inline(always)]
 pub(crate) fn next(a: Activation) -> Activation
-    requires { a.at + 1 < 2 ^ 32 }
+    requires { a.at + 1 < 2 ^ 64 }
     ensures { result ≡ next a }
 {
     at_place(a, a.at + 1)
@@ -49,7 +49,7 @@ pub(crate) fn next(a: Activation) -> Activation
 
 // The same activation at another instruction.
 #[inline(always)]
-pub(crate) fn at_place(a: Activation, at: u32) -> Activation
+pub(crate) fn at_place(a: Activation, at: usize) -> Activation
     ensures { result ≡ at_place at a }
 {
     Activation {

@@ -100,7 +100,7 @@ pub(crate) fn result_shape(code: &FusedCode, func: u16) -> Shape
 }
 
 // The first instruction of the function, where it has a body.
-pub(crate) fn first_at(code: &FusedCode, func: u16) -> Option<u32>
+pub(crate) fn first_at(code: &FusedCode, func: u16) -> Option<usize>
     ensures { result ≡ entry_of (func_of code.now func) }
 {
     match code.func(func) {

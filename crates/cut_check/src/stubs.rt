@@ -21,7 +21,7 @@ fn record_text(alloc: Global, source: &CheckedSource) -> Result<Vec<u8>, AllocEr
         IfOk result (λ v. v.items ≡ stubs_text Record cut p a) }
 {
     let stubs = record_stubs(alloc, &source.program, &source.interface)?;
-    text(alloc, "record", source.code.code(), &stubs)
+    text(alloc, "record", &source.code, &stubs)
 }
 
 // Those of a replay.
@@ -31,7 +31,7 @@ fn replay_text(alloc: Global, source: &CheckedSource) -> Result<Vec<u8>, AllocEr
         IfOk result (λ v. v.items ≡ stubs_text Replay cut p a) }
 {
     let stubs = replay_stubs(alloc, &source.program, &source.interface)?;
-    text(alloc, "replay", source.code.code(), &stubs)
+    text(alloc, "replay", &source.code, &stubs)
 }
 
 /// The text of the stubs of an accepted source: those of a recording, and then those of a replay. `AllocError` where there

@@ -1,5 +1,5 @@
 -- What is too much for flat code is too much in the source.
-use Rattle.std.proofs.Common.{◌≡◌, ◌<◌, ◌≤◌, ◌↔◌, if◌then◌else◌, ℕ, ◌*◌, List, map, Option, Some, None, option_map, Result, Err, sym, ap, ◌∙◌, subst, refl, arith, le-ltb, lt-ltb}
+use Rattle.std.proofs.Common.{◌≡◌, ◌<◌, ◌≤◌, ◌↔◌, if◌then◌else◌, ℕ, List, Option, Some, None, option_map, Result, Err, sym, ap, ◌∙◌, refl, arith, le-ltb, lt-ltb}
 use Rattle.source_limits.specs.Limits.{most_nodes}
 use Rattle.c_code.specs.Machine.{Flat}
 use Rattle.c_syntax.specs.Syntax.{Decls}
@@ -8,24 +8,12 @@ use Rattle.c_types_rules.specs.Sources.{Function, Program}
 use Rattle.c_lower.specs.declared.error.LowerError.{LowerError}
 use Rattle.c_lower.specs.declared.error.LowerError.TheVariants as lowering
 use Rattle.c_lower.specs.Depths.{first_wide}
-use Rattle.c_lower_layout.specs.Sources.{source_in}
-use Rattle.c_lower_sizes.specs.Sizes.{functions_size, most_per_node}
-use Rattle.c_types_program.specs.Declarations.{Declared, function_in}
-use Rattle.c_types_program.specs.Programs.{IsProgram}
 use Rattle.front_end.specs.declared.error.SourceError.{SourceError}
 use Rattle.front_end.specs.declared.error.SourceError.TheVariants as errors
 use Rattle.front_end.specs.declared.error.SourceLimit.TheVariants.{Nodes, Values}
 use Rattle.front_end.specs.Answers.{IsTooLarge}
 use Rattle.front_end.specs.Errors.{by_code}
 use Rattle.front_end.specs.Sources.{too_large}
-
--- the code is as small as its nodes say
-pub code_small : (ds : Decls) (p : Program) (d : Declared) (n : ℕ) → n ≡ capped (source_nodes ds) → functions_size p.functions ≤ most_per_node * source_nodes ds → IsProgram d p → n ≤ most_nodes
-    → functions_size (source_in d).program.functions ≤ most_per_node * n
-unfolding source_in
-code_small ds p d n counted h is few =
-    let same : p.functions ≡ map (function_in d.table) d.functions = sym (ap (λ (q : Program). q.functions) is) in
-    subst (λ (fs : List Function). functions_size fs ≤ most_per_node * n) same (omega (arith, h, counted, few))
 
 -- that the evaluation stack is too deep, where there is such a function
 abbrev if_wide : Option ℕ → Option SourceError

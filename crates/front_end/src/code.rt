@@ -11,35 +11,18 @@ ghost use Rattle.front_end.specs.Sources.{too_large};
 
 use crate::error::SourceError;
 use c_code::Code;
-use c_code_fused::FusedCode;
 use c_lower::lower;
 use c_lower_laws::typed_programs_fit;
-use c_lower_sizes::code_is_small;
 use c_types_program::TypedProgram;
 use std::alloc::Global;
 
-/// The flat code of a source that has so many nodes and is this by its types, fused. `Limit` where it has too
-/// many nodes, or else too deep an evaluation stack in one of its functions; `Memory` where there is no memory.
+/// The flat code of a source that has so many nodes and is this by its types. `Limit` where it has too many nodes, or else too deep an
+/// evaluation stack in one of its functions; `Memory` where there is no memory.
 pub(crate) fn code_of(
     alloc: Global,
     nodes: usize,
     program: &TypedProgram,
-) -> Result<FusedCode, SourceError>
-    requires typed { (ds : Decls) × (p : Program) × (nodes ≡ capped (source_nodes ds)) × (outcome ds ≡ Typed p) ×
-        IsProgram program.now p }
-    requires texts { length program.now.texts < 2 ^ 32 }
-    ensures small { (ds : Decls) (p : Program) → nodes ≡ capped (source_nodes ds) → outcome ds ≡ Typed p →
-        IsProgram program.now p → OnOk result (too_large ds p ≡ None) }
-    ensures code { IfOk result (IsCode program.now) }
-    ensures refused { (ds : Decls) (p : Program) → nodes ≡ capped (source_nodes ds) → outcome ds ≡ Typed p →
-        IsProgram program.now p → IfErr result (IsTooLarge ds p) }
-{
-    let code = flat_code_of(alloc, nodes, program)?;
-    Ok(FusedCode::new(alloc, code)?)
-}
-
-// The same as its instructions alone.
-fn flat_code_of(alloc: Global, nodes: usize, program: &TypedProgram) -> Result<Code, SourceError>
+) -> Result<Code, SourceError>
     requires typed { (ds : Decls) × (p : Program) × (nodes ≡ capped (source_nodes ds)) × (outcome ds ≡ Typed p) ×
         IsProgram program.now p }
     requires texts { length program.now.texts < 2 ^ 32 }
@@ -50,6 +33,5 @@ fn flat_code_of(alloc: Global, nodes: usize, program: &TypedProgram) -> Result<C
         IsProgram program.now p → IfErr result (IsTooLarge ds p) }
 {
     typed_programs_fit();
-    code_is_small();
     Ok(lower(alloc, program, nodes)?)
 }

@@ -15,7 +15,7 @@ ghost use Rattle.front_end.specs.Sources.{IsSource};
 use crate::code::code_of;
 use crate::error::SourceError;
 use annot_reader::{Iface, interface_of};
-use c_code_fused::FusedCode;
+use c_code::Code;
 use c_lexer::{Kind, Token, lex};
 use c_parser::{Parsed, build_counted, postfix};
 use c_syntax::Tree;
@@ -37,7 +37,7 @@ pub struct CountedSource {
 pub struct CheckedSource {
     pub program: TypedProgram,
     pub interface: Iface,
-    pub code: FusedCode,
+    pub code: Code,
 }
 
 // The tokens that the bytes are.

@@ -147,8 +147,7 @@ fn record<F: Files>(
     accepted_sources_have_few_functions();
     let accepted = source(alloc, files, src, cut)?;
     let system = system(alloc, files, sys, &accepted.source)?;
-    let plan = recorded_plan(alloc, log, rep, &accepted.source, &system.file);
-    drop(accepted);
+    let plan = recorded_plan(alloc, log, rep, accepted.source, &system.file);
     drop(system);
     Ok(plan?)
 }

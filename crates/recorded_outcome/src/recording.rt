@@ -13,6 +13,7 @@ ghost use Rattle.recorded_outcome.specs.Recorded.{IsRecordingOf};
 ghost use Rattle.recorded_outcome.specs.Stages.{RecordingOf, script_for};
 
 use crate::plan::plan;
+use c_code_fused::FusedCode;
 use cut_check::placed;
 use front_end::CheckedSource;
 use isolation_check::PlaceError;
@@ -38,20 +39,26 @@ fn placed_of(alloc: Global, source: &CheckedSource) -> Result<Placed, AllocError
     }
 }
 
-/// What the run of an accepted source in which nothing is found is told of, for a system file that is read for it.
-fn recorded(alloc: Global, source: &CheckedSource, file: &SysFile) -> Result<Recorded, AllocError>
+/// What the run of an accepted source in which nothing is found is told of, for a system file that is read for it, and the code that ran.
+fn recorded(
+    alloc: Global,
+    source: CheckedSource,
+    file: &SysFile,
+) -> Result<(FusedCode, Recorded), AllocError>
     requires { (bytes : List ℕ) × (cut : List ℕ) × (script : List ℕ) × (length bytes ≤ most_bytes) ×
-        IsAccepted bytes cut source.now × LinesOf bytes cut [] ×
-        IsRead (script_for source.now script) (Ok file.now) }
-    ensures { (bytes cut script : List ℕ) → IsAccepted bytes cut source.now → LinesOf bytes cut [] →
-        IsRead (script_for source.now script) (Ok file.now) →
-        IfOk result (λ r. IsRecordingOf bytes cut script source.now.code (told r)) }
+        IsAccepted bytes cut source × LinesOf bytes cut [] ×
+        IsRead (script_for source script) (Ok file.now) }
+    ensures { (bytes cut script : List ℕ) → IsAccepted bytes cut source → LinesOf bytes cut [] →
+        IsRead (script_for source script) (Ok file.now) →
+        IfOk result (λ r. IsRecordingOf bytes cut script r.0 (told r.1)) }
 {
     accepted_sources_have_few_functions();
-    let placed = placed_of(alloc, source)?;
+    let placed = placed_of(alloc, &source)?;
     let stubs = record_stubs(alloc, &source.program, &source.interface)?;
+    let code = FusedCode::new(alloc, source.code)?;
     accepted_sources_fit();
-    record_run(alloc, &source.code, &placed, &stubs, file)
+    let recorded = record_run(alloc, &code, &placed, &stubs, file)?;
+    Ok((code, recorded))
 }
 
 /// The plan of what recording a run of an accepted source leaves, in which nothing is found, by a system file that is read
@@ -60,16 +67,16 @@ pub fn recorded_plan(
     alloc: Global,
     log: &str,
     rep: &str,
-    source: &CheckedSource,
+    source: CheckedSource,
     file: &SysFile,
 ) -> Result<Plan, AllocError>
     requires { (bytes : List ℕ) × (cut : List ℕ) × (script : List ℕ) × (length bytes ≤ most_bytes) ×
-        IsAccepted bytes cut source.now × LinesOf bytes cut [] ×
-        IsRead (script_for source.now script) (Ok file.now) }
-    ensures { (bytes cut script : List ℕ) → IsAccepted bytes cut source.now → LinesOf bytes cut [] →
-        IsRead (script_for source.now script) (Ok file.now) → IfOk result (λ plan.
+        IsAccepted bytes cut source × LinesOf bytes cut [] ×
+        IsRead (script_for source script) (Ok file.now) }
+    ensures { (bytes cut script : List ℕ) → IsAccepted bytes cut source → LinesOf bytes cut [] →
+        IsRead (script_for source script) (Ok file.now) → IfOk result (λ plan.
         RecordingOf log.now rep.now cut bytes script (passed (outcome_of plan))) }
 {
-    let recorded = recorded(alloc, source, file)?;
-    plan(alloc, log, rep, source.code.code(), recorded)
+    let (fused, recorded) = recorded(alloc, source, file)?;
+    plan(alloc, log, rep, fused.code(), recorded)
 }

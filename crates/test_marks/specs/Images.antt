@@ -4,4 +4,4 @@ use Rattle.c_machine.specs.Positions.{laid}
 use Rattle.test_marks.specs.declared.image.Image.{Image}
 
 abbrev pub laid_in : Image → Laid
-laid_in i = laid i.source.code i.placed
+laid_in i = laid i.code i.placed

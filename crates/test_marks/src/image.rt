@@ -5,6 +5,7 @@ ghost use Rattle.std.specs.Prelude.{◌<◌, length};
 use annot_reader::Iface;
 use c_builtins::FIRST_SOURCE_FUNCTION;
 use c_code::{Bytes8, Place, Placed};
+use c_code_fused::FusedCode;
 use c_types_model::Extent;
 use c_types_program::TypedProgram;
 use c_types_table::TypeId;
@@ -29,10 +30,11 @@ pub struct Area {
     pub size: u64,
 }
 
-/// A source as the front end takes it, the places of its objects, and the areas that have a name.
+/// The typed program of a source, its fused code, the places of its objects, and the areas that have a name.
 #[derive(Drop)]
 pub struct Image {
-    pub source: CheckedSource,
+    pub program: TypedProgram,
+    pub code: FusedCode,
     pub placed: Placed,
     pub areas: Vec<Area>,
 }
@@ -144,8 +146,10 @@ pub fn image_of(alloc: Global, source: &str) -> Result<Image, SourceError> {
     let source = check_source(alloc, source.as_bytes(), b"c")?;
     let mut areas = Vec::new(alloc);
     let placed = placed(alloc, &source, &mut areas)?;
+    let code = FusedCode::new(alloc, source.code)?;
     Ok(Image {
-        source,
+        program: source.program,
+        code,
         placed,
         areas,
     })

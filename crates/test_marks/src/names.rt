@@ -8,7 +8,7 @@ impl Image {
     /// The number of the source's function of this name; one that no function has, where there is none.
     pub fn number_of(&self, name: &str) -> u16 {
         let mut number = FIRST_SOURCE_FUNCTION;
-        for function in self.source.program.functions() {
+        for function in self.program.functions() {
             if function.name.as_slice() == name.as_bytes() {
                 return number;
             }
@@ -24,7 +24,7 @@ impl Image {
             return;
         }
         let place = func.saturating_sub(FIRST_SOURCE_FUNCTION);
-        match self.source.program.functions().get(usize::from(place)) {
+        match self.program.functions().get(usize::from(place)) {
             Some(function) => out.put_bytes(function.name.as_slice()),
             None => out.put("?"),
         }

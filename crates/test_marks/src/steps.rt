@@ -53,8 +53,8 @@ fn begun(
     ensures { IfOk result (λ thread. IsInside (laid_in image.now) thread.config) }
 {
     let mut thread = Thread::new(alloc, 0, DEPTH)?;
-    if is_call_of(&image.source.code, func, args) {
-        thread.begin(&image.source.code, &image.placed, func, args, side, false);
+    if is_call_of(&image.code, func, args) {
+        thread.begin(&image.code, &image.placed, func, args, side, false);
     }
     Ok(thread)
 }
@@ -64,7 +64,7 @@ fn step(thread: &mut Thread, image: &Image, track: &mut Track<'_>) -> bool
     requires { IsInside (laid_in image.now) thread.old.config }
     ensures { IsInside (laid_in image.now) thread.new.config }
 {
-    match thread.next(&image.source.code, &image.placed) {
+    match thread.next(&image.code, &image.placed) {
         Want::Call { func } => call(thread, image, track, func),
         _ => mark(thread, image, track),
     }
@@ -74,11 +74,11 @@ fn mark(thread: &mut Thread, image: &Image, track: &mut Track<'_>) -> bool
     requires { IsInside (laid_in image.now) thread.old.config }
     ensures { IsInside (laid_in image.now) thread.new.config }
 {
-    let want = thread.next(&image.source.code, &image.placed);
+    let want = thread.next(&image.code, &image.placed);
     let number = track.make(image, thread, want);
     match answer_to(want, number) {
         Some(answer) => {
-            thread.feed(&image.source.code, &image.placed, answer);
+            thread.feed(&image.code, &image.placed, answer);
             true
         }
         None => false,
@@ -96,7 +96,7 @@ fn call(thread: &mut Thread, image: &Image, track: &mut Track<'_>, func: u16) ->
     requires { IsInside (laid_in image.now) thread.old.config }
     ensures { IsInside (laid_in image.now) thread.new.config }
 {
-    if thread.crosses(&image.source.code, &image.placed) {
+    if thread.crosses(&image.code, &image.placed) {
         return cross(thread, image, track, func);
     }
     if !has_body(image, func) {
@@ -155,11 +155,11 @@ fn give(thread: &mut Thread, image: &Image, value: u64) -> bool
     requires { IsInside (laid_in image.now) thread.old.config }
     ensures { IsInside (laid_in image.now) thread.new.config }
 {
-    let Want::Call { func } = thread.next(&image.source.code, &image.placed) else {
+    let Want::Call { func } = thread.next(&image.code, &image.placed) else {
         return false;
     };
     if is_given(thread, image, func) && gives(image, func, value) {
-        thread.feed(&image.source.code, &image.placed, Answer::Value(value));
+        thread.feed(&image.code, &image.placed, Answer::Value(value));
         return true;
     }
     false
@@ -170,15 +170,15 @@ fn run(thread: &mut Thread, image: &Image, track: &mut Track<'_>) -> bool
     requires { IsInside (laid_in image.now) thread.old.config }
     ensures { IsInside (laid_in image.now) thread.new.config }
 {
-    let Want::Call { func } = thread.next(&image.source.code, &image.placed) else {
+    let Want::Call { func } = thread.next(&image.code, &image.placed) else {
         return false;
     };
     let Ok(args) = thread.args().to_vec(track.alloc()) else {
         return track.stop();
     };
     let side = side_below(thread, image);
-    if is_call_of(&image.source.code, func, &args) && has_room(thread, side) {
-        thread.begin(&image.source.code, &image.placed, func, &args, side, false);
+    if is_call_of(&image.code, func, &args) && has_room(thread, side) {
+        thread.begin(&image.code, &image.placed, func, &args, side, false);
         return true;
     }
     stopped(thread, track, side)
@@ -198,24 +198,14 @@ fn go_up(thread: &mut Thread, image: &Image, track: &mut Track<'_>) -> bool
     requires { IsInside (laid_in image.now) thread.old.config }
     ensures { IsInside (laid_in image.now) thread.new.config }
 {
-    let Want::Call { func } = thread.next(&image.source.code, &image.placed) else {
+    let Want::Call { func } = thread.next(&image.code, &image.placed) else {
         return false;
     };
     let Ok(args) = thread.args().to_vec(track.alloc()) else {
         return track.stop();
     };
-    if may_go_up(thread)
-        && is_call_of(&image.source.code, func, &args)
-        && has_room(thread, Side::Replay)
-    {
-        thread.begin(
-            &image.source.code,
-            &image.placed,
-            func,
-            &args,
-            Side::Replay,
-            true,
-        );
+    if may_go_up(thread) && is_call_of(&image.code, func, &args) && has_room(thread, Side::Replay) {
+        thread.begin(&image.code, &image.placed, func, &args, Side::Replay, true);
         track.up(image, func, &args);
         return true;
     }
@@ -247,22 +237,15 @@ fn begin_back(thread: &mut Thread, image: &Image, func: u16, number: u64) -> boo
     requires { IsInside (laid_in image.now) thread.old.config }
     ensures { IsInside (laid_in image.now) thread.new.config }
 {
-    let Want::Call { func: _ } = thread.next(&image.source.code, &image.placed) else {
+    let Want::Call { func: _ } = thread.next(&image.code, &image.placed) else {
         return false;
     };
     let args = [number];
-    if thread.crosses(&image.source.code, &image.placed)
-        && is_call_of(&image.source.code, func, &args)
+    if thread.crosses(&image.code, &image.placed)
+        && is_call_of(&image.code, func, &args)
         && has_room(thread, Side::Replay)
     {
-        thread.begin(
-            &image.source.code,
-            &image.placed,
-            func,
-            &args,
-            Side::Replay,
-            true,
-        );
+        thread.begin(&image.code, &image.placed, func, &args, Side::Replay, true);
         return true;
     }
     false
@@ -290,7 +273,7 @@ fn has_room(thread: &Thread, side: Side) -> bool
 fn side_below(thread: &Thread, image: &Image) -> Side
     ensures { result ≡ side_told (laid_in image.now) thread.now.config }
 {
-    if thread.crosses(&image.source.code, &image.placed) {
+    if thread.crosses(&image.code, &image.placed) {
         Side::System
     } else {
         thread.side()
@@ -301,7 +284,7 @@ fn side_below(thread: &Thread, image: &Image) -> Side
 fn has_body(image: &Image, func: u16) -> bool
     ensures { result ≡ has_entry (entry (laid_in image.now) func) }
 {
-    match image.source.code.func(func) {
+    match image.code.func(func) {
         Some(info) => info.entry.is_some(),
         None => false,
     }
@@ -311,14 +294,14 @@ fn has_body(image: &Image, func: u16) -> bool
 fn is_given(thread: &Thread, image: &Image, func: u16) -> bool
     ensures { result ≡ is_told (laid_in image.now) thread.now.config func }
 {
-    thread.crosses(&image.source.code, &image.placed) || !has_body(image, func)
+    thread.crosses(&image.code, &image.placed) || !has_body(image, func)
 }
 
 /// Whether the value is one of the type of the function's result.
 fn gives(image: &Image, func: u16, value: u64) -> bool
-    ensures { result ≡ is_value (result_shape (func_of image.now.source.code func)) value }
+    ensures { result ≡ is_value (result_shape (func_of image.now.code func)) value }
 {
-    match image.source.code.func(func) {
+    match image.code.func(func) {
         Some(info) => info.result.has_value(value),
         None => Shape::Void.has_value(value),
     }

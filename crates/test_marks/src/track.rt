@@ -232,7 +232,7 @@ impl<'a> Track<'a> {
     fn enter(&mut self, image: &Image, thread: &Thread, func: u16, size: u64) -> u64 {
         self.with_args(image, "enter.", func, thread.args());
         let frame = self.memory.enter(thread.side(), size);
-        if let Some(info) = image.source.code.func(func) {
+        if let Some(info) = image.code.func(func) {
             self.memory
                 .set_args(frame, info.params.as_slice(), thread.args());
         }

@@ -137,7 +137,7 @@ fn difference_in(
 pub fn judge(alloc: Global, case: &Case<'_>) -> Result<Option<String>, AllocError> {
     let texts = texts_of(alloc, case)?;
     match checked(alloc, texts.source.as_str()) {
-        Ok(source) => difference_in(alloc, case, source.code.code(), &texts),
+        Ok(source) => difference_in(alloc, case, &source.code, &texts),
         Err(SourceError::Memory) => Err(AllocError),
         Err(_) => Ok(Some(String::from_str(alloc, "the source is refused")?)),
     }

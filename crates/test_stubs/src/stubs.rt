@@ -49,14 +49,14 @@ fn texts(alloc: Global, source: &CheckedSource, all: bool) -> Result<Output, All
         alloc,
         &mut both,
         all,
-        &text(alloc, "record", source.code.code(), &record)?,
+        &text(alloc, "record", &source.code, &record)?,
     );
     let replay = replay_stubs(alloc, &source.program, &source.interface)?;
     put_stubs(
         alloc,
         &mut both,
         all,
-        &text(alloc, "replay", source.code.code(), &replay)?,
+        &text(alloc, "replay", &source.code, &replay)?,
     );
     Ok(both)
 }

@@ -9,7 +9,6 @@ ghost use Rattle.whole_runs_sources.specs.Laws.{IsPlacedAs, laid_at};
 
 use c_lower_laws::typed_programs_fit;
 use c_lower_rules::emitted_code_is_steady;
-use c_lower_sizes::{code_is_no_longer, code_is_small};
 
 /// A law: an accepted source declares few functions, as the calls ask that make its stubs and read its system file.
 pub fn accepted_sources_have_few_functions()
@@ -25,6 +24,4 @@ pub fn accepted_code_fits()
 {
     typed_programs_fit();
     emitted_code_is_steady();
-    code_is_no_longer();
-    code_is_small();
 }

@@ -1,6 +1,5 @@
-use Rattle.std.proofs.Common.{◌≤◌, sym, subst, arith}
+use Rattle.std.proofs.Common.{sym, subst, arith}
 use Rattle.std.proofs.lemmas.List.{length-map}
-use Rattle.source_limits.specs.Limits.{most_nodes}
 use Rattle.c_code.specs.Machine.{Flat}
 use Rattle.c_code.specs.Typed.{KeepsTypes}
 use Rattle.c_lower_rules.specs.Laws.{MakesTheMarks, laid}
@@ -17,12 +16,6 @@ use Rattle.c_lower.proofs.lowering.lower.Goals as goal
 pub first_wide-requires : goal.first_wide-requires
 unfolding source_in
 first_wide-requires c = let p = c.args.program.now in omega (arith, c.requires.fit.few_functions, length-map p.functions (function_in p.table))
-
-pub code-requires-clause-small : goal.code-requires-clause-small
-code-requires-clause-small c =
-    let few : c.args.nodes ≤ most_nodes = omega arith in
-    let small = c.requires.small few in
-    omega (arith, small)
 
 pub returns-in_ok-code-in-None-clause-marks : goal.returns-in_ok-code-in-None-clause-marks
 returns-in_ok-code-in-None-clause-marks c = λ s is_of. subst (λ (k : Flat). MakesTheMarks s k) (sym c.in_ok-code-in-None.ensures) (marks c.args.program.now s is_of c.emitted_code_makes_the_marks.ensures)

@@ -1,5 +1,4 @@
-use Rattle.std.proofs.Common.{refl, sym}
-use Rattle.std.proofs.lemmas.Result.{IfOk-weaker}
+use Rattle.std.proofs.Common.{refl}
 use Rattle.recorded_outcome.proofs.recording.recorded.Goals as goal
 
 pub placed_of-requires : goal.placed_of-requires
@@ -8,9 +7,9 @@ placed_of-requires c = (c.requires.0, c.requires.1, c.requires.3, c.requires.4, 
 pub record_run-requires : goal.record_run-requires
 record_run-requires c =
     record {
-      fits = c.accepted_sources_fit.ensures c.requires.0 c.requires.1 c.requires.2 c.args.source.now _ (record {
+      fits = c.accepted_sources_fit.ensures c.requires.0 c.requires.1 c.requires.2 c.args.source _ (record {
         source = c.in_ok-placed.ensures c.requires.0 c.requires.1 c.requires.4 c.requires.5;
-        code = refl;
+        code = c.in_ok-code.ensures;
         stubs = c.in_ok-stubs.ensures;
         file = c.requires.6;
       });
@@ -18,10 +17,10 @@ record_run-requires c =
 
 pub returns : goal.returns
 returns c = λ bytes cut script accepted none read.
-    IfOk-weaker c.record_run.result _ _ (λ r is. record {
-      source = c.args.source.now;
+    record {
+      source = c.args.source;
       world = _;
-      is_world = record { source = c.in_ok-placed.ensures bytes cut accepted none; code = refl; stubs = c.in_ok-stubs.ensures; file = read };
+      is_world = record { source = c.in_ok-placed.ensures bytes cut accepted none; code = c.in_ok-code.ensures; stubs = c.in_ok-stubs.ensures; file = read };
       code_is = refl;
-      recording = is;
-    }) c.record_run.ensures
+      recording = c.in_ok-recorded.ensures;
+    }

@@ -10,6 +10,6 @@ use Rattle.recorded_outcome.proofs.recording.recorded_plan.Goals as goal
 
 pub returns : goal.returns
 returns c = λ bytes cut script accepted none read.
-    let same = ap (λ (code : Flat). leaves.recorded c.args.log.now c.args.rep.now code (told c.in_ok-recorded.recorded)) c.code.ensures in
+    let same = ap (λ (code : Flat). leaves.recorded c.args.log.now c.args.rep.now code (told c.in_ok-fused.recorded)) c.code.ensures in
     IfOk-weaker c.plan.result _ _ (λ p e. subst (λ (o : Outcome). RecordingOf c.args.log.now c.args.rep.now cut bytes script (passed o)) (sym (e ∙ same))
-    (recorded_as (c.in_ok-recorded.ensures bytes cut script accepted none read))) c.plan.ensures
+    (recorded_as (c.in_ok-fused.ensures bytes cut script accepted none read))) c.plan.ensures

@@ -8,7 +8,7 @@ use Rattle.test_marks.proofs.steps.go_up.Goals as goal
 
 pub begin-requires-clause-may : goal.begin-requires-clause-may
 begin-requires-clause-may c =
-    let l = laid c.args.image.now.source.code c.args.image.now.placed in
+    let l = laid c.args.image.now.code c.args.image.now.placed in
     let d = c.args.thread.now.config in
     let f = c.in-Call.func in
     let at : IsAtCall l d f = c.in-Call.ensures.call f refl in

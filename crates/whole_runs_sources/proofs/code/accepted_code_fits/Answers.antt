@@ -3,4 +3,4 @@ use Rattle.whole_runs_sources.proofs.code.accepted_code_fits.Goals as goal
 
 pub returns : goal.returns
 returns c = λ bytes cut source q h.
-    fit_code bytes cut source q h c.typed_programs_fit.ensures c.emitted_code_is_steady.ensures c.code_is_no_longer.ensures c.code_is_small.ensures
+    fit_code bytes cut source q h c.typed_programs_fit.ensures c.emitted_code_is_steady.ensures

@@ -17,9 +17,9 @@ use Rattle.c_lower_bodies.proofs.emitter.Emitter.+statements.Goals as goal
 pub while_loop-turn-requires : goal.while_loop-turn-requires
 while_loop-turn-requires t c =
     let table = c.args.self.now.declared.table in
-    let part = guarded_code (value_at table c.args.condition) (statement_in table c.args.body.now) (making c.args.self.now) (length c.put_step.new.self - c.len-end.result) (length c.put_step.new.self - c.len-again.result) (length c.put_step.new.self - c.len-end.result) in
-    let long : length c.put_step.new.self ≤ length c.guarded.new.code = longer part c.put_step.new.self c.guarded.new.code c.in_ok-guarded.ensures in
-    let one : length c.put_step.new.self ≡ suc (length c.args.code.now) = ap length c.in_ok-put_step.ensures in
+    let part = guarded_code (value_at table c.args.condition) (statement_in table c.args.body.now) (making c.args.self.now) (length c.put.new.self - c.len-end.result) (length c.put.new.self - c.len-again.result) (length c.put.new.self - c.len-end.result) in
+    let long : length c.put.new.self ≤ length c.guarded.new.code = longer part c.put.new.self c.guarded.new.code c.in_ok-guarded.ensures in
+    let one : length c.put.new.self ≡ suc (length c.args.code.now) = ap length c.in_ok-put.ensures in
     let end : c.len-end.result ≡ length c.args.code.now = c.len-end.ensures in
     omega arith
 
@@ -29,7 +29,7 @@ while_loop-returns t c =
     let table = c.args.self.now.declared.table in
     on_ok_weaker c.turn.result
     (λ e. while_made c.args.code.now c.len-end.result c.len-end.ensures (value_code (value_at table c.args.condition) x) (statement_code (statement_in table c.args.body.now) x) c.len-again.result
-    c.put_step.new.self c.guarded.new.code c.turn.new.code c.in_ok-put_step.ensures c.len-again.ensures c.in_ok-guarded.ensures e)
+    c.put.new.self c.guarded.new.code c.turn.new.code c.in_ok-put.ensures c.len-again.ensures c.in_ok-guarded.ensures e)
     c.turn.ensures
 
 pub do_loop-turn-requires : goal.do_loop-turn-requires
@@ -38,9 +38,9 @@ do_loop-turn-requires t c =
     let x = making c.args.self.now in
     let part = statement_code (statement_in table c.args.body.now) x (length c.value.new.code - c.len-end.result) (length c.value.new.code - c.len-test.result) in
     let long : length c.value.new.code ≤ length c.statement.new.code = longer part c.value.new.code c.statement.new.code c.in_ok-statement.ensures in
-    let middle : length c.put_step-2.new.self ≤ length c.value.new.code = longer (value_code (value_at table c.args.condition) x) c.put_step-2.new.self c.value.new.code c.in_ok-value.ensures in
-    let two : length c.put_step-2.new.self ≡ suc (length c.put_step.new.self) = ap length c.in_ok-put_step-2.ensures in
-    let one : length c.put_step.new.self ≡ suc (length c.args.code.now) = ap length c.in_ok-put_step.ensures in
+    let middle : length c.put-2.new.self ≤ length c.value.new.code = longer (value_code (value_at table c.args.condition) x) c.put-2.new.self c.value.new.code c.in_ok-value.ensures in
+    let two : length c.put-2.new.self ≡ suc (length c.put.new.self) = ap length c.in_ok-put-2.ensures in
+    let one : length c.put.new.self ≡ suc (length c.args.code.now) = ap length c.in_ok-put.ensures in
     let end : c.len-end.result ≡ length c.args.code.now = c.len-end.ensures in
     omega arith
 
@@ -50,8 +50,8 @@ do_loop-returns t c =
     let table = c.args.self.now.declared.table in
     on_ok_weaker c.turn.result
     (λ e. do_made c.args.code.now c.len-end.result c.len-end.ensures (value_code (value_at table c.args.condition) x) (statement_code (statement_in table c.args.body.now) x) c.len-test.result
-    c.put_step.new.self c.put_step-2.new.self c.value.new.code c.statement.new.code c.turn.new.code
-    c.in_ok-put_step.ensures c.in_ok-put_step-2.ensures c.in_ok-value.ensures c.len-test.ensures c.in_ok-statement.ensures e)
+    c.put.new.self c.put-2.new.self c.value.new.code c.statement.new.code c.turn.new.code
+    c.in_ok-put.ensures c.in_ok-put-2.ensures c.in_ok-value.ensures c.len-test.ensures c.in_ok-statement.ensures e)
     c.turn.ensures
 
 pub for_loop-turn-requires : goal.for_loop-turn-requires
@@ -61,8 +61,8 @@ for_loop-turn-requires t c =
     let part = statement_code (statement_in table c.args.body.now) x (length c.last.new.code - c.len-end.result) (length c.last.new.code - c.len-next.result) in
     let tested : length c.statement.new.code ≤ length c.test.new.code = longer (test_code (maybe_at table c.args.condition) x (c.len.result - c.len-end.result)) c.statement.new.code c.test.new.code c.in_ok-test.ensures in
     let long : length c.last.new.code ≤ length c.statement.new.code = longer part c.last.new.code c.statement.new.code c.in_ok-statement.ensures in
-    let middle : length c.put_step.new.self ≤ length c.last.new.code = longer (last_code (maybe_at table c.args.last) x) c.put_step.new.self c.last.new.code c.in_ok-last.ensures in
-    let one : length c.put_step.new.self ≡ suc (length c.args.code.now) = ap length c.in_ok-put_step.ensures in
+    let middle : length c.put.new.self ≤ length c.last.new.code = longer (last_code (maybe_at table c.args.last) x) c.put.new.self c.last.new.code c.in_ok-last.ensures in
+    let one : length c.put.new.self ≡ suc (length c.args.code.now) = ap length c.in_ok-put.ensures in
     let end : c.len-end.result ≡ length c.args.code.now = c.len-end.ensures in
     omega arith
 
@@ -73,8 +73,8 @@ for_loop-returns t c =
     let end = c.len-end.result in
     on_ok_weaker c.turn.result
     (λ e. for_made c.args.code.now end c.len-end.ensures (test_code (maybe_at table c.args.condition) x) (last_code (maybe_at table c.args.last) x) (statement_code (statement_in table c.args.body.now) x) c.len-next.result
-    c.put_step.new.self c.last.new.code c.statement.new.code c.test.new.code c.turn.new.code
-    c.in_ok-put_step.ensures c.in_ok-last.ensures c.len-next.ensures c.in_ok-statement.ensures
+    c.put.new.self c.last.new.code c.statement.new.code c.test.new.code c.turn.new.code
+    c.in_ok-put.ensures c.in_ok-last.ensures c.len-next.ensures c.in_ok-statement.ensures
     (c.in_ok-test.ensures ∙ ap (λ (n : ℕ). test_code (maybe_at table c.args.condition) x (n - end) ++ c.statement.new.code) c.len.ensures) e)
     c.turn.ensures
 

@@ -1,4 +1,4 @@
-use Rattle.std.proofs.Common.{ap, ◌∙◌, ◌+◌, ◌^◌, ◌<◌, subst, arith, length, get_or}
+use Rattle.std.proofs.Common.{ap, ◌∙◌, ◌+◌, ◌^◌, ◌<◌, subst, arith, rules, length, get_or}
 use Rattle.c_code.specs.declared.instr.Instr.TheVariants.{Push}
 use Rattle.c_code.specs.declared.instr.Push.TheVariants.{Number}
 use Rattle.c_code.specs.Fits.{values_of}
@@ -21,6 +21,14 @@ bounds-instrs-a c =
     let ws = held c.args.self.now.waits.all in
     index_within l c.in-Going.a c.instrs.result.now vs ws c.instrs.ensures.instrs c.requires.valid (subst (λ s. FitsIn l (config_of s vs ws)) c.in-Going.is c.requires.fits)
 
+pub offset_bounds-instrs-a : goal.offset_bounds-instrs-a
+offset_bounds-instrs-a c =
+    let l = laid c.args.code.now c.args.placed.now in
+    let vs = held c.args.self.now.values in
+    let ws = held c.args.self.now.waits.all in
+    let lt = index_within l c.in-Going.a c.instrs.result.now vs ws c.instrs.ensures.instrs c.requires.valid (subst (λ s. FitsIn l (config_of s vs ws)) c.in-Going.is c.requires.fits) in
+    omega (arith, lt, c.instrs.type_inv)
+
 pub hearing-heard-requires-clause-enough : goal.hearing-heard-requires-clause-enough
 hearing-heard-requires-clause-enough c =
     let l = laid c.args.code.now c.args.placed.now in
@@ -34,7 +42,7 @@ hearing-heard-requires-clause-place c =
     let vs = held c.args.self.now.values in
     let ws = held c.args.self.now.waits.all in
     let lt = index_within l c.in-Going.a c.instrs.result.now vs ws c.instrs.ensures.instrs c.requires.valid (subst (λ s. FitsIn l (config_of s vs ws)) c.in-Going.is c.requires.fits) in
-    let inside : c.in-Going.a.at + 1 + passes (get_or c.instrs.result.now c.in-Going.a.at (Push (Number 0))) < 2 ^ 32 = index_stays c.args.code.now c.instrs.result.now c.in-Going.a.at (Push (Number 0)) c.instrs.ensures.instrs c.requires.valid lt in
+    let inside : c.in-Going.a.at + 1 + passes (get_or c.instrs.result.now c.in-Going.a.at (Push (Number 0))) < 2 ^ 64 = index_stays c.args.code.now c.instrs.result.now c.in-Going.a.at (Push (Number 0)) c.instrs.ensures.instrs c.requires.valid (search rules) lt in
     omega (arith, inside)
 
 pub end-requires : goal.end-requires
