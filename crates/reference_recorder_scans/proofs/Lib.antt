@@ -1,0 +1,4 @@
+pub mod AboveCut
+pub mod Bytes
+pub mod Found
+pub mod Scanning
