@@ -1,0 +1,5 @@
+pub mod Calls
+pub mod Firsts
+pub mod Lists
+pub mod Ranges
+pub mod Returns
