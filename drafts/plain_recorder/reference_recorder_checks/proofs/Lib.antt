@@ -1,0 +1,2 @@
+pub mod ToldAbove
+pub mod ToldBelow

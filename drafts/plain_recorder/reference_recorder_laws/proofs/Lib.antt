@@ -1,0 +1,4 @@
+pub mod Low
+pub mod Stamped
+pub mod Short
+pub mod AtEnd

@@ -1,0 +1,5 @@
+pub mod BlocksAbove
+pub mod OneSize
+pub mod Origins
+pub mod Scanned
+pub mod Touched
