@@ -1,2 +1,0 @@
-pub mod ToldAbove
-pub mod ToldBelow

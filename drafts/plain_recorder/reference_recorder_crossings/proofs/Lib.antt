@@ -1,3 +1,0 @@
-pub mod Brought
-pub mod Called
-pub mod Written

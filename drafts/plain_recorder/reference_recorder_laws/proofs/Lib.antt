@@ -1,4 +1,0 @@
-pub mod Low
-pub mod Stamped
-pub mod Short
-pub mod AtEnd

@@ -1,5 +1,0 @@
-pub mod BlocksAbove
-pub mod OneSize
-pub mod Origins
-pub mod Scanned
-pub mod Touched

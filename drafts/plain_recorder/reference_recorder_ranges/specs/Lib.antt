@@ -1,3 +1,0 @@
-pub mod Below
-pub mod Checks
-pub mod Pasts
