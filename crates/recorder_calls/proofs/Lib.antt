@@ -8,6 +8,6 @@ pub mod Ends
 mod Bounded
 mod Handed
 mod SaidKeys
-mod FewKeys
+pub mod FewKeys
 mod Next
 mod CallModes
