@@ -1,0 +1,5 @@
+pub mod BlocksBelow
+pub mod OneKey
+pub mod OneMode
+pub mod Raced
+pub mod Room
