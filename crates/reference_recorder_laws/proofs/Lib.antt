@@ -1,0 +1,5 @@
+pub mod Low
+pub mod Stamped
+pub mod Short
+pub mod AtEnd
+pub mod Stops
