@@ -1,0 +1,4 @@
+pub mod Forms
+pub mod Found
+pub mod FirstBad
+pub mod Stopped

@@ -1,0 +1,11 @@
+//! The marks of faults in place of steps, made anew from all marks so far.
+#![tactic(auto)]
+
+mod above;
+mod below;
+mod bare;
+mod calls;
+mod ranges;
+
+pub use above::fault_above;
+pub use below::fault_below;
