@@ -1,0 +1,5 @@
+pub mod Numbered
+pub mod Allocs
+pub mod Frees
+pub mod Ups
+pub mod UpReturns
