@@ -1,0 +1,3 @@
+pub mod ReturnChecks
+pub mod CallChecks
+pub mod PieceChecks
