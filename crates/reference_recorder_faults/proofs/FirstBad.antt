@@ -1,11 +1,11 @@
--- The first bad one of ranges.
-use Rattle.std.proofs.Common.{◌≡◌, ◌⊎◌, inl, inr, ℕ, zero, suc, ◌<◌, Bool, true, false, ◌||◌, List, [], ◌∷◌, ◌++◌, length, get_or, take, Option, Some, None, is_some, refl, sym, ap, ◌∙◌, subst, arith, length-append}
+-- The first bad one of ranges, and the ranges that a call holds.
+use Rattle.std.proofs.Common.{◌≡◌, ◌⊎◌, inl, inr, ℕ, zero, suc, ◌+◌, ◌<◌, Bool, true, false, ◌||◌, List, [], ◌∷◌, ◌++◌, length, get_or, take, Option, Some, None, is_some, refl, sym, ap, ◌∙◌, subst, arith, append_assoc, length-append}
 use Rattle.std.proofs.Math.Seq.{get_or-append_seam, take-append_seam}
 use Rattle.std.proofs.lemmas.Bool.{cases_order, true≢false}
-use Rattle.std.proofs.lemmas.List.{get_or_append_left}
+use Rattle.std.proofs.lemmas.List.{get_or_append_left, map-append, take_more}
 use Rattle.std.specs.Prelude.{◌↔◌}
 use Rattle.marks.specs.declared.range.Range.{Range}
-use Rattle.marks.specs.Ranges.{any_range, covers}
+use Rattle.marks.specs.Ranges.{Prepared, any_range, covers, prepared_ranges}
 use Rattle.replay_runs.specs.Rules.{SomeConstant}
 use Rattle.replay_runs.specs.Checks.{Done, constant_check}
 use Rattle.reference_recorder_scans.specs.Found.{IsLeastBad}
@@ -58,3 +58,14 @@ pub constant_found : (r : Range) (o : Option Finding) → IsFound (constant_chec
 constant_found r None none = (λ e. absurd (true≢false (sym e)), λ s. absurd (none.0 s.0 (s.1, refl, s.2)))
 constant_found r (Some f) (inl h) = (λ e. (h.0, h.1.0.0, h.1.0.2), λ s. refl)
 constant_found r (Some f) (inr h) = absurd h.1
+
+-- ---- those that are held
+
+pub ranges_more : (outs held : List Range) (ps : List Prepared) (i : ℕ) (p : Prepared) (r : Range) → i < length ps → p ≡ get_or ps i p → r ≡ p.range →
+    held ≡ outs ++ prepared_ranges (take i ps) → held ++ r ∷ [] ≡ outs ++ prepared_ranges (take (i + 1) ps)
+ranges_more outs held ps i p r lt is range_is before =
+    (λ j. before j ++ range_is j ∷ [])
+    ∙ (append_assoc outs (prepared_ranges (take i ps)) (p.range ∷ [])
+    ∙ ap (λ rs. outs ++ rs)
+    (ap (λ (q : Prepared). prepared_ranges (take i ps) ++ q.range ∷ []) is
+    ∙ sym (ap prepared_ranges (take_more ps i p lt) ∙ map-append (λ (q : Prepared). q.range) (take i ps) (get_or ps i p ∷ []))))

@@ -1,10 +1,10 @@
 -- What the mark of a fault does, by what the code wanted.
-use Rattle.std.proofs.Common.{◌≡◌, ℕ, Bool, true, false, ◌||◌, List, [], length, Option, Some, None, is_some, refl, sym, ap, ◌∙◌}
+use Rattle.std.proofs.Common.{◌≡◌, ℕ, true, false, ◌||◌, List, [], length, Option, Some, None, is_some, refl, sym, ap}
 use Rattle.std.proofs.lemmas.Bool.{true≢false}
 use Rattle.marks.specs.declared.fault.FaultKind.{FaultKind}
 use Rattle.marks.specs.declared.range.Range.{Range}
 use Rattle.marks.specs.Ranges.{range}
-use Rattle.marks.specs.Marks.{Access, Nowhere, Reading, Writing, Freeing, Act, Turn, Load, Store, Enter, Leave, Step, Fault, Made}
+use Rattle.marks.specs.Marks.{Access, Nowhere, Reading, Writing, Freeing, Act, Fault}
 use Rattle.marks.specs.Wants.{Want, Outside, Turns, Loads, Stores, Enters, Leaves, Allocs, Frees, Calls, Below, Gives, Returns, CallsBack, UpReturns, Steps, Fails, answer_to, is_above, is_below}
 use Rattle.replay_runs.specs.Threads.{act_fault}
 use Rattle.replay_runs.proofs.Replies.{Plain, turn, load, no_load, store, no_store, no_write, enter, full, leave, no_free, no_call, fail, IsNoStep, only_events}

@@ -1,13 +1,13 @@
 -- The mark of the fault that the tests of a step find.
-use Rattle.std.proofs.Common.{◌≡◌, ◌⊎◌, inl, inr, ℕ, Bool, true, false, List, [], ◌∷◌, ◌++◌, length, Option, Some, None, is_some, refl, sym, ap, ◌∙◌, subst}
+use Rattle.std.proofs.Common.{◌≡◌, ◌⊎◌, inl, inr, ℕ, Bool, true, false, List, [], ◌++◌, length, Some, None, is_some, refl, sym, ap, ◌∙◌, subst}
 use Rattle.marks.specs.declared.side.Side.{Side}
 use Rattle.marks.specs.declared.side.Side.TheVariants.{Replay, System}
 use Rattle.marks.specs.declared.fault.FaultKind.{FaultKind}
 use Rattle.marks.specs.declared.range.Range.{Range}
 use Rattle.marks.specs.Ranges.{bytes_of_number, prepared_ranges, range}
-use Rattle.marks.specs.Marks.{Nowhere, Reading, Writing, Freeing, Act, Turn, Load, Store, Enter, Leave, Step, Fault, Made, Mark, is_event}
+use Rattle.marks.specs.Marks.{Nowhere, Reading, Writing, Freeing, Act, Turn, Load, Store, Enter, Leave, Step, Fault, Made, Mark, is_event, side_of}
 use Rattle.marks.specs.Bytes.{Asks}
-use Rattle.marks.specs.Wants.{Want, Turns, Loads, Stores, Enters, Leaves, Allocs, Frees, Calls, Gives, Returns, CallsBack, UpReturns, Steps, Fails, answer_to}
+use Rattle.marks.specs.Wants.{Want, Turns, Loads, Stores, Enters, Leaves, Allocs, Frees, Calls, Gives, Returns, CallsBack, UpReturns, Steps, Fails}
 use Rattle.memory_map.specs.declared.placed.Placed.{Placed}
 use Rattle.c_code.specs.Machine.{frame_of}
 use Rattle.c_code.specs.MarkLists.{same_side}
@@ -21,7 +21,7 @@ use Rattle.whole_runs.specs.World.{World, begin, interface}
 use Rattle.whole_runs.specs.Sides.{events_by, seen}
 use Rattle.whole_runs.specs.Outcomes.{builtin_of}
 use Rattle.whole_runs.specs.Tests.{tests}
-use Rattle.whole_runs.specs.Steps.{Picked, fault_below, rules_above}
+use Rattle.whole_runs.specs.Steps.{Picked, IsFault, fault_below, rules_above}
 use Rattle.whole_runs_laws.specs.Exists.{HasFault}
 use Rattle.whole_runs_laws.proofs.FaultsAbove.{faults_met}
 use Rattle.whole_runs_laws.proofs.Lasts.{answers_to, fault_breach}
@@ -166,6 +166,13 @@ module _ (w : World) (marks : List Told) (t : ℕ) (side : Side) (args : List �
 
   -- ---- the mark
 
+  -- it stands on the side of the step
+  fault_side : (m : Mark) → IsFault w run step kind m → m.side ≡ side
+  fault_side m h =
+      let plain : is_event m.act ≡ false = no_event m.act kind h.kind_is in
+      let same : same_side (side_of step.side m.act) m.side ≡ true = side_is step.side step.want m (ap is_some h.stops) in
+      sym (same_side_true step.side m.side (subst (λ d. same_side d m.side ≡ true) (plain_side step.side m.act plain) same)) ∙ f.at.on_side
+
   pub does_so : (act : ToldAct) → there.mark.act ≡ act_of act → IsFaultAct w run step kind act
   does_so act e = record { mark = there.mark; fault = there.met; does = e }
 
@@ -173,16 +180,8 @@ module _ (w : World) (marks : List Told) (t : ℕ) (side : Side) (args : List �
     abbrev m : Mark
     m = a.mark
 
-    plain : is_event m.act ≡ false
-    plain = no_event m.act kind a.fault.kind_is
-
     thread : m.thread ≡ t
     thread = a.fault.mark.of_thread ∙ f.at.of_thread
-
-    on_side : m.side ≡ side
-    on_side =
-        sym (same_side_true step.side m.side (subst (λ d. same_side d m.side ≡ true) (plain_side step.side m.act plain) (side_is step.side step.want m (ap is_some a.fault.stops))))
-        ∙ f.at.on_side
 
     index : m.index ≡ length (new_events (OfThread t) (past marks))
     index = a.fault.mark.index ∙ (ap (λ u. events_by w u run) thread ∙ sym (index_told w marks f.at.past t))
@@ -196,18 +195,12 @@ module _ (w : World) (marks : List Told) (t : ℕ) (side : Side) (args : List �
         same : IsShownAs m made
         same =
             let here : record m { act = without_origin m.act } ≡ mark_of (next_after marks t side act) =
-            λ i. record { thread = thread i; side = on_side i; index = index i; act = does i } in
+            λ i. record { thread = thread i; side = fault_side m a.fault i; index = index i; act = does i } in
             here ∙ ap mark_of (sym is)
-
-  mark_side : there.mark.side ≡ side
-  mark_side =
-      let none = no_event there.mark.act kind there.met.kind_is in
-      sym (same_side_true step.side there.mark.side (subst (λ d. same_side d there.mark.side ≡ true) (plain_side step.side there.mark.act none) (side_is step.side step.want there.mark (ap is_some there.met.stops))))
-      ∙ f.at.on_side
 
   -- a builtin or external
   pub at_step : side ≡ System → (i : Bool) (g : ℕ) → said ≡ told.Step i g → there.mark.act ≡ fault_below w kind g args (builtin_of g)
-  at_step on i g e = there.met.below (mark_side ∙ on) i g args (told_so (told.Step i g) e)
+  at_step on i g e = there.met.below (fault_side there.mark there.met ∙ on) i g args (told_so (told.Step i g) e)
 
   -- ---- a call is stopped at one of its ranges
 
@@ -216,7 +209,7 @@ module _ (w : World) (marks : List Told) (t : ℕ) (side : Side) (args : List �
     wants = told_so (told.Call i g) e
 
     allowed : Allowed (rules_above (interface w) (begin w) step.want) (begin w) (seen run) there.mark
-    allowed = there.met.mark.above (mark_side ∙ on)
+    allowed = there.met.mark.above (fault_side there.mark there.met ∙ on)
 
     byte_told : (x : ℕ) → byte (begin w) x (seen run) ≡ byte (begin w) x (seen (past marks))
     byte_told x = sym (byte_seen w x run) ∙ ap (λ ms. byte (begin w) x (seen ms)) f.at.past.same

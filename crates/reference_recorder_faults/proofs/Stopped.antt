@@ -1,11 +1,11 @@
 -- A call is stopped at the first bad one of its ranges.
-use Rattle.std.proofs.Common.{◌≡◌, ℕ, ◌<◌, Bool, true, false, ◌||◌, List, [], ◌∷◌, ◌++◌, length, get_or, take, Option, Some, None, refl, sym, ap, ◌∙◌, subst}
+use Rattle.std.proofs.Common.{◌≡◌, ℕ, ◌<◌, Bool, true, false, ◌||◌, List, [], length, get_or, take, None, refl, sym, ap, ◌∙◌, subst}
 use Rattle.std.proofs.lemmas.Bool.{true≢false}
 use Rattle.marks.specs.declared.fault.FaultKind.{FaultKind}
-use Rattle.marks.specs.declared.fault.FaultKind.TheVariants.{Divide, Shift, NotLive, ReadOnly, StackFull, BadCall}
+use Rattle.marks.specs.declared.fault.FaultKind.TheVariants.{NotLive, ReadOnly}
 use Rattle.marks.specs.Places.{is_constant}
 use Rattle.marks.specs.declared.range.Range.{Range}
-use Rattle.marks.specs.Ranges.{any_range, covers}
+use Rattle.marks.specs.Ranges.{any_range}
 use Rattle.marks.specs.Marks.{Access, Reading, Writing, Act, Fault, Mark}
 use Rattle.marks.specs.Bytes.{AccessAsks, Asks, Byte, Cell, Dead, Live, Held, IsLive, access_writes, writes}
 use Rattle.replay_runs.specs.Runs.{byte}
@@ -89,12 +89,6 @@ module _ (w : World) (past : List Mark) where
     never_constant kind bi bo a (AtOut before after r is apart) e none = absurd cc
     never_constant kind bi bo a (AtConstant before after r is apart some) e none = some_bad SomeConstant before after r some (subst (λ rs. IsPlaceOfBad SomeConstant rs None) is none)
 
-    -- at bytes alone
-    at_bytes : (kind : FaultKind) (bi bo : List Range) (a : Access) → Stops kind bi bo a → (kind ≡ NotLive → ⊥) → (kind ≡ ReadOnly → ⊥) → ⊥
-    at_bytes kind bi bo a (AtIn before after r is) dead constant = dead refl
-    at_bytes kind bi bo a (AtOut before after r is apart) dead constant = dead refl
-    at_bytes kind bi bo a (AtConstant before after r is apart some) dead constant = constant refl
-
     -- ---- so it is of the mark of the fault
 
     module _ (kind : FaultKind) (act : Act) (s : IsStopped w past ins held kind act) where
@@ -118,6 +112,3 @@ module _ (w : World) (past : List Mark) where
 
       pub stopped_somewhere : kind ≡ ReadOnly → IsPlaceOfBad SomeConstant held None → ⊥
       stopped_somewhere e none = never_constant kind s.before_ins s.before_held s.access s.stops e none
-
-      pub stopped_at_bytes : (kind ≡ NotLive → ⊥) → (kind ≡ ReadOnly → ⊥) → ⊥
-      stopped_at_bytes dead constant = at_bytes kind s.before_ins s.before_held s.access s.stops dead constant

@@ -117,12 +117,25 @@ fn first_read(
     ensures { IfOk result (λ a. access_of a ≡
         first_read_of ((interface_on (world_of inputs.entry) System func).ins func args.now)) }
 {
+    let mut done = Done::new(alloc);
+    first_said(inputs, func, args, &mut done)
+}
+
+// The same; what annotations say of the call is read into `done`.
+fn first_said(
+    inputs: Inputs<'_>,
+    func: u16,
+    args: &[u64],
+    done: &mut Done,
+) -> Result<Access, AllocError>
+    ensures { IfOk result (λ a. access_of a ≡
+        first_read_of ((interface_on (world_of inputs.entry) System func).ins func args.now)) }
+{
     let annotations = Annotations {
         code: inputs.code,
         stubs: inputs.stubs,
     };
-    let mut done = Done::new(alloc);
-    annotations.say(&mut done, Side::System, func, args, 0)?;
+    annotations.say(done, Side::System, func, args, 0)?;
     Ok(access_to(done.ins()))
 }
 

@@ -36,12 +36,31 @@ pub(crate) fn stopped_call(
         (f : IsAtFault (world_of inputs.entry) marks.now t Replay args.now (told.Call indirect func) kind) →
         IfOk result (IsFaultAct (world_of inputs.entry) f.at.past.run f.at.step kind) }
 {
+    let mut done = Done::new(alloc);
+    stopped_as_said(alloc, inputs, marks, func, args, kind, &mut done)
+}
+
+// The same; what annotations say of the call is read into `done`.
+fn stopped_as_said(
+    alloc: Global,
+    inputs: Inputs<'_>,
+    marks: &[Mark],
+    func: u16,
+    args: &[u64],
+    kind: FaultKind,
+    done: &mut Done,
+) -> Result<Act, AllocError>
+    requires { (t : ℕ) × (indirect : Bool) ×
+        IsAtFault (world_of inputs) marks.now t Replay args.now (told.Call indirect func) kind }
+    ensures { (t : ℕ) (indirect : Bool) →
+        (f : IsAtFault (world_of inputs.entry) marks.now t Replay args.now (told.Call indirect func) kind) →
+        IfOk result (IsFaultAct (world_of inputs.entry) f.at.past.run f.at.step kind) }
+{
     let annotations = Annotations {
         code: inputs.code,
         stubs: inputs.stubs,
     };
-    let mut done = Done::new(alloc);
-    annotations.say(&mut done, Side::Replay, func, args, 0)?;
+    annotations.say(done, Side::Replay, func, args, 0)?;
     let held = held_ranges(alloc, done.outs(), done.prepares())?;
     stopped_at(alloc, inputs.placed, marks, done.ins(), &held, kind)
 }
@@ -99,12 +118,7 @@ fn stopped_at(
 }
 
 // At the range at this place of those that are read.
-fn at_read(
-    alloc: Global,
-    kind: FaultKind,
-    ins: &[Range],
-    place: usize,
-) -> Result<Act, AllocError>
+fn at_read(alloc: Global, kind: FaultKind, ins: &[Range], place: usize) -> Result<Act, AllocError>
     requires { place < length ins.now }
     ensures { IfOk result (λ act. act_of act ≡
         Fault kind true (take place ins.now) [] (Reading (get_or ins.now place no_range))) }

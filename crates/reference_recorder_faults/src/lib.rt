@@ -2,8 +2,8 @@
 #![tactic(auto)]
 
 mod above;
-mod below;
 mod bare;
+mod below;
 mod calls;
 mod ranges;
 

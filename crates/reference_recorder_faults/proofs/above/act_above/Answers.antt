@@ -40,5 +40,5 @@ returns-in-Call c =
     (sym c.in-Call.is) (λ t f. c.stopped_call.ensures t c.in-Call.indirect f)
 
 pub unreachable-requires : goal.unreachable-requires
-unreachable-requires c = 
+unreachable-requires c =
     never_above (world_of c.args.inputs) c.args.marks.now c.requires.0 Replay c.args.args.now c.args.want c.args.kind c.requires.1 refl c.in-Turn.is

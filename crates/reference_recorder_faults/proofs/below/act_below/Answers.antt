@@ -46,5 +46,5 @@ returns-in-Step c =
     c.step_act.ensures
 
 pub unreachable-requires : goal.unreachable-requires
-unreachable-requires c = 
+unreachable-requires c =
     never_below (world_of c.args.inputs) c.requires.0 c.requires.1 System c.args.args.now c.args.want c.args.kind c.requires.2 refl c.in-Turn.is

@@ -1,7 +1,14 @@
 use Rattle.marks.specs.declared.side.Side.TheVariants.{System}
 use Rattle.recorder_state.specs.Inputs.{world_of}
+use Rattle.reference_recorder_acts.proofs.Marked.{few_marks}
 use Rattle.reference_recorder_faults.proofs.Found.{as_fault}
 use Rattle.reference_recorder_faults.proofs.below.fault_below.Goals as goal
+
+pub act_below-requires : goal.act_below-requires
+act_below-requires c = (c.args.marks.now, c.args.thread, c.requires)
+
+pub next_mark-requires : goal.next_mark-requires
+next_mark-requires c = few_marks (world_of c.args.inputs) c.args.marks.now c.requires.at.past c.requires.at.step
 
 pub returns : goal.returns
 returns c = λ f.

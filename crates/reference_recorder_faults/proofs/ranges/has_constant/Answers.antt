@@ -1,4 +1,4 @@
-use Rattle.std.proofs.Common.{true, sym, ◌∙◌}
+use Rattle.std.proofs.Common.{sym, ◌∙◌}
 use Rattle.reference_recorder_faults.proofs.FirstBad.{constant_found}
 use Rattle.reference_recorder_faults.proofs.ranges.has_constant.Goals as goal
 

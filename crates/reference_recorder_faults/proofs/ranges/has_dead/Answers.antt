@@ -1,4 +1,4 @@
-use Rattle.std.proofs.Common.{◌≡◌, ◌-◌, ◌^◌, ◌<◌, ℕ, Bool, true, None, sym, ◌∙◌, arith}
+use Rattle.std.proofs.Common.{◌≡◌, ◌-◌, ◌^◌, ◌<◌, ℕ, sym, ◌∙◌, arith}
 use Rattle.marks.specs.Bytes.{Dead}
 use Rattle.replay_runs.specs.Runs.{byte}
 use Rattle.whole_runs.specs.World.{begin}

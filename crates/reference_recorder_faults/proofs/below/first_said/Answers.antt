@@ -2,7 +2,7 @@ use Rattle.std.proofs.Common.{refl, ap, ◌∙◌}
 use Rattle.stub_meaning.specs.Calls.{Done}
 use Rattle.whole_runs.specs.Steps.{first_read}
 use Rattle.recorder_state.specs.Inputs.{world_of}
-use Rattle.reference_recorder_faults.proofs.below.first_read.Goals as goal
+use Rattle.reference_recorder_faults.proofs.below.first_said.Goals as goal
 
 pub returns : goal.returns
 returns c =

@@ -9,8 +9,8 @@ use Rattle.reference_recorder_marks.specs.Marks.{act_of}
 use Rattle.reference_recorder_faults.specs.Faults.{IsAtFault, IsFaultAct}
 use Rattle.reference_recorder_faults.specs.Ranges.{IsStoppedIn}
 use Rattle.reference_recorder_faults.proofs.Found.{does_so, stopped_in, there}
-use Rattle.reference_recorder_faults.proofs.calls.stopped_call.Goals.{After-deref}
-use Rattle.reference_recorder_faults.proofs.calls.stopped_call.Goals as goal
+use Rattle.reference_recorder_faults.proofs.calls.stopped_as_said.Goals.{After-deref}
+use Rattle.reference_recorder_faults.proofs.calls.stopped_as_said.Goals as goal
 
 stops : (c : After-deref) (t : ℕ) (i : Bool) (f : IsAtFault (world_of c.args.inputs) c.args.marks.now t Replay c.args.args.now (told.Call i c.args.func) c.args.kind) →
     IsStoppedIn (world_of c.args.inputs) c.args.inputs.placed.now c.args.marks.now c.ins.result.now c.deref.result.now c.args.kind
