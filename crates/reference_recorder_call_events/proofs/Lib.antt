@@ -1,0 +1,11 @@
+pub mod Weaker
+pub mod There
+pub mod ReadBytes
+pub mod Loops
+pub mod Told
+pub mod Closing
+pub mod Calling
+pub mod Rets
+pub mod Endings
+pub mod Bodies
+pub mod Gives
