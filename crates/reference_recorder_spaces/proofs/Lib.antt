@@ -1,0 +1,10 @@
+mod Same
+mod Written
+mod Framed
+mod Pooled
+mod Calling
+mod Apart
+mod Giving
+mod Answered
+mod Still
+mod Seen

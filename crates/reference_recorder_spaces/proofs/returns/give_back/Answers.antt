@@ -1,0 +1,49 @@
+use Rattle.std.proofs.Common.{length, refl, sym, ap, ◌∙◌, subst, arith}
+use Rattle.std.specs.Prelude.{slice_index}
+use Rattle.marks.specs.Marks.{released}
+use Rattle.space_memory_access.specs.Held.{HeldState, innermost}
+use Rattle.space_memory.specs.Releases.{outs_of}
+use Rattle.space_memory_laws.specs.Changes.{IsReleased}
+use Rattle.reference_recorder_marks.specs.Marks.{commit_of}
+use Rattle.reference_recorder_spaces.specs.Next.{committing}
+use Rattle.reference_recorder_spaces.proofs.Giving.{as_many, gives, in_call, puts_more, still_held}
+use Rattle.reference_recorder_spaces.proofs.returns.give_back.Goals as goal
+
+pub release-requires-clause-open : goal.release-requires-clause-open
+release-requires-clause-open c =
+    let n = c.requires.next in
+    let commit = commit_of c.args.commit.now in
+    let puts = puts_more c.args.thread c.args.outs.now (released commit) c.args.spaces.now c.put_all.new.spaces c.put_released.new.spaces c.in_ok-put_all.ensures c.in_ok-put_released.ensures in
+    let held = still_held c.args.spaces.now c.args.thread n.0 n.1 n.2 n.3 c.args.outs.now commit n.4.0 n.4.1 n.4.2 c.requires.in_range c.put_released.new.spaces puts in
+    let open' = in_call c.args.spaces.now c.args.thread n.0 n.1 n.2 n.3 c.args.outs.now commit n.4.0 n.4.1 n.4.2 c.requires.in_range in
+    let same = ap (λ (q : HeldState). slice_index q.depths c.args.thread) held in
+    omega (arith, open', same)
+
+pub release-requires-clause-sizes : goal.release-requires-clause-sizes
+release-requires-clause-sizes c =
+    let n = c.requires.next in
+    let commit = commit_of c.args.commit.now in
+    let puts = puts_more c.args.thread c.args.outs.now (released commit) c.args.spaces.now c.put_all.new.spaces c.put_released.new.spaces c.in_ok-put_all.ensures c.in_ok-put_released.ensures in
+    let held = still_held c.args.spaces.now c.args.thread n.0 n.1 n.2 n.3 c.args.outs.now commit n.4.0 n.4.1 n.4.2 c.requires.in_range c.put_released.new.spaces puts in
+    ap length (c.deref.ensures.value ∙ c.in_ok-used.ensures)
+    ∙ as_many c.args.spaces.now c.args.thread n.0 n.1 n.2 n.3 c.args.outs.now commit n.4.0 n.4.1 n.4.2 c.requires.in_range
+    ∙ sym (ap (λ (q : HeldState). length (outs_of (innermost q c.args.thread) q.regions)) held)
+
+pub returns-in-Ok : goal.returns-in-Ok
+returns-in-Ok c = λ func args value same e kind n.
+    let t = c.args.thread in
+    let commit = commit_of c.args.commit.now in
+    let mid = c.put_released.new.spaces in
+    let new = c.release.new.self in
+    let puts = puts_more t c.args.outs.now (released commit) c.args.spaces.now c.put_all.new.spaces mid c.in_ok-put_all.ensures c.in_ok-put_released.ensures in
+    let both = c.in-Ok.ensures.released.0 refl in
+    let done : IsReleased mid new t c.deref.result.now c.committing.result = record {
+      key = both.0;
+      returned = both.1;
+      regions = c.in-Ok.ensures.regions;
+      depths = c.in-Ok.ensures.depths;
+      rest = c.release.ensures.rest;
+    } in
+    gives c.args.spaces.now t func args value same c.args.outs.now commit e kind n c.requires.in_range mid new puts
+    (λ h. subst (λ sizes. IsReleased mid new t sizes (committing commit)) (c.deref.ensures.value ∙ c.in_ok-used.ensures)
+    (subst (IsReleased mid new t c.deref.result.now) c.committing.ensures done))
