@@ -34,7 +34,8 @@ held_checks w past pieces answers regions used cs =
 -- and for the one that is committed under the key, of which so much is used
 abbrev pub committed_checks : World → List Mark → List Piece → (answers : List (List ℕ)) → List Range →
     (used : List ℕ) → (key : ℕ) → (size : Option ℕ) → Checks
-committed_checks w past pieces answers regions used k None = held_checks w past pieces answers regions used Done
+committed_checks w past pieces answers regions used k None =
+    held_checks w past pieces answers regions used Done
 committed_checks w past pieces answers regions used k (Some n) =
     key_check (begin w) (seen past) k (held_checks w past pieces answers regions used
     (commit_size_check (changed_by w past pieces) (length (get_or answers (length regions) []))

@@ -40,9 +40,7 @@ pub fn returned(
         IfOk result (IsFound (ret_checks w p func args.now value answers.now)) }
 {
     let pieces = answer_pieces(alloc, run, annotations, func, args, value, answers)?;
-    let called = done_at(alloc, annotations, func, args, 0)?;
-    let known = done_at(alloc, annotations, func, args, value)?;
-    Ok(brought(run, &pieces, answers, &called, &known))
+    come_up(alloc, run, annotations, func, args, value, &pieces, answers)
 }
 
 // The pieces that come up with the result: each answer for its region.
@@ -64,6 +62,26 @@ fn answer_pieces(
     pieces_for(alloc, &regions, answers)
 }
 
+// What is found where these pieces come up with the result, which are the answers.
+fn come_up(
+    alloc: Global,
+    run: Past<'_>,
+    annotations: Annotations<'_>,
+    func: u16,
+    args: &[u64],
+    value: u64,
+    pieces: &[Piece],
+    answers: &[Bytes],
+) -> Result<Option<Finding>, AllocError>
+    ensures { (w : World) (p : List Shown) → IsLowPastOf w p run.entry → AreOf w annotations.entry →
+        pieces.now ≡ pieces_for_in (targets_in w Replay p func args.now value) answers.now →
+        IfOk result (IsFound (ret_checks w p func args.now value answers.now)) }
+{
+    let called = done_at(alloc, annotations, func, args, 0)?;
+    let known = done_at(alloc, annotations, func, args, value)?;
+    Ok(brought(run, pieces, answers, &called, &known))
+}
+
 // What is found where these pieces come up, the answers for the regions that the call holds and for the one that it commits, by what is
 // known when it is called and when it returns.
 fn brought(
@@ -74,8 +92,8 @@ fn brought(
     known: &Done,
 ) -> Option<Finding>
     ensures { (w : World) (p : List Shown) → IsLowPastOf w p run.entry → IsFound
-        (brought_checks w p pieces.now answers.now called.now.outs known.now.used (first_of known.now.commits))
-        result }
+        (brought_checks w p pieces.now answers.now called.now.outs known.now.used
+        (first_of known.now.commits)) result }
 {
     let regions = called.outs();
     let used = known.used();
