@@ -1,0 +1,4 @@
+mod Blank
+mod Stopped
+mod Ended
+mod Recording
