@@ -1,0 +1,5 @@
+mod Answered
+mod Asking
+mod Turning
+mod Going
+mod Roomy
