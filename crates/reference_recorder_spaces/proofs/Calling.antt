@@ -1,7 +1,9 @@
 -- A Call, whose parts are added one after the other.
-use Rattle.std.proofs.Common.{◌≡◌, ℕ, ◌+◌, ◌-◌, ◌^◌, ◌<◌, ◌≤◌, Bool, true, false, ◌||◌, eqb, List, [], ◌∷◌, ◌++◌, map, length, get_or, take, All, append_assoc, Option, Some, None, inl, inr, refl, ap, sym, ◌∙◌, subst, arith, eqb-true, get_or-set_same}
+use Rattle.std.proofs.Common.{◌≡◌, ℕ, ◌+◌, ◌-◌, ◌^◌, ◌<◌, ◌≤◌, Bool, true, false, ◌||◌, eqb, List, [], ◌∷◌, ◌++◌, map, length, get_or, take, All, append_assoc, Option, Some, None, inl, inr, ⊎_elim, refl, ap, sym, ◌∙◌, subst, arith, eqb-true, get_or-set_same}
 use Rattle.std.specs.Prelude.{slice_index, slice_set}
-use Rattle.std.proofs.lemmas.Bool.{cases_Bool, cases_lt, cond-true, cond-false, or_parts, true≢false}
+use Rattle.std.specs.List.{list_any}
+use Rattle.std.proofs.lemmas.List.Folds.{list_any-append}
+use Rattle.std.proofs.lemmas.Bool.{cases_Bool, cases_lt, cond-true, cond-false, or_cases, or_parts, true≢false}
 use Rattle.std.proofs.lemmas.List.{append-nil, map-append, take_all, take_more}
 use Rattle.std.proofs.lemmas.List.Elements.{All-cons, All-nil}
 use Rattle.run_events.specs.declared.key.Class.TheVariants.{Async, Callback}
@@ -9,29 +11,33 @@ use Rattle.marks.specs.Places.{thread_count, is_system}
 use Rattle.marks.specs.declared.range.Range.{Range}
 use Rattle.marks.specs.Ranges.{Piece, Prepared, any_piece, any_prepared, any_range, covers, piece_ranges}
 use Rattle.marks.specs.Marks.{Call, Event, Made, Mark}
-use Rattle.marks.specs.Bytes.{Asks, Dead, Live, EventAsks, IsLive, Shows, event_reads, event_writes, touches}
+use Rattle.marks.specs.Bytes.{Asks, Dead, Live, EventAsks, IsLive, Shows, event_reads, event_writes, touches, writes}
 use Rattle.space_memory_bytes.specs.Areas.{byte_at}
 use Rattle.space_memory_bytes.specs.Numbers.{HasBytes}
 use Rattle.space_memory_access.specs.declared.holder.Holder.TheVariants.{Key}
 use Rattle.space_memory_access.specs.declared.refusal.Refusal.{Refusal}
 use Rattle.space_memory_access.specs.Accesses.{IsAllowed}
-use Rattle.space_memory_access.specs.Held.{HeldState, innermost}
-use Rattle.replay_runs.specs.Runs.{OfKey, Start, byte, has, is_listed, keys_of, marks_of}
+use Rattle.space_memory_access.specs.Held.{HeldState, innermost, prepared_region}
+use Rattle.replay_runs.specs.Runs.{OfKey, Start, byte, has, is_listed, keys_of, marks_of, new_events}
 use Rattle.replay_runs.specs.Keys.{key, keys_for, sorted_keys}
 use Rattle.replay_runs.specs.Pool.{prepares_key}
-use Rattle.replay_runs.specs.Rules.{AreWhole, Carries, EventCarries, HasKeys}
+use Rattle.replay_runs.specs.Rules.{AreWhole, Carries, EventCarries, HasKeys, SharedAct, SharedEvent}
 use Rattle.replay_runs.proofs.Holding.{shown_live}
 use Rattle.replay_runs.proofs.Keys.{any_right, listed_of}
 use Rattle.replay_runs.proofs.Stops.{any_prepares}
+use Rattle.space_memory.specs.Cells.{is_held}
 use Rattle.space_memory.specs.Spaces.{SpaceState}
 use Rattle.space_memory.specs.Held.{AddsRegion, IsPrepareRefused, holder_of, region_access, region_range}
 use Rattle.space_memory_laws.specs.Shown.{cell_of, value_when_held}
 use Rattle.space_memory_laws.specs.Calls.{Holds, InCall, IsShown, Part, Prepares, Reads, held_part, parts_of, prepared_part}
 use Rattle.space_memory_laws.specs.StandsFor.{StandsFor}
-use Rattle.space_memory_laws.proofs.CallRules.{call_made}
+use Rattle.space_memory_laws.proofs.CallRules.{any_both, call_made}
+use Rattle.space_memory_laws.proofs.Calls.{no_region}
 use Rattle.space_memory_laws.proofs.Cells.{covered}
 use Rattle.space_memory_laws.proofs.Parts.{held_range, opened, prepared_range}
-use Rattle.reference_recorder_spaces.specs.Next.{Adds, IsNext, IsRegion}
+use Rattle.reference_recorder_spaces.specs.Next.{Adds, AreFree, IsNext, IsNextPart, IsRegion, has_byte, writes_byte}
+use Rattle.reference_recorder_spaces.proofs.Allowed.{not_dead, not_pending}
+use Rattle.reference_recorder_spaces.proofs.Parts.{all_free, next_after, next_first, reads_apart, reads_take, reads_write, written, written_apart, written_has, written_takes, written_write}
 use Rattle.reference_recorder_spaces.proofs.Same.{plain_is}
 
 -- ---- one part more
@@ -177,6 +183,57 @@ module _ (old : SpaceState) (t func : ℕ) (args : List ℕ) (ins : List Piece) 
       (subst (λ a. HasKeys i n.mark.thread mine a) made n.allowed.own.keys ∙ ap (λ q. sorted_keys (keys_for i n.mark.thread mine q)) kind)
       (any_right (i.keys_at_call func args) _ (key Async k) (any_right (map (key Callback) (i.registers func args)) _ (key Async k) (any_prepares prepared k z)))
 
+  -- each of its parts may be added
+  in_use_none : (k : ℕ) → prepares_key prepared k ≡ true → prepared_region old.held.regions k ≡ None
+  in_use_none k z =
+      let i = n.program.interface in
+      let rule = subst (SharedEvent i n.start Async k (new_events (OfKey (key Async k)) n.past)) kind
+      (subst (SharedAct i n.start (key Async k) (new_events (OfKey (key Async k)) n.past)) made (n.allowed.shared (OfKey (key Async k)) (keyed k z))) in
+      no_region (prepared_region old.held.regions k) (n.stands.keys k ∙ rule z)
+
+  abbrev ws : List Part
+  ws = written outs prepared
+
+  abbrev parts : List Part
+  parts = map (λ (p : Piece). Reads p.range) ins ++ ws
+
+  written_so : (x : ℕ) → list_any (writes_byte x) parts ≡ true → (any_range outs x || any_prepared prepared x) ≡ true
+  written_so x c = sym (any_both outs prepared x) ∙ sym (written_write outs prepared x) ∙ sym (reads_write (λ (p : Piece). p.range) ins ws x) ∙ c
+
+  reads_has : (ps : List Piece) (x : ℕ) → list_any (has_byte x) (map (λ (p : Piece). Reads p.range) ps) ≡ any_piece ps x
+  reads_has [] x = refl
+  reads_has (p ∷ ps) x = ap (λ b. covers p.range x || b) (reads_has ps x)
+
+  has_so : (x : ℕ) → list_any (has_byte x) parts ≡ (any_piece ins x || (any_range outs x || any_prepared prepared x))
+  has_so x =
+      list_any-append (has_byte x) (map (λ (p : Piece). Reads p.range) ins) ws
+      ∙ (λ i. reads_has ins x i || (written_has outs prepared x ∙ any_both outs prepared x) i)
+
+  touched : (x : ℕ) → touches n.mark.act x ≡ (any_piece ins x || (any_range outs x || any_prepared prepared x))
+  touched x = ap (λ a. touches a x) made ∙ ap (λ k. event_reads k x || event_writes k x) kind
+
+  live_part : (x : ℕ) → (any_piece ins x || (any_range outs x || any_prepared prepared x)) ≡ true → IsLive (byte n.start x n.past).cell
+  live_part x c = ⊎_elim
+      (λ z. shown_live ins x (byte n.start x n.past).cell z (asks x).0)
+      (asks x).1
+      (or_cases (any_piece ins x) (any_range outs x || any_prepared prepared x) c)
+
+  free_parts : AreFree old parts
+  free_parts = record {
+    ranges = all_free old parts
+        (λ x c.
+        let z : (any_piece ins x || (any_range outs x || any_prepared prepared x)) ≡ true = sym (has_so x) ∙ c in
+        let own = n.allowed.own.other_space x (touched x ∙ z) in
+        record {
+          own = own;
+          live = not_dead n.start n.past old n.stands x own (live_part x z);
+          free = no_live (is_held old.held.regions x) (not_pending n.start n.past old n.stands x own (live_part x z));
+        })
+        (λ x c. n.allowed.own.read_only x (ap (λ a. writes a x) made ∙ ap (λ k. event_writes k x) kind ∙ written_so x c));
+    apart = reads_apart (λ (p : Piece). p.range) ins ws (written_apart outs prepared carries.4 carries.5);
+    keys = λ k c. in_use_none k (sym (written_takes outs prepared k) ∙ sym (reads_take (λ (p : Piece). p.range) ins ws k) ∙ c);
+  }
+
   module _ (small : t < thread_count) (begun : SpaceState) (held : begun.held ≡ record old.held { depths = slice_set old.held.depths t (slice_index old.held.depths t + 1) })
       (rest : begun ≡ record old { held = begun.held }) where
     in_call : InCall n.start n.past t [] old begun
@@ -187,6 +244,21 @@ module _ (old : SpaceState) (t func : ℕ) (args : List ℕ) (ins : List Piece) 
         let up : slice_index begun.held.depths t ≡ slice_index old.held.depths t + 1 =
         ap (λ (q : HeldState). slice_index q.depths t) held ∙ get_or-set_same old.held.depths t (slice_index old.held.depths t + 1) 0 (let k = n.stands.sound.held.threads in omega (arith, k, small)) in
         omega (arith, up)
+
+    next_parts : IsNextPart t (map (λ (p : Piece). Reads p.range) ins ++ ws) begun
+    next_parts = record { start = n.start; past = n.past; base = old; before = []; call = in_call; free = free_parts }
+
+    pub next_reads : IsNextPart t (map (λ (p : Piece). Reads p.range) ins) begun
+    next_reads = next_first t (map (λ (p : Piece). Reads p.range) ins) ws begun next_parts
+
+    after_reads : (read : SpaceState) → Adds t (map (λ (p : Piece). Reads p.range) ins) begun read → IsNextPart t ws read
+    after_reads read adds = next_after t (map (λ (p : Piece). Reads p.range) ins) ws begun read next_parts adds
+
+    pub next_holds : (read : SpaceState) → Adds t (map (λ (p : Piece). Reads p.range) ins) begun read → IsNextPart t (map Holds outs) read
+    next_holds read adds = next_first t (map Holds outs) (map prepared_part prepared) read (after_reads read adds)
+
+    pub next_prepares : (read held : SpaceState) → Adds t (map (λ (p : Piece). Reads p.range) ins) begun read → Adds t (map Holds outs) read held → IsNextPart t (map prepared_part prepared) held
+    next_prepares read held adds holds = next_after t (map Holds outs) (map prepared_part prepared) read held (after_reads read adds) holds
 
     pub calls : (read held prepares : SpaceState) → Adds t (map (λ (p : Piece). Reads p.range) ins) begun read → Adds t (map Holds outs) read held →
         Adds t (map prepared_part prepared) held prepares → StandsFor n.start (n.mark ∷ n.past) prepares

@@ -7,14 +7,15 @@ use Rattle.std.proofs.lemmas.List.{append-nil, map-append, length-map, take_all}
 use Rattle.std.proofs.lemmas.List.Elements.{All-append, All-cons, All-head, All-nil, All-tail}
 use Rattle.run_events.specs.declared.key.Class.TheVariants.{Async}
 use Rattle.marks.specs.declared.side.Side.TheVariants.{System}
-use Rattle.marks.specs.Places.{thread_count}
+use Rattle.marks.specs.Places.{thread_count, is_constant, is_system}
 use Rattle.marks.specs.declared.range.Range.{Range}
-use Rattle.marks.specs.Ranges.{Piece, any_piece, any_range, covers, piece_ranges}
+use Rattle.marks.specs.Ranges.{IsInRange, Piece, any_piece, any_range, covers, piece_ranges}
 use Rattle.marks.specs.Marks.{Commit, Event, Made, Mark, NoRegion, Released, Ret, Withheld, released}
-use Rattle.marks.specs.Bytes.{IsHeld}
-use Rattle.space_memory_bytes.specs.Areas.{AreaState, byte_at}
+use Rattle.marks.specs.Bytes.{IsHeld, event_reads, event_writes, touches, writes}
+use Rattle.space_memory_bytes.specs.Areas.{AreaState, IsDead, byte_at}
 use Rattle.space_memory_bytes.specs.Numbers.{HasBytes}
 use Rattle.space_memory_access.specs.declared.holder.Region.{Region}
+use Rattle.space_memory_access.specs.Accesses.{IsAllowed}
 use Rattle.space_memory_access.specs.Held.{innermost, prepared_region}
 use Rattle.replay_runs.specs.Runs.{OfKey, Start, has, is_listed, keys_of, marks_of, new_events}
 use Rattle.replay_runs.specs.Interface.{Committing}
@@ -27,15 +28,19 @@ use Rattle.replay_runs.proofs.Holding.{piece_range_of, pieces_cases}
 use Rattle.replay_runs.proofs.Keys.{listed_last}
 use Rattle.space_memory.specs.Releases.{committed_size, outs_of}
 use Rattle.space_memory.specs.Spaces.{SpaceState}
-use Rattle.space_memory_laws.specs.Changes.{IsReleased, IsWritten}
-use Rattle.space_memory_laws.specs.Owed.{IsPreparedUnder, any_out}
+use Rattle.space_memory_laws.specs.Changes.{IsReleased, IsWritten, access_on}
+use Rattle.space_memory_laws.specs.Owed.{IsOwed, IsPreparedUnder, any_out}
 use Rattle.space_memory_laws.specs.Returns.{CommitsAs, FitsIn, ShowUsed, used_at}
+use Rattle.space_memory_laws.specs.Rights.{IsHandedDown}
 use Rattle.space_memory_laws.specs.StandsFor.{StandsFor}
+use Rattle.space_memory_laws.proofs.Access.{reach}
 use Rattle.space_memory_laws.proofs.Below as below
 use Rattle.space_memory_laws.proofs.Cells.{cover_parts, covered}
 use Rattle.space_memory_laws.proofs.Owed.{or_left, owed}
+use Rattle.space_memory_laws.proofs.Refusals.{byte_dead, constant_to}
+use Rattle.space_memory_laws.proofs.Rights.{rights}
 use Rattle.space_memory_laws.proofs.Returns.{IsClosed, closing, returns}
-use Rattle.reference_recorder_spaces.specs.Next.{HasPieces, IsNext, Puts, committing}
+use Rattle.reference_recorder_spaces.specs.Next.{AreGiven, HasPieces, IsGiven, IsNext, Puts, committing}
 use Rattle.reference_recorder_spaces.proofs.Apart.{all_apart, depth_is, out_ranges, outs_apart}
 use Rattle.reference_recorder_spaces.proofs.Calling.{null_dead}
 use Rattle.reference_recorder_spaces.proofs.Same.{plain_is}
@@ -71,13 +76,13 @@ apart_both (r ∷ rs) qs x h e = ⊎_elim
     right [] qs x e = e
     right (r ∷ rs) qs x e = right rs qs x (or_parts (covers r x) (any_range (rs ++ qs) x) e).1
 
-all_left : (ps qs : List Piece) → All FitsIn (ps ++ qs) → All FitsIn ps
-all_left [] qs h = All-nil FitsIn
-all_left (p ∷ ps) qs h = All-cons FitsIn p ps (All-head FitsIn p (ps ++ qs) h) (all_left ps qs (All-tail FitsIn p (ps ++ qs) h))
+each_left : (P : Piece → Type 0) (ps qs : List Piece) → All P (ps ++ qs) → All P ps
+each_left P [] qs h = All-nil P
+each_left P (p ∷ ps) qs h = All-cons P p ps (All-head P p (ps ++ qs) h) (each_left P ps qs (All-tail P p (ps ++ qs) h))
 
-all_right : (ps qs : List Piece) → All FitsIn (ps ++ qs) → All FitsIn qs
-all_right [] qs h = h
-all_right (p ∷ ps) qs h = all_right ps qs (All-tail FitsIn p (ps ++ qs) h)
+each_right : (P : Piece → Type 0) (ps qs : List Piece) → All P (ps ++ qs) → All P qs
+each_right P [] qs h = h
+each_right P (p ∷ ps) qs h = each_right P ps qs (All-tail P p (ps ++ qs) h)
 
 abbrev Shows : List AreaState → Piece → Type 0
 Shows bytes p = HasBytes bytes p.range.addr p.bytes
@@ -105,13 +110,13 @@ pub puts_more : (t : ℕ) (ps qs : List Piece) (old mid new : SpaceState) → Pu
 puts_more t ps qs old mid new first then' = λ s past h fits apart.
     let rs = piece_ranges ps in
     let apart' : Apart (rs ++ piece_ranges qs) = subst Apart (piece_ranges_append ps qs) apart in
-    let a = first s past h (all_left ps qs fits) (apart_left rs (piece_ranges qs) apart') in
-    let b = then' s past a.stands (all_right ps qs fits) (apart_right rs (piece_ranges qs) apart') in
+    let a = first s past h (each_left FitsIn ps qs fits) (apart_left rs (piece_ranges qs) apart') in
+    let b = then' s past a.stands (each_right FitsIn ps qs fits) (apart_right rs (piece_ranges qs) apart') in
     record {
       stands = b.stands;
       held = b.held ∙ a.held;
       bytes = All-append (Shows new.bytes) ps qs
-          (kept s past ps (all_left ps qs fits) a.bytes b.others (λ x e. sym (piece_range_of qs x) ∙ apart_both rs (piece_ranges qs) x apart' (piece_range_of ps x ∙ e))) b.bytes;
+          (kept s past ps (each_left FitsIn ps qs fits) a.bytes b.others (λ x e. sym (piece_range_of qs x) ∙ apart_both rs (piece_ranges qs) x apart' (piece_range_of ps x ∙ e))) b.bytes;
       others = λ x e. let q = parts ps qs x e in b.others x q.1 ∙ a.others x q.0;
     }
   where
@@ -136,7 +141,74 @@ puts_more t ps qs old mid new first then' = λ s past h fits apart.
         or_true true e = refl
         or_true false e = e
 
+-- ---- what may be written
+
+each_fits : (s : Start) (past : List Mark) (t : ℕ) (ps : List Piece) → All (IsGiven s past t) ps → All FitsIn ps
+each_fits s past t [] h = All-nil FitsIn
+each_fits s past t (p ∷ ps) h = All-cons FitsIn p ps (All-head (IsGiven s past t) p ps h).fits (each_fits s past t ps (All-tail (IsGiven s past t) p ps h))
+
+pub given_left : (t : ℕ) (ps qs : List Piece) (memory : SpaceState) → AreGiven t (ps ++ qs) memory → AreGiven t ps memory
+given_left t ps qs memory g = record {
+  start = g.start;
+  past = g.past;
+  thread = g.thread;
+  stands = g.stands;
+  each = each_left (IsGiven g.start g.past t) ps qs g.each;
+  apart = apart_left (piece_ranges ps) (piece_ranges qs) (subst Apart (piece_ranges_append ps qs) g.apart);
+}
+
+pub given_right : (t : ℕ) (ps qs : List Piece) (old new : SpaceState) → AreGiven t (ps ++ qs) old → Puts t ps old new → AreGiven t qs new
+given_right t ps qs old new g puts =
+    let apart' : Apart (piece_ranges ps ++ piece_ranges qs) = subst Apart (piece_ranges_append ps qs) g.apart in
+    record {
+      start = g.start;
+      past = g.past;
+      thread = g.thread;
+      stands = (puts g.start g.past g.stands (each_fits g.start g.past t ps (each_left (IsGiven g.start g.past t) ps qs g.each)) (apart_left (piece_ranges ps) (piece_ranges qs) apart')).stands;
+      each = each_right (IsGiven g.start g.past t) ps qs g.each;
+      apart = apart_right (piece_ranges ps) (piece_ranges qs) apart';
+    }
+
+pub may_put : (t : ℕ) (p : Piece) (memory : SpaceState) → AreGiven t (p ∷ []) memory → IsAllowed memory.bytes memory.held.regions (access_on System t p.range.addr (length p.bytes) true)
+may_put t p memory g = record {
+  own = λ x in' bad. bad.1 (live x in', (rights g.start g.past memory t true x g.stands g.thread).1 (one.handed x (inside x in')));
+  live = live;
+  free = λ x in' none. none;
+  writable = λ x in' is. true≢false (sym (constant_to true x is).1 ∙ one.writable x (inside x in'));
+}
+  where
+    one : IsGiven g.start g.past t p
+    one = All-head (IsGiven g.start g.past t) p [] g.each
+
+    inside : (x : ℕ) → IsInRange (reach p.range.addr (length p.bytes)) x → covers p.range x ≡ true
+    inside x in' = let le : length p.bytes ≤ p.range.len = one.fits in let to = in'.1 in covered p.range x in'.0 (omega (arith, to, le))
+
+    is_owed : (x : ℕ) → IsHandedDown g.start g.past t true x → IsOwed g.start g.past x
+    is_owed x (inl out) = inl (t, (g.thread, out))
+    is_owed x (inr (inl read)) = absurd (true≢false read.0)
+    is_owed x (inr (inr key)) = inr key
+
+    live : (x : ℕ) → IsInRange (reach p.range.addr (length p.bytes)) x → IsDead memory.bytes x → ⊥
+    live x in' dead =
+        let own = one.own x (inside x in') in
+        subst IsHeld (byte_dead g.start g.past memory g.stands x own dead) ((owed g.start g.past memory g.stands x own).1 (is_owed x (one.handed x (inside x in'))))
+
 -- the first of some, and then the others
+pub given_first : (t : ℕ) (ps : List Piece) (first : Piece) (old : SpaceState) → 1 ≤ length ps → first ≡ get_or ps 0 first → AreGiven t ps old → AreGiven t (first ∷ []) old
+given_first t [] first old some is g = absurd (omega (arith, some))
+given_first t (p ∷ ps) first old some is g = subst (λ q. AreGiven t (q ∷ []) old) (sym is) (given_left t (p ∷ []) ps old g)
+
+pub given_rest : (t : ℕ) (ps : List Piece) (first : Piece) (old mid : SpaceState) → 1 ≤ length ps → first ≡ get_or ps 0 first → AreGiven t ps old →
+    Puts t (first ∷ []) old mid → AreGiven t (take (length ps - 1) (drop 1 ps)) mid
+given_rest t [] first old mid some is g one = absurd (omega (arith, some))
+given_rest t (p ∷ ps) first old mid some is g one =
+    subst (λ qs. AreGiven t qs mid) (sym (take_all (suc (length ps) - 1) ps (omega arith)))
+    (given_right t (p ∷ []) ps old mid g (subst (λ q. Puts t (q ∷ []) old mid) is one))
+
+pub rest_less : (ps : List Piece) → 1 ≤ length ps → length (take (length ps - 1) (drop 1 ps)) < length ps
+rest_less [] some = absurd (omega (arith, some))
+rest_less (p ∷ ps) some = let all = ap length (take_all (suc (length ps) - 1) ps (omega arith)) in omega (arith, all)
+
 pub puts_first : (t : ℕ) (ps : List Piece) (first : Piece) (old mid new : SpaceState) → 1 ≤ length ps → first ≡ get_or ps 0 first →
     Puts t (first ∷ []) old mid → Puts t (take (length ps - 1) (drop 1 ps)) mid new → Puts t ps old new
 puts_first t [] first old mid new some is one rest = absurd (omega (arith, some))
@@ -252,6 +324,52 @@ module _ (old : SpaceState) (t func : ℕ) (args : List ℕ) (value : ℕ) (same
       by_key NoRegion is y = absurd (true≢false (sym y))
       by_key Withheld is y = absurd (true≢false (sym y))
       by_key (Released k p) is y = (k, (p.range, (has_region k p is).region, ⊎_elim (λ z. z) (λ z. absurd (true≢false (sym z))) (or_cases (covers p.range 0) false y)))
+
+  -- each may be written
+  given_byte : (x : ℕ) → any_piece (outs ++ released commit) x ≡ true → IsHandedDown s n.past n.mark.thread true x
+  given_byte x z = ⊎_elim
+      (λ y. inl (ap (λ cs. any_out cs x) closes.is ∙ or_left (any_range closes.top.outs x) (any_out closes.below x) (ap (λ rs. any_range rs x) (sym closes.outs) ∙ piece_range_of outs x ∙ y)))
+      (λ y. inr (inr (by_key commit refl y)))
+      (pieces_cases outs (released commit) x z)
+    where
+      by_key : (c : Commit) → commit ≡ c → any_piece (released c) x ≡ true → (k : ℕ) × IsPreparedUnder s n.past k x
+      by_key NoRegion is y = absurd (true≢false (sym y))
+      by_key Withheld is y = absurd (true≢false (sym y))
+      by_key (Released k p) is y = (k, (p.range, (has_region k p is).region, ⊎_elim (λ z. z) (λ z. absurd (true≢false (sym z))) (or_cases (covers p.range x) false y)))
+
+  own_byte : (x : ℕ) → any_piece (outs ++ released commit) x ≡ true → is_system x ≡ false
+  own_byte x z = n.allowed.own.other_space x (ap (λ a. touches a x) made ∙ ap (λ k. event_reads k x || event_writes k x) kind ∙ z)
+
+  no_constant : (x : ℕ) → any_piece (outs ++ released commit) x ≡ true → is_constant x ≡ false
+  no_constant x z = n.allowed.own.read_only x (ap (λ a. writes a x) made ∙ ap (λ k. event_writes k x) kind ∙ z)
+
+  all_given : (ps : List Piece) → All FitsIn ps → ((x : ℕ) → any_piece ps x ≡ true → any_piece (outs ++ released commit) x ≡ true) → All (IsGiven s n.past n.mark.thread) ps
+  all_given [] fits some = All-nil (IsGiven s n.past n.mark.thread)
+  all_given (p ∷ ps) fits some = All-cons (IsGiven s n.past n.mark.thread) p ps
+      (record {
+        fits = All-head FitsIn p ps fits;
+        own = λ x c. own_byte x (here x c);
+        writable = λ x c. no_constant x (here x c);
+        handed = λ x c. given_byte x (here x c);
+      })
+      (all_given ps (All-tail FitsIn p ps fits) (λ x c. some x (or_true (covers p.range x) c)))
+    where
+      here : (x : ℕ) → covers p.range x ≡ true → any_piece (outs ++ released commit) x ≡ true
+      here x c = some x (ap (λ b. b || any_piece ps x) c)
+
+      or_true : (a : Bool) {b : Bool} → b ≡ true → (a || b) ≡ true
+      or_true true e = refl
+      or_true false e = e
+
+  pub given : AreGiven t (outs ++ released commit) old
+  given = subst (λ u. AreGiven u (outs ++ released commit) old) n.of_thread (record {
+    start = s;
+    past = n.past;
+    thread = in_range;
+    stands = n.stands;
+    each = all_given (outs ++ released commit) all_fit (λ x z. z);
+    apart = apart;
+  })
 
   sizes_are : map (λ (p : Piece). length p.bytes) outs ++ committed_size (committing commit) ≡ map (λ (p : Piece). length p.bytes) (outs ++ released commit)
   sizes_are = ap (λ ns. map (λ (p : Piece). length p.bytes) outs ++ ns) (go commit) ∙ sym (map-append (λ (p : Piece). length p.bytes) outs (released commit))

@@ -1,7 +1,9 @@
 mod Same
+mod Allowed
 mod Written
 mod Framed
 mod Pooled
+mod Parts
 mod Calling
 mod Apart
 mod Giving

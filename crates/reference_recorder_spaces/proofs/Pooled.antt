@@ -9,6 +9,7 @@ use Rattle.marks.specs.Ranges.{within}
 use Rattle.marks.specs.Marks.{Alloc, Event, EventKind, Free, Made, Mark}
 use Rattle.marks.specs.Bytes.{Asks, EventAsks, event_reads, event_writes, touches}
 use Rattle.space_memory_access.specs.declared.refusal.Refusal.{Refusal}
+use Rattle.space_memory_access.specs.declared.refusal.Refusal.TheVariants.{NotLive, Pending, OtherSpace, ReadOnly, StackFull, KeyInUse, NoKey, Size}
 use Rattle.replay_runs.specs.Runs.{OfKey, Start, byte, has, keys_of, is_listed, marks_of, new_events}
 use Rattle.replay_runs.specs.Keys.{key, keys_for, sorted_keys}
 use Rattle.replay_runs.specs.Pool.{IsPlace, blocks}
@@ -22,6 +23,7 @@ use Rattle.space_memory_laws.specs.StandsFor.{StandsFor}
 use Rattle.space_memory_laws.proofs.Cells.{covered}
 use Rattle.space_memory_laws.proofs.Pool as memory
 use Rattle.reference_recorder_spaces.specs.Next.{IsNext}
+use Rattle.reference_recorder_spaces.proofs.Allowed.{not_pending}
 use Rattle.reference_recorder_spaces.proofs.Same.{plain_is}
 
 module _ (old : SpaceState) (t : ℕ) (e : Event) (n : IsNext old t (Made e)) where
@@ -92,16 +94,33 @@ module _ (old : SpaceState) (t : ℕ) (e : Event) (n : IsNext old t (Made e)) wh
       first : within at size at ≡ true
       first = covered (record { addr = at; len = size }) at (omega arith) (omega (arith, some_size))
 
-      own : is_system at ≡ false
-      own = n.allowed.own.other_space at (ap (λ a. touches a at) made ∙ ap (λ k. event_reads k at || event_writes k at) kind ∙ or_true (event_reads (Free at size) at) first)
+      touched : (x : ℕ) → within at size x ≡ true → touches n.mark.act x ≡ true
+      touched x c = ap (λ a. touches a x) made ∙ ap (λ k. event_reads k x || event_writes k x) kind ∙ or_true (event_reads (Free at size) x) c
         where
           or_true : (a : Bool) {b : Bool} → b ≡ true → (a || b) ≡ true
           or_true true e = refl
           or_true false e = e
 
+      own : is_system at ≡ false
+      own = n.allowed.own.other_space at (touched at first)
+
+      -- such a block isn't refused
+      pub may_free : (r : Refusal) → IsFreeRefused Replay (side_of old.sides Replay).pool.blocks old.held.regions at r → ⊥
+      may_free (OtherSpace x) p = true≢false (sym p.0 ∙ own)
+      may_free (NotLive x) p = let z : size ≡ 0 = sym ((asks at first).1 refl) ∙ n.stands.begins at own ∙ ap (λ o. unwrap_or o 0) p.1 in omega (arith, z, some_size)
+      may_free (Pending x) p =
+          let least = p.1.2 in
+          let z : size ≡ p.1.0 = sym ((asks at first).1 refl) ∙ n.stands.begins at own ∙ ap (λ o. unwrap_or o 0) p.1.1 in
+          let c : within at size x ≡ true = covered (record { addr = at; len = size }) x least.in_range.0 (let to = least.in_range.1 in omega (arith, to, z)) in
+          not_pending s n.past old n.stands x (n.allowed.own.other_space x (touched x c)) (asks x c).0 least.holds
+      may_free (ReadOnly x) p = p
+      may_free (StackFull x) p = p
+      may_free (KeyInUse x) p = p
+      may_free (NoKey x) p = p
+      may_free (Size x) p = p
+
       pub frees : (new : SpaceState) (len : ℕ) → IsGivenBack Replay old new at len →
           ((r : Refusal) → IsFreeRefused Replay (side_of old.sides Replay).pool.blocks old.held.regions at r → ⊥) → StandsFor n.start (n.mark ∷ n.past) new
       frees new len k free =
-          let begins = n.stands.begins at own in
-          let size_is : size ≡ len = sym ((asks at first).1 refl) ∙ begins ∙ ap (λ o. unwrap_or o 0) k.block in
+          let size_is : size ≡ len = sym ((asks at first).1 refl) ∙ n.stands.begins at own ∙ ap (λ o. unwrap_or o 0) k.block in
           (memory.frees s n.past old new n.mark e at len n.stands k free made (kind ∙ ap (λ z. Free at z) size_is) (has_pool (Free at size) kind refl)).stands

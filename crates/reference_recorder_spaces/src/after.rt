@@ -18,7 +18,8 @@ use std::alloc::{AllocError, Global};
 /// The memory above the cut after these marks of a run, the oldest first: the objects of the program are placed, and each mark
 /// above the cut is done in it, one after the other.
 ///
-/// `AllocError` where there is no memory. The contract doesn't rule out that memory refuses a mark, for which the answer is the same.
+/// `AllocError` where there is no memory. The contract doesn't rule out that memory refuses to close the call of a Ret, for which the
+/// answer is the same.
 pub fn spaces_after(alloc: Global, inputs: Inputs<'_>, marks: &[Mark]) -> Result<Spaces, AllocError>
     requires { IsPast (world_of inputs) marks.now }
     ensures { IfOk result (IsMemoryAfter (world_of inputs.entry) marks.now) }
@@ -54,9 +55,18 @@ fn apply(spaces: &mut Spaces, alloc: Global, thread: u8, act: &Act) -> Result<()
     match act {
         Act::Turn => Ok(()),
         Act::Load { .. } => Ok(()),
-        Act::Store { at, bytes, .. } => store(spaces, thread, *at, bytes.as_slice()),
-        Act::Enter { at: _, bytes, .. } => enter(spaces, thread, bytes.as_slice()),
-        Act::Leave { .. } => leave(spaces, thread),
+        Act::Store { at, bytes, .. } => {
+            store(spaces, thread, *at, bytes.as_slice());
+            Ok(())
+        }
+        Act::Enter { at: _, bytes, .. } => {
+            enter(spaces, thread, bytes.as_slice());
+            Ok(())
+        }
+        Act::Leave { .. } => {
+            leave(spaces, thread);
+            Ok(())
+        }
         Act::Step { .. } => Ok(()),
         Act::Fault { .. } => Ok(()),
         Act::Made(event) => make(spaces, alloc, thread, &event.kind),

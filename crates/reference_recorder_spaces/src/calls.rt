@@ -4,11 +4,11 @@ ghost use Rattle.std.specs.Prelude.{◌≡◌, ◌<◌, ◌≤◌, ℕ, List, �
 ghost use Rattle.marks.specs.Marks.{Call};
 ghost use Rattle.memory_map.specs.declared.areas.TheConstants.{THREADS};
 ghost use Rattle.space_memory_laws.specs.Calls.{Holds, Prepares, Reads, held_part, prepared_part};
-ghost use Rattle.reference_recorder_spaces.specs.Next.{Adds, IsKindNext, IsRegion, MakesKind};
+ghost use Rattle.reference_recorder_spaces.specs.Next.{Adds, IsKindNext, IsNextPart, IsRegion, MakesKind};
 
 use marks::Range;
 use reference_recorder_marks::Piece;
-use space_memory::Spaces;
+use space_memory::{HoldError, Spaces};
 use std::alloc::{AllocError, Global};
 use stub_calls::Prepared;
 
@@ -44,12 +44,14 @@ fn hold(
     requires in_range { thread < THREADS }
     requires open { 1 ≤ slice_index spaces.old.held.depths thread }
     requires region { IsRegion range }
+    requires next { IsNextPart thread (held_part write range ∷ []) spaces.old }
     ensures adds { OnOk result (Adds thread (held_part write range ∷ []) spaces.old spaces.new) }
     ensures depths { spaces.new.held.depths ≡ spaces.old.held.depths }
 {
     match spaces.hold(alloc, thread, range, write) {
         Ok(()) => Ok(()),
-        Err(_) => Err(AllocError),
+        Err(HoldError::Memory) => Err(AllocError),
+        Err(HoldError::Refused(_)) => unreachable!("the range may be handed down"),
     }
 }
 
@@ -63,6 +65,7 @@ fn read_all(
     requires in_range { thread < THREADS }
     requires open { 1 ≤ slice_index spaces.old.held.depths thread }
     requires regions { All (λ p. IsRegion p.range) pieces.now }
+    requires next { IsNextPart thread (map (λ p. Reads p.range) pieces.now) spaces.old }
     ensures adds { OnOk result (Adds thread (map (λ p. Reads p.range) pieces.now) spaces.old spaces.new) }
     ensures depths { spaces.new.held.depths ≡ spaces.old.held.depths }
 {
@@ -82,6 +85,7 @@ fn hold_all(
     requires in_range { thread < THREADS }
     requires open { 1 ≤ slice_index spaces.old.held.depths thread }
     requires regions { All IsRegion ranges.now }
+    requires next { IsNextPart thread (map Holds ranges.now) spaces.old }
     ensures adds { OnOk result (Adds thread (map Holds ranges.now) spaces.old spaces.new) }
     ensures depths { spaces.new.held.depths ≡ spaces.old.held.depths }
 {
@@ -102,12 +106,14 @@ fn prepare(
     requires in_range { thread < THREADS }
     requires open { 1 ≤ slice_index spaces.old.held.depths thread }
     requires region { IsRegion range }
+    requires next { IsNextPart thread (Prepares key range ∷ []) spaces.old }
     ensures adds { OnOk result (Adds thread (Prepares key range ∷ []) spaces.old spaces.new) }
     ensures depths { spaces.new.held.depths ≡ spaces.old.held.depths }
 {
     match spaces.prepare(alloc, thread, key, range) {
         Ok(()) => Ok(()),
-        Err(_) => Err(AllocError),
+        Err(HoldError::Memory) => Err(AllocError),
+        Err(HoldError::Refused(_)) => unreachable!("the range may be prepared under the key"),
     }
 }
 
@@ -121,6 +127,7 @@ fn prepare_all(
     requires in_range { thread < THREADS }
     requires open { 1 ≤ slice_index spaces.old.held.depths thread }
     requires regions { All (λ p. IsRegion p.range) prepared.now }
+    requires next { IsNextPart thread (map prepared_part prepared.now) spaces.old }
     ensures adds { OnOk result (Adds thread (map prepared_part prepared.now) spaces.old spaces.new) }
     ensures depths { spaces.new.held.depths ≡ spaces.old.held.depths }
 {

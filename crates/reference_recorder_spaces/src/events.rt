@@ -47,7 +47,10 @@ pub fn make(
             take(spaces, *size);
             Ok(())
         }
-        EventKind::Free { at, .. } => free(spaces, *at),
+        EventKind::Free { at, .. } => {
+            free(spaces, *at);
+            Ok(())
+        }
         EventKind::Stop { .. } => Ok(()),
     }
 }
@@ -63,11 +66,12 @@ fn take(spaces: &mut Spaces, size: u64)
 }
 
 // Does a Free of the block at the address.
-fn free(spaces: &mut Spaces, at: u64) -> Result<(), AllocError>
-    ensures { OnOk result ((thread size : ℕ) → MakesKind spaces.old thread (Free at size) spaces.new) }
+fn free(spaces: &mut Spaces, at: u64)
+    requires { (thread : ℕ) × (size : ℕ) × IsKindNext spaces.old thread (Free at size) }
+    ensures { (thread size : ℕ) → MakesKind spaces.old thread (Free at size) spaces.new }
 {
     match spaces.free_in(Side::Replay, at) {
-        Ok(_) => Ok(()),
-        Err(_) => Err(AllocError),
+        Ok(_) => (),
+        Err(_) => unreachable!("the block is live and not pending"),
     }
 }

@@ -4,7 +4,7 @@ ghost use Rattle.std.specs.Prelude.{◌≡◌, ◌<◌, ◌∷◌, [], ℕ, Bool
 ghost use Rattle.marks.specs.Marks.{Ret, released};
 ghost use Rattle.memory_map.specs.declared.areas.TheConstants.{THREADS};
 ghost use Rattle.reference_recorder_marks.specs.Marks.{commit_of};
-ghost use Rattle.reference_recorder_spaces.specs.Next.{IsKindNext, MakesKind, Puts, committing};
+ghost use Rattle.reference_recorder_spaces.specs.Next.{AreGiven, IsKindNext, MakesKind, Puts, committing};
 
 use crate::bytes::put;
 use marks::Side;
@@ -14,6 +14,8 @@ use std::alloc::{AllocError, Global};
 
 /// Does a Ret that gives these pieces and commits this: they are written as code below the cut does, and the thread's innermost
 /// call is closed.
+///
+/// `AllocError` where there is no memory, and where memory refuses to close the call.
 pub fn give_back(
     spaces: &mut Spaces,
     alloc: Global,
@@ -27,8 +29,8 @@ pub fn give_back(
     ensures { OnOk result ((func : ℕ) (args : List ℕ) (value : ℕ) (same : Bool) →
         MakesKind spaces.old thread (Ret func args value same outs.now (commit_of commit.now)) spaces.new) }
 {
-    put_all(spaces, thread, outs)?;
-    put_released(spaces, thread, commit)?;
+    put_all(spaces, thread, outs);
+    put_released(spaces, thread, commit);
     let used = sizes_of(alloc, outs)?;
     match spaces.release(thread, &used, committing(commit)) {
         Ok(()) => Ok(()),
@@ -37,21 +39,23 @@ pub fn give_back(
 }
 
 // Writes pieces to the front of their ranges.
-fn put_all(spaces: &mut Spaces, thread: u8, pieces: &[Piece]) -> Result<(), AllocError>
-    ensures { OnOk result (Puts thread pieces.now spaces.old spaces.new) }
+fn put_all(spaces: &mut Spaces, thread: u8, pieces: &[Piece])
+    requires { AreGiven thread pieces.now spaces.old }
+    ensures { Puts thread pieces.now spaces.old spaces.new }
 {
     match pieces {
-        [] => Ok(()),
+        [] => (),
         [first, rest @ ..] => {
-            put_piece(spaces, thread, first)?;
-            put_all(spaces, thread, rest)
+            put_piece(spaces, thread, first);
+            put_all(spaces, thread, rest);
         }
     }
 }
 
 // Writes a piece to the front of its range.
-fn put_piece(spaces: &mut Spaces, thread: u8, piece: &Piece) -> Result<(), AllocError>
-    ensures { OnOk result (Puts thread (piece.now ∷ []) spaces.old spaces.new) }
+fn put_piece(spaces: &mut Spaces, thread: u8, piece: &Piece)
+    requires { AreGiven thread (piece.now ∷ []) spaces.old }
+    ensures { Puts thread (piece.now ∷ []) spaces.old spaces.new }
 {
     put(
         spaces,
@@ -59,16 +63,17 @@ fn put_piece(spaces: &mut Spaces, thread: u8, piece: &Piece) -> Result<(), Alloc
         thread,
         piece.range.addr,
         piece.bytes.as_slice(),
-    )
+    );
 }
 
 // Writes the piece of the region that is released, if one is.
-fn put_released(spaces: &mut Spaces, thread: u8, commit: &Commit) -> Result<(), AllocError>
-    ensures { OnOk result (Puts thread (released (commit_of commit.now)) spaces.old spaces.new) }
+fn put_released(spaces: &mut Spaces, thread: u8, commit: &Commit)
+    requires { AreGiven thread (released (commit_of commit.now)) spaces.old }
+    ensures { Puts thread (released (commit_of commit.now)) spaces.old spaces.new }
 {
     match commit {
-        Commit::NoRegion => Ok(()),
-        Commit::Withheld => Ok(()),
+        Commit::NoRegion => (),
+        Commit::Withheld => (),
         Commit::Released { key: _, region } => put_piece(spaces, thread, region),
     }
 }

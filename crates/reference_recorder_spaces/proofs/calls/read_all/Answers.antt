@@ -1,6 +1,8 @@
-use Rattle.std.proofs.Common.{refl, ap, ◌∙◌}
+use Rattle.std.proofs.Common.{[], ◌∷◌, refl, sym, ap, ◌∙◌, subst}
 use Rattle.marks.specs.Ranges.{Piece}
 use Rattle.space_memory_laws.specs.Calls.{Reads}
+use Rattle.reference_recorder_spaces.specs.Next.{IsNextPart}
+use Rattle.reference_recorder_spaces.proofs.Parts.{next_item}
 use Rattle.reference_recorder_spaces.proofs.Calling.{adds_all, adds_as, adds_item, adds_none}
 use Rattle.reference_recorder_spaces.proofs.calls.read_all.Goals as goal
 
@@ -16,3 +18,9 @@ loop-piece-preserved c = record {
 
 pub returns-clause-adds : goal.returns-clause-adds
 returns-clause-adds c = adds_all c.args.thread (λ (p : Piece). Reads p.range) c.args.pieces.now c.loop-piece.piece-index c.args.spaces.now c.loop-piece.spaces c.loop-piece-test.false c.loop-piece.invariant.adds
+
+pub hold-requires-clause-next : goal.hold-requires-clause-next
+hold-requires-clause-next c =
+    let piece = c.piece-item.result in
+    subst (λ r. IsNextPart c.args.thread (Reads r ∷ []) c.loop-piece.spaces) (ap (λ (p : Piece). p.range) (sym c.piece-item.is) ∙ sym c.range_of.ensures)
+    (next_item c.args.thread (λ (p : Piece). Reads p.range) c.args.pieces.now c.loop-piece.piece-index piece c.args.spaces.now c.loop-piece.spaces c.loop-piece-test.true c.requires.next c.loop-piece.invariant.adds)

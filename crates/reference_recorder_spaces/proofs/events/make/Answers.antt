@@ -35,7 +35,8 @@ returns-in-Ret c =
 pub returns-in-Alloc : goal.returns-in-Alloc
 returns-in-Alloc c = λ e is n. c.take.ensures c.args.thread c.in-Alloc.at e (is ∙ ap kind_of c.in-Alloc.is) n
 
+pub free-requires : goal.free-requires
+free-requires c = let n = c.requires.next in (c.args.thread, c.in-Free.size, (n.0, n.1 ∙ ap kind_of c.in-Free.is, n.2))
+
 pub returns-in-Free : goal.returns-in-Free
-returns-in-Free c = on_ok c.free.result
-    (λ m. makes_as c.args.spaces.now c.args.thread (kind_of c.args.kind.now) (Free c.in-Free.at c.in-Free.size) c.free.new.spaces (ap kind_of c.in-Free.is) (m c.args.thread c.in-Free.size))
-    c.free.ensures
+returns-in-Free c = makes_as c.args.spaces.now c.args.thread (kind_of c.args.kind.now) (Free c.in-Free.at c.in-Free.size) c.free.new.spaces (ap kind_of c.in-Free.is) (c.free.ensures c.args.thread c.in-Free.size)

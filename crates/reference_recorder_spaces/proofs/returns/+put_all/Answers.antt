@@ -1,8 +1,15 @@
-use Rattle.reference_recorder_spaces.proofs.Answered.{on_ok}
-use Rattle.reference_recorder_spaces.proofs.Giving.{puts_first}
+use Rattle.std.proofs.Common.{arith}
+use Rattle.reference_recorder_spaces.proofs.Giving.{given_first, given_rest, puts_first, rest_less}
 use Rattle.reference_recorder_spaces.proofs.returns.+put_all.Goals as goal
 
-pub returns-in_ok-put_piece-in-len1-up : goal.returns-in_ok-put_piece-in-len1-up
-returns-in_ok-put_piece-in-len1-up t c = on_ok c.put_all.result
-    (puts_first c.args.thread c.args.pieces.now c.first-item.result c.args.spaces.now c.put_piece.new.spaces c.put_all.new.spaces c.in-len1-up.len_at_least c.first-item.is c.in_ok-put_piece-in-len1-up.ensures)
-    c.put_all.ensures
+pub put_piece-requires : goal.put_piece-requires
+put_piece-requires t c = given_first c.args.thread c.args.pieces.now c.first-item.result c.args.spaces.now c.in-len1-up.len_at_least c.first-item.is c.requires
+
+pub put_all-requires : goal.put_all-requires
+put_all-requires t c = (
+  (let less = rest_less c.args.pieces.now c.in-len1-up.len_at_least in omega (arith, less)),
+  given_rest c.args.thread c.args.pieces.now c.first-item.result c.args.spaces.now c.put_piece.new.spaces c.in-len1-up.len_at_least c.first-item.is c.requires c.put_piece.ensures,
+)
+
+pub returns-in-len1-up : goal.returns-in-len1-up
+returns-in-len1-up t c = puts_first c.args.thread c.args.pieces.now c.first-item.result c.args.spaces.now c.put_piece.new.spaces c.put_all.new.spaces c.in-len1-up.len_at_least c.first-item.is c.put_piece.ensures c.put_all.ensures

@@ -6,14 +6,28 @@ use Rattle.space_memory.specs.Releases.{outs_of}
 use Rattle.space_memory_laws.specs.Changes.{IsReleased}
 use Rattle.reference_recorder_marks.specs.Marks.{commit_of}
 use Rattle.reference_recorder_spaces.specs.Next.{committing}
-use Rattle.reference_recorder_spaces.proofs.Giving.{as_many, gives, in_call, puts_more, still_held}
+use Rattle.reference_recorder_spaces.proofs.Giving.{as_many, given, given_left, given_right, gives, in_call, puts_more, still_held}
 use Rattle.reference_recorder_spaces.proofs.returns.give_back.Goals as goal
+
+pub put_all-requires : goal.put_all-requires
+put_all-requires c =
+    let n = c.requires.next in
+    let commit = commit_of c.args.commit.now in
+    given_left c.args.thread c.args.outs.now (released commit) c.args.spaces.now
+    (given c.args.spaces.now c.args.thread n.0 n.1 n.2 n.3 c.args.outs.now commit n.4.0 n.4.1 n.4.2 c.requires.in_range)
+
+pub put_released-requires : goal.put_released-requires
+put_released-requires c =
+    let n = c.requires.next in
+    let commit = commit_of c.args.commit.now in
+    given_right c.args.thread c.args.outs.now (released commit) c.args.spaces.now c.put_all.new.spaces
+    (given c.args.spaces.now c.args.thread n.0 n.1 n.2 n.3 c.args.outs.now commit n.4.0 n.4.1 n.4.2 c.requires.in_range) c.put_all.ensures
 
 pub release-requires-clause-open : goal.release-requires-clause-open
 release-requires-clause-open c =
     let n = c.requires.next in
     let commit = commit_of c.args.commit.now in
-    let puts = puts_more c.args.thread c.args.outs.now (released commit) c.args.spaces.now c.put_all.new.spaces c.put_released.new.spaces c.in_ok-put_all.ensures c.in_ok-put_released.ensures in
+    let puts = puts_more c.args.thread c.args.outs.now (released commit) c.args.spaces.now c.put_all.new.spaces c.put_released.new.spaces c.put_all.ensures c.put_released.ensures in
     let held = still_held c.args.spaces.now c.args.thread n.0 n.1 n.2 n.3 c.args.outs.now commit n.4.0 n.4.1 n.4.2 c.requires.in_range c.put_released.new.spaces puts in
     let open' = in_call c.args.spaces.now c.args.thread n.0 n.1 n.2 n.3 c.args.outs.now commit n.4.0 n.4.1 n.4.2 c.requires.in_range in
     let same = ap (λ (q : HeldState). slice_index q.depths c.args.thread) held in
@@ -23,7 +37,7 @@ pub release-requires-clause-sizes : goal.release-requires-clause-sizes
 release-requires-clause-sizes c =
     let n = c.requires.next in
     let commit = commit_of c.args.commit.now in
-    let puts = puts_more c.args.thread c.args.outs.now (released commit) c.args.spaces.now c.put_all.new.spaces c.put_released.new.spaces c.in_ok-put_all.ensures c.in_ok-put_released.ensures in
+    let puts = puts_more c.args.thread c.args.outs.now (released commit) c.args.spaces.now c.put_all.new.spaces c.put_released.new.spaces c.put_all.ensures c.put_released.ensures in
     let held = still_held c.args.spaces.now c.args.thread n.0 n.1 n.2 n.3 c.args.outs.now commit n.4.0 n.4.1 n.4.2 c.requires.in_range c.put_released.new.spaces puts in
     ap length (c.deref.ensures.value ∙ c.in_ok-used.ensures)
     ∙ as_many c.args.spaces.now c.args.thread n.0 n.1 n.2 n.3 c.args.outs.now commit n.4.0 n.4.1 n.4.2 c.requires.in_range
@@ -35,7 +49,7 @@ returns-in-Ok c = λ func args value same e kind n.
     let commit = commit_of c.args.commit.now in
     let mid = c.put_released.new.spaces in
     let new = c.release.new.self in
-    let puts = puts_more t c.args.outs.now (released commit) c.args.spaces.now c.put_all.new.spaces mid c.in_ok-put_all.ensures c.in_ok-put_released.ensures in
+    let puts = puts_more t c.args.outs.now (released commit) c.args.spaces.now c.put_all.new.spaces mid c.put_all.ensures c.put_released.ensures in
     let both = c.in-Ok.ensures.released.0 refl in
     let done : IsReleased mid new t c.deref.result.now c.committing.result = record {
       key = both.0;
