@@ -10,5 +10,4 @@ pub mod Answers
 pub mod Makes
 pub mod Follows
 pub mod Callers
-pub mod Accesses
 pub mod Operators

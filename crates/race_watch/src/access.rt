@@ -7,14 +7,14 @@ ghost use Rattle.race_watch.specs.declared.seen.Seen.{Seen};
 ghost use Rattle.race_watch.specs.Stands.{IsNoted};
 ghost use Rattle.race_watch.specs.Tables.{at, cells_of, AreTables, HasEither, IsFirst};
 
-use crate::bytes::{few, is_few, whole};
+use crate::bytes::whole;
 use crate::error::WatchError;
 use crate::first::{Tested, earlier, first_hit};
 use crate::seen::{Seen, take};
 use crate::tables::Tables;
 use memory_map::Range;
 
-/// Whether the thread is seen at a glance to have accessed each of a few bytes since its last event, at this epoch, in a way that
+/// Whether the thread is seen to have accessed each byte of the range since its last event, at this epoch, in a way that
 /// counts for this one.
 #[inline(always)]
 pub fn is_settled(tables: &Tables, thread: u8, range: Range, write: bool, epoch: u32) -> bool
@@ -23,25 +23,6 @@ pub fn is_settled(tables: &Tables, thread: u8, range: Range, write: bool, epoch:
     requires before { (x : ℕ) → at tables.now true thread x ≤ epoch }
     ensures { IsTrue result → (x : ℕ) → covers range x ≡ true → at tables.now (not write) thread x ≡ epoch }
 {
-    if !is_few(range) {
-        return false;
-    }
-    match few(range) {
-        None => false,
-        Some(part) => tables.is_all_of_few(thread, !write, part, epoch),
-    }
-}
-
-/// The same of other bytes.
-pub fn is_settled_apart(tables: &Tables, thread: u8, range: Range, write: bool, epoch: u32) -> bool
-    requires tables { AreTables tables.now }
-    requires thread { thread < tables.now.threads }
-    requires before { (x : ℕ) → at tables.now true thread x ≤ epoch }
-    ensures { IsTrue result → (x : ℕ) → covers range x ≡ true → at tables.now (not write) thread x ≡ epoch }
-{
-    if is_few(range) {
-        return false;
-    }
     match whole(range) {
         None => false,
         Some(part) => tables.is_all(thread, !write, part, epoch),

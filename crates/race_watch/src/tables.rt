@@ -3,7 +3,7 @@
 ghost use Rattle.std.specs.Prelude.{◌≡◌, ◌+◌, ◌-◌, ◌*◌, ◌<◌, ◌≤◌, ◌&&◌, ℕ, true, false, length, IfOk, IfErr, OnOk, OnErr, IsTrue, Some};
 ghost use Rattle.std.specs.List.{All};
 ghost use Rattle.memory_map.specs.declared.areas.TheConstants.{THREADS};
-ghost use Rattle.race_watch.specs.Cells.{IsPart, IsFew, EachIn, base_of, cell_of};
+ghost use Rattle.race_watch.specs.Cells.{IsPart, EachIn, base_of, cell_of};
 ghost use Rattle.race_watch.specs.declared.bytes.TheConstants.{GLOBALS, STACKS, POOL};
 ghost use Rattle.race_watch.specs.Tables.{at, entry, cells_of, AreTables, AreBlankTables, HasEpoch, HasEpochIn, NoneUnknown, IsPut, IsFirst, IsFirstFrom, IsFirstThread};
 
@@ -73,36 +73,6 @@ impl Tables {
             return true;
         }
         self.has_all(thread, false, part, epoch)
-    }
-
-    /// Whether each of a few bytes is seen to have this epoch, of the thread's reads or of its writes.
-    #[inline(always)]
-    fn has_all_of_few(&self, thread: u8, read: bool, part: Bytes, epoch: u32) -> bool
-        requires tables { AreTables self.now }
-        requires thread { thread < self.now.threads }
-        requires part { IsPart part }
-        requires few { IsFew part }
-        ensures { IsTrue result → EachIn part (λ x. entry self.now read thread x ≡ epoch) }
-    {
-        let from = base(thread, read) + part.cell;
-        self.epochs
-            .is_all_of_few(from, (part.to - part.from) as u32, epoch)
-    }
-
-    /// Whether each of a few bytes is seen to have this epoch, which no access of the thread exceeds.
-    #[inline(always)]
-    pub fn is_all_of_few(&self, thread: u8, touched: bool, part: Bytes, epoch: u32) -> bool
-        requires tables { AreTables self.now }
-        requires thread { thread < self.now.threads }
-        requires part { IsPart part }
-        requires few { IsFew part }
-        requires before { (x : ℕ) → at self.now true thread x ≤ epoch }
-        ensures { IsTrue result → EachIn part (λ x. at self.now touched thread x ≡ epoch) }
-    {
-        if self.has_all_of_few(thread, false, part, epoch) {
-            return true;
-        }
-        touched && self.has_all_of_few(thread, true, part, epoch)
     }
 
     /// Whether the thread is seen to have no later access of the bytes that counts.

@@ -1,6 +1,6 @@
 //! Some numbers of one page.
 
-ghost use Rattle.std.specs.Prelude.{◌≡◌, ℕ, ◌+◌, ◌/◌, ◌%◌, ◌<◌, ◌≤◌, ◌&&◌, nat_le, nat_lt, if◌then◌else◌, slice_index, length, IsTrue};
+ghost use Rattle.std.specs.Prelude.{◌≡◌, ℕ, ◌+◌, ◌/◌, ◌<◌, ◌≤◌, ◌&&◌, nat_le, nat_lt, if◌then◌else◌, slice_index, length, IsTrue};
 
 /// Whether no number from the first place to before the last is above the bound.
 pub fn are_at_most(values: &[u32], from: usize, to: usize, bound: u32) -> bool
@@ -30,16 +30,6 @@ pub fn are_all(values: &[u32; 256], from: usize, to: usize, value: u32) -> bool
     }
 }
 
-/// The same of a few numbers, of which most are one.
-#[inline(always)]
-pub fn are_few(values: &[u32; 256], from: usize, len: usize, value: u32) -> bool
-    requires some { 1 ≤ len }
-    requires within { from + len ≤ 256 }
-    ensures { IsTrue result → (k : ℕ) → from ≤ k → k < from + len → slice_index values.now k ≡ value }
-{
-    values[from] == value && (len == 1 || are_all(values, from, from + len, value))
-}
-
 // The same of four numbers, without a branch for each.
 #[inline(always)]
 fn are_four(values: &[u32; 256], from: usize, value: u32) -> bool
@@ -65,17 +55,6 @@ pub fn are_words(values: &[u32; 64], from: usize, to: usize, value: u32) -> bool
         return false;
     }
     last - first < 2 || are_many(values, first + 1, last, value)
-}
-
-/// The same of a few cells, of which none lies past the eight in a row that the first is one of.
-#[inline(always)]
-pub fn are_few_words(values: &[u32; 64], from: usize, len: usize, value: u32) -> bool
-    requires some { 1 ≤ len }
-    requires few { from % 8 + len ≤ 8 }
-    requires within { from < 256 }
-    ensures { IsTrue result → (k : ℕ) → from ≤ k → k < from + len → slice_index values.now (k / 4) ≡ value }
-{
-    values[from / 4] == value && values[(from + len - 1) / 4] == value
 }
 
 // The same of any count.

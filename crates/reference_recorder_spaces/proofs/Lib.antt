@@ -1,6 +1,4 @@
 mod Same
-mod Untouched
-mod Filled
 mod Allowed
 mod Written
 mod Framed
@@ -8,7 +6,6 @@ mod Pooled
 mod Parts
 mod Calling
 mod Apart
-mod Pieces
 mod Giving
 mod Answered
 mod Still

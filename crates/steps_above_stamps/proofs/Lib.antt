@@ -5,4 +5,3 @@ pub mod Written
 pub mod Plain
 pub mod Few
 pub mod Distinct
-pub mod Counting

@@ -1,5 +1,0 @@
-mod Bodies
-mod Alone
-mod Marks
-mod Chains
-mod Lent

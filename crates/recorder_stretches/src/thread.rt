@@ -1,4 +1,0 @@
-//! The only thread of a run.
-
-/// Its number.
-pub(crate) const FIRST: u8 = 0;
