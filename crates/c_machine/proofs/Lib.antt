@@ -22,3 +22,5 @@ pub mod Signs
 pub mod Acting
 pub mod Together
 pub mod Numbers
+pub mod Widths
+pub mod Making

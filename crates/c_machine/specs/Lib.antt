@@ -10,4 +10,5 @@ pub mod Answers
 pub mod Makes
 pub mod Follows
 pub mod Callers
+pub mod Accesses
 pub mod Operators

@@ -1,6 +1,7 @@
 //! One simulated thread of flat code, run one mark at a time.
 #![tactic(auto)]
 
+mod accesses;
 mod act;
 mod act_call;
 mod answered;
@@ -10,6 +11,7 @@ mod edits;
 mod feed;
 mod laws;
 mod look;
+mod make;
 mod opens;
 mod operators;
 mod outcome;
@@ -26,6 +28,7 @@ mod tops;
 mod waits;
 mod wants;
 
+pub use accesses::Accesses;
 pub use calls::start_of;
 pub use laws::{each_call_is_marks, each_mark_is_followed};
 pub use readers::is_call_of;

@@ -212,16 +212,8 @@ fn arith(op: Op, kind: IntKind, left: u64, right: u64) -> Option<u64>
     Some(convert(kind, word))
 }
 
-// The same as `combine`, which stands in one place here.
+// What the left and the right operand give together; `None` where the operator faults. It's large, so it stands in one place.
 #[inline(never)]
-pub(crate) fn combine_apart(how: &Combine, left: u64, right: u64) -> Option<u64>
-    ensures { result ≡ result_ok (combined how.now left right) }
-{
-    combine(how, left, right)
-}
-
-// What the left and the right operand give together; `None` where the operator faults.
-#[inline(always)]
 pub(crate) fn combine(how: &Combine, left: u64, right: u64) -> Option<u64>
     ensures { result ≡ result_ok (combined how.now left right) }
 {

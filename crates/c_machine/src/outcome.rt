@@ -44,10 +44,11 @@ pub(crate) enum Outcome {
     Pends(Call),
 }
 
-// Where passing some instructions leads: the activation goes on at the place; or the instruction there makes this mark, or this call.
+// Where passing some instructions leads: the activation goes on at the place; or the instruction there makes this mark, whose answer
+// does so much, or this call.
 #[derive(Clone, Copy)]
 pub(crate) enum Passed {
     On(usize),
-    Marks(usize, Want),
+    Marks(usize, Want, Heard),
     Calls(usize, Call),
 }

@@ -55,6 +55,7 @@ impl Crossings {
     }
 
     /// One more is open.
+    #[inline]
     fn enter(&mut self, func: u16) -> Result<(), AllocError>
         ensures { OnOk result (self.new ≡ func ∷ self.old) }
     {
@@ -63,6 +64,7 @@ impl Crossings {
     }
 
     /// The innermost one has returned.
+    #[inline]
     fn leave(&mut self)
         ensures { self.new ≡ drop 1 self.old }
     {
@@ -70,23 +72,17 @@ impl Crossings {
     }
 
     /// Goes past one more event of the thread.
+    #[inline(always)]
     pub fn pass(&mut self, event: &Event) -> Result<(), AllocError>
         ensures { OnOk result (self.new ≡ open_after self.old event.now) }
     {
         match event {
-            Event::Call { func, .. } => self.enter(*func),
-            Event::Ret { .. } => {
+            Event::Call { func, .. } | Event::Up { func, .. } => self.enter(*func),
+            Event::Ret { .. } | Event::UpRet { .. } => {
                 self.leave();
                 Ok(())
             }
-            Event::Up { func, .. } => self.enter(*func),
-            Event::UpRet { .. } => {
-                self.leave();
-                Ok(())
-            }
-            Event::Alloc { .. } => Ok(()),
-            Event::Free { .. } => Ok(()),
-            Event::Stop { .. } => Ok(()),
+            Event::Alloc { .. } | Event::Free { .. } | Event::Stop { .. } => Ok(()),
         }
     }
 }

@@ -2,14 +2,13 @@
 
 ghost use Rattle.std.specs.Prelude.{◌≡◌, ◌++◌, OnOk, codes, decimal, flat_map};
 ghost use Rattle.std.specs.Option.{option_copied};
-ghost use Rattle.call_inspector.specs.EventText.{address_text, piece_text, call_text, return_text, info_of, fault_from, fault_text, reason_text, detail_text, open_event_text};
+ghost use Rattle.call_inspector.specs.EventText.{address_text, piece_text, call_text, return_text, info_of, fault_from, fault_text, reason_text, detail_text};
 ghost use Rattle.call_inspector.specs.Open.{innermost};
 ghost use Rattle.c_code.specs.Machine.{func_of};
 
 use crate::crossings::Crossings;
 use crate::values::{put_address, put_args, put_piece, put_result};
 use c_code::{Code, FuncInfo};
-use event_texts::kind_word;
 use marks::FaultKind;
 use r2_base::put_dec;
 use run_events::{Bytes, Event, Reason};
@@ -105,8 +104,8 @@ fn put_block(text: &mut Vec<u8>, size: u64, addr: u64) -> Result<(), AllocError>
     put_address(text, addr)
 }
 
-/// Adds what the text of an event has after the word of its kind.
-fn put_detail(
+/// Adds what the text of an event has after the word of its kind, where these calls and callbacks are open.
+pub fn put_detail(
     text: &mut Vec<u8>,
     code: &Code,
     active: &Crossings,
@@ -115,30 +114,16 @@ fn put_detail(
     ensures { OnOk result (text.new.items ≡ text.old.items ++ detail_text code.now active.now event.now) }
 {
     match event {
-        Event::Call { func, args } => put_call(text, code.func(*func), args.as_slice()),
+        Event::Call { func, args } | Event::Up { func, args } => {
+            put_call(text, code.func(*func), args.as_slice())
+        }
         Event::Ret { result, outs, .. } => {
             put_return(text, closed(code, active), *result)?;
             put_pieces(text, outs.as_slice())
         }
-        Event::Up { func, args } => put_call(text, code.func(*func), args.as_slice()),
         Event::UpRet { result } => put_return(text, closed(code, active), *result),
         Event::Alloc { size, addr } => put_block(text, *size, *addr),
         Event::Free { addr } => put_address(text, *addr),
         Event::Stop { reason } => text.extend_from_slice(reason_word(*reason).as_bytes()),
     }
-}
-
-/// Adds the text of an event, where these calls and callbacks are open.
-pub fn put_event(
-    text: &mut Vec<u8>,
-    code: &Code,
-    active: &Crossings,
-    event: &Event,
-) -> Result<(), AllocError>
-    ensures { OnOk result (text.new.items ≡ text.old.items ++
-        open_event_text code.now active.now event.now) }
-{
-    text.extend_from_slice(kind_word(event).as_bytes())?;
-    text.push(b' ')?;
-    put_detail(text, code, active, event)
 }

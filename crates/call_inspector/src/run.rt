@@ -1,11 +1,11 @@
 //! A run, as a report shows it.
 
-ghost use Rattle.std.specs.Prelude.{◌≡◌, [], List};
+ghost use Rattle.std.specs.Prelude.{◌≡◌, ◌++◌, ◌∷◌, [], List, take, OnOk, OnErr};
 ghost use Rattle.run_events.specs.declared.event.Record.{Record};
 
 use run_events::{Bytes, Record};
 use space_memory::Spaces;
-use std::alloc::Global;
+use std::alloc::{AllocError, Global};
 use std::marker::Model;
 
 /// The events of one thread, the oldest first. A return has its full result and pieces here, also where it repeats the one
@@ -36,6 +36,23 @@ impl Records {
         ensures { result.now ≡ self.now }
     {
         &self.items
+    }
+
+    /// Adds an event at the end. Without memory nothing is added.
+    #[inline]
+    pub fn push(&mut self, entry: Record) -> Result<(), AllocError>
+        ensures ok { OnOk result (self.new ≡ self.old ++ entry ∷ []) }
+        ensures err { OnErr result (self.new ≡ self.old) }
+    {
+        self.items.push(entry)?;
+        Ok(())
+    }
+
+    /// Keeps the first events, so many of them at most.
+    pub fn truncate(&mut self, count: usize)
+        ensures { self.new ≡ take count self.old }
+    {
+        self.items.truncate(count);
     }
 
     /// The vector of the events.

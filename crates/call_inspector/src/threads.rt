@@ -1,24 +1,45 @@
 //! The lines of threads and their events.
 
-ghost use Rattle.std.specs.Prelude.{◌≡◌, ◌++◌, [], OnOk, codes, decimal};
+ghost use Rattle.std.specs.Prelude.{◌≡◌, ◌≤◌, ◌+◌, ◌++◌, [], OnOk, codes, decimal, length};
+ghost use Rattle.event_texts.specs.EventTexts.{kind_word};
 ghost use Rattle.call_inspector.specs.ThreadText.{event_line, lines_after, thread_text, threads_from};
 
 use crate::crossings::Crossings;
-use crate::events::put_event;
+use crate::events::put_detail;
 use crate::run::Records;
 use c_code::Code;
 use event_texts::PrependBuffer;
 use r2_base::put_dec;
-use run_events::Record;
+use run_events::{Event, Record};
 use std::alloc::AllocError;
 
-/// Adds the index, the clock and the steps of an event, each with a space after it.
-fn put_numbers(text: &mut Vec<u8>, index: usize, entry: &Record) -> Result<(), AllocError>
+/// Puts the word of the kind of an event before the text. An arm each, so that its few bytes are written at once.
+#[inline(always)]
+fn prepend_kind(buffer: &mut PrependBuffer, event: &Event)
+    requires { length buffer.old ≤ 100 }
+    ensures text { buffer.new ≡ kind_word event.now ++ buffer.old }
+    ensures short { length buffer.new ≤ length buffer.old + 5 }
+{
+    match event {
+        Event::Call { .. } => buffer.put_word("call"),
+        Event::Ret { .. } => buffer.put_word("ret"),
+        Event::Up { .. } => buffer.put_word("up"),
+        Event::UpRet { .. } => buffer.put_word("upret"),
+        Event::Alloc { .. } => buffer.put_word("alloc"),
+        Event::Free { .. } => buffer.put_word("free"),
+        Event::Stop { .. } => buffer.put_word("stop"),
+    }
+}
+
+/// Adds the index, the clock, the steps and the word of the kind of an event, each with a space after it.
+fn put_start(text: &mut Vec<u8>, index: usize, entry: &Record) -> Result<(), AllocError>
     ensures { OnOk result (text.new.items ≡ text.old.items ++
         (decimal index ++ codes " " ++ decimal entry.now.clock ++ codes " " ++ decimal entry.now.steps ++
-        codes " ")) }
+        codes " " ++ kind_word entry.now.event ++ codes " ")) }
 {
     let mut buffer = PrependBuffer::new();
+    buffer.put_byte(b' ');
+    prepend_kind(&mut buffer, &entry.event);
     buffer.put_byte(b' ');
     buffer.put_number(u64::from(entry.steps));
     buffer.put_byte(b' ');
@@ -39,8 +60,8 @@ fn put_line(
     ensures { OnOk result (text.new.items ≡ text.old.items ++
         event_line code.now active.now index entry.now) }
 {
-    put_numbers(text, index, entry)?;
-    put_event(text, code, active, &entry.event)?;
+    put_start(text, index, entry)?;
+    put_detail(text, code, active, &entry.event)?;
     text.push(b'\n')?;
     Ok(())
 }

@@ -1,11 +1,14 @@
 //! The texts of values.
 
-ghost use Rattle.std.specs.Prelude.{◌≡◌, ◌++◌, OnOk, codes, flat_map};
+ghost use Rattle.std.specs.Prelude.{◌≡◌, ◌≤◌, ◌+◌, ◌++◌, OnOk, codes, flat_map, length};
+ghost use Rattle.std.specs.Fmt.{signed_decimal};
+ghost use Rattle.c_code.specs.Values.{read};
 ghost use Rattle.call_inspector.specs.EventText.{address_text, value_text, more_args_text, args_text, result_text, byte_text, piece_text};
 
 use c_code::Shape;
+use event_texts::PrependBuffer;
 use r2_base::{hex_digit, put_dec, put_hex};
-use r2_num::wrap;
+use r2_num::{IntKind, wrap};
 use std::alloc::AllocError;
 
 /// Adds an address.
@@ -14,6 +17,20 @@ pub fn put_address(text: &mut Vec<u8>, addr: u64) -> Result<(), AllocError>
 {
     text.extend_from_slice(b"0x")?;
     put_hex(text, addr)
+}
+
+/// Puts an integer of the kind before the text.
+#[inline]
+fn prepend_int(buffer: &mut PrependBuffer, kind: IntKind, value: u64)
+    requires { length buffer.old ≤ 100 }
+    ensures text { buffer.new ≡ signed_decimal (read kind value) ++ buffer.old }
+    ensures short { length buffer.new ≤ length buffer.old + 21 }
+{
+    let number = wrap(kind, i128::from(value));
+    buffer.put_number(number.unsigned_abs() as u64);
+    if number < 0 {
+        buffer.put_byte(b'-');
+    }
 }
 
 /// Adds a value of the type.
@@ -52,12 +69,22 @@ pub fn put_args(text: &mut Vec<u8>, shapes: &[Shape], args: &[u64]) -> Result<()
     put_more_args(text, shapes, args)
 }
 
-/// Adds ` = ` and the value of the type.
-fn put_equal(text: &mut Vec<u8>, shape: Shape, value: u64) -> Result<(), AllocError>
-    ensures { OnOk result (text.new.items ≡ text.old.items ++ (codes " = " ++ value_text shape value)) }
+/// Adds ` = ` and an integer of the kind.
+fn put_equal_int(text: &mut Vec<u8>, kind: IntKind, value: u64) -> Result<(), AllocError>
+    ensures { OnOk result (text.new.items ≡ text.old.items ++ (codes " = " ++ signed_decimal (read kind value))) }
+{
+    let mut buffer = PrependBuffer::new();
+    prepend_int(&mut buffer, kind, value);
+    buffer.put_word(" = ");
+    text.extend_from_slice(buffer.as_slice())
+}
+
+/// Adds ` = ` and an address.
+fn put_equal_address(text: &mut Vec<u8>, addr: u64) -> Result<(), AllocError>
+    ensures { OnOk result (text.new.items ≡ text.old.items ++ (codes " = " ++ address_text addr)) }
 {
     text.extend_from_slice(b" = ")?;
-    put_value(text, shape, value)
+    put_address(text, addr)
 }
 
 /// Adds what a result of the type adds to the name of its function.
@@ -66,8 +93,8 @@ pub fn put_result(text: &mut Vec<u8>, shape: Shape, value: u64) -> Result<(), Al
 {
     match shape {
         Shape::Void => Ok(()),
-        Shape::Int(_) => put_equal(text, shape, value),
-        Shape::Pointer => put_equal(text, shape, value),
+        Shape::Int(kind) => put_equal_int(text, kind, value),
+        Shape::Pointer => put_equal_address(text, value),
     }
 }
 

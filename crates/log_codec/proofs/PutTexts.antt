@@ -6,7 +6,7 @@ use Rattle.std.proofs.lemmas.List.{length-map, map-append}
 use Rattle.run_events.specs.declared.event.Event.{Event}
 use Rattle.run_events.specs.declared.event.Event.TheVariants.{Call, Ret, Up, UpRet, Alloc, Free, Stop}
 use Rattle.run_events.specs.declared.event.Record.{Record}
-use Rattle.log_codec.specs.LogText.{Chunk, version_1, kind_number, body_text, record_text, chunk_text, end_text, head_text, log_text, records_of, IsRecord, AreChunks, IsLogOf}
+use Rattle.log_codec.specs.LogText.{Chunk, version_1, kind_number, body_text, record_text, chunk_text, log_text, records_of, IsRecord, AreChunks, IsLogOf}
 use Rattle.log_codec.specs.Putting.{log_event, log_record, log_chunk, CanBePut, put_text}
 
 kind_as_put : (e : Event) → kind_number (log_event e) ≡ kind_number e

@@ -1,6 +1,6 @@
 //! The text of a log, written part by part.
 
-ghost use Rattle.std.specs.Prelude.{◌≡◌, ◌<◌, ◌≤◌, ◌^◌, ◌++◌, length, OnOk, OnErr};
+ghost use Rattle.std.specs.Prelude.{◌≡◌, ◌<◌, ◌≤◌, ◌^◌, ◌++◌, ◌∷◌, [], length, OnOk, OnErr};
 ghost use Rattle.std.specs.Int.{w16, w32, w64, to_be_bytes};
 ghost use Rattle.std.specs.List.{flat_map, AllByRecursion};
 ghost use Rattle.byte_format.specs.Spelling.{counted};
@@ -9,16 +9,13 @@ ghost use Rattle.log_codec.specs.Putting.{log_event, log_chunk, CanBePut};
 
 use crate::parsing::HEAD;
 use crate::tail::Tail;
-use run_events::{Bytes, Event, KeyMark, Marks, Pieces, Reason, Record, Words};
+use run_events::{Bytes, Event, KeyMark, Pieces, Reason, Record, Words};
 use std::alloc::AllocError;
 
-fn put_words(out: &mut Tail, words: &Words) -> Result<(), AllocError>
-    requires { length words.now < 256 }
+fn put_words(out: &mut Tail, words: &[u64]) -> Result<(), AllocError>
     ensures before { out.new.before ≡ out.old.before }
-    ensures added { OnOk result (out.new.added ≡ out.old.added ++ counted (to_be_bytes w64) words.now) }
+    ensures added { OnOk result (out.new.added ≡ out.old.added ++ flat_map (to_be_bytes w64) words.now) }
 {
-    let words = words.as_slice();
-    out.put_byte(words.len() as u8)?;
     for word in words {
         out.put(&word.to_be_bytes())?;
     }
@@ -35,13 +32,10 @@ fn put_key(out: &mut Tail, mark: &KeyMark) -> Result<(), AllocError>
     Ok(())
 }
 
-fn put_keys(out: &mut Tail, keys: &Marks) -> Result<(), AllocError>
-    requires { length keys.now < 256 }
+fn put_keys(out: &mut Tail, keys: &[KeyMark]) -> Result<(), AllocError>
     ensures before { out.new.before ≡ out.old.before }
-    ensures added { OnOk result (out.new.added ≡ out.old.added ++ counted (key_text to_be_bytes) keys.now) }
+    ensures added { OnOk result (out.new.added ≡ out.old.added ++ flat_map (key_text to_be_bytes) keys.now) }
 {
-    let keys = keys.as_slice();
-    out.put_byte(keys.len() as u8)?;
     for key in keys {
         put_key(out, key)?;
     }
@@ -59,15 +53,11 @@ fn put_piece(out: &mut Tail, piece: &Bytes) -> Result<(), AllocError>
     Ok(())
 }
 
-fn put_pieces(out: &mut Tail, pieces: &Pieces) -> Result<(), AllocError>
-    requires few { length pieces.now < 256 }
-    requires each { AllByRecursion IsPiece pieces.now }
+fn put_pieces(out: &mut Tail, pieces: &[Bytes]) -> Result<(), AllocError>
+    requires { AllByRecursion IsPiece pieces.now }
     ensures before { out.new.before ≡ out.old.before }
-    ensures added { OnOk result (out.new.added ≡ out.old.added ++
-        counted (piece_text to_be_bytes) pieces.now) }
+    ensures added { OnOk result (out.new.added ≡ out.old.added ++ flat_map (piece_text to_be_bytes) pieces.now) }
 {
-    let pieces = pieces.as_slice();
-    out.put_byte(pieces.len() as u8)?;
     for piece in pieces {
         put_piece(out, piece)?;
     }
@@ -80,8 +70,23 @@ fn put_call(out: &mut Tail, func: u16, args: &Words) -> Result<(), AllocError>
     ensures added { OnOk result (out.new.added ≡ out.old.added ++
         (to_be_bytes w16 func ++ counted (to_be_bytes w64) args.now)) }
 {
-    out.put(&func.to_be_bytes())?;
+    let args = args.as_slice();
+    let [high, low] = func.to_be_bytes();
+    out.put(&[high, low, args.len() as u8])?;
     put_words(out, args)
+}
+
+fn put_return(out: &mut Tail, value: u64, outs: &Pieces) -> Result<(), AllocError>
+    requires few { length outs.now < 256 }
+    requires each { AllByRecursion IsPiece outs.now }
+    ensures before { out.new.before ≡ out.old.before }
+    ensures added { OnOk result (out.new.added ≡ out.old.added ++
+        0 ∷ (to_be_bytes w64 value ++ counted (piece_text to_be_bytes) outs.now)) }
+{
+    let outs = outs.as_slice();
+    let [a, b, c, d, e, f, g, h] = value.to_be_bytes();
+    out.put(&[0, a, b, c, d, e, f, g, h, outs.len() as u8])?;
+    put_pieces(out, outs)
 }
 
 fn put_body(out: &mut Tail, event: &Event) -> Result<(), AllocError>
@@ -90,16 +95,13 @@ fn put_body(out: &mut Tail, event: &Event) -> Result<(), AllocError>
     ensures added { OnOk result (out.new.added ≡ out.old.added ++ body_text to_be_bytes event.now) }
 {
     match event {
-        Event::Call { func, args } => put_call(out, *func, args),
-        Event::Up { func, args } => put_call(out, *func, args),
+        Event::Call { func, args } | Event::Up { func, args } => put_call(out, *func, args),
         Event::Ret { same, result, outs } => {
             if *same {
                 out.put_byte(1)?;
                 return Ok(());
             }
-            out.put_byte(0)?;
-            out.put(&result.to_be_bytes())?;
-            put_pieces(out, outs)
+            put_return(out, *result, outs)
         }
         Event::UpRet { result } => out.put(&result.to_be_bytes()),
         Event::Alloc { size, addr } => {
@@ -137,15 +139,27 @@ fn kind_number(event: &Event) -> u8
     }
 }
 
+/// What the text of a record begins with: its kind, its steps, its clock, and how many keys it has.
+#[inline]
+fn record_head(entry: &Record) -> [u8; 10]
+    requires { length entry.now.keys < 256 }
+    ensures { result ≡ kind_number entry.now.event ∷
+        (to_be_bytes w32 entry.now.steps ++ to_be_bytes w32 entry.now.clock ++ length entry.now.keys ∷ []) }
+{
+    let kind = kind_number(&entry.event);
+    let [a, b, c, d] = entry.steps.to_be_bytes();
+    let [e, f, g, h] = entry.clock.to_be_bytes();
+    let keys = entry.keys.as_slice().len() as u8;
+    [kind, a, b, c, d, e, f, g, h, keys]
+}
+
 fn put_record(out: &mut Tail, entry: &Record) -> Result<(), AllocError>
     requires { CanBePut entry.now }
     ensures before { out.new.before ≡ out.old.before }
     ensures added { OnOk result (out.new.added ≡ out.old.added ++ record_text to_be_bytes entry.now) }
 {
-    out.put_byte(kind_number(&entry.event))?;
-    out.put(&entry.steps.to_be_bytes())?;
-    out.put(&entry.clock.to_be_bytes())?;
-    put_keys(out, &entry.keys)?;
+    out.put(&record_head(entry))?;
+    put_keys(out, entry.keys.as_slice())?;
     put_body(out, &entry.event)
 }
 

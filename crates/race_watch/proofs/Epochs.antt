@@ -1,5 +1,5 @@
 -- The epochs of bytes.
-use Rattle.std.proofs.Common.{◌≡◌, ℕ, ◌+◌, ◌-◌, ◌*◌, ◌<◌, ◌≤◌, Bool, true, false, ◌&&◌, ◌||◌, cond, eqb, List, [], ◌∷◌, Option, Some, None, ◌⊎◌, inl, inr, ⊎_elim, refl, sym, ap, ◌∙◌, subst, arith, eq-eqb, eqb-true}
+use Rattle.std.proofs.Common.{◌≡◌, ℕ, ◌+◌, ◌-◌, ◌*◌, ◌<◌, ◌≤◌, Bool, true, false, ◌&&◌, ◌||◌, cond, eqb, List, [], ◌∷◌, Option, Some, None, ◌⊎◌, inl, inr, ⊎_elim, refl, sym, ap, ◌∙◌, subst, arith, eq-eqb, eqb-true, add-one}
 use Rattle.std.specs.Prelude.{nat_lt, nat_le, not, max, slice_index, map, unwrap_or}
 use Rattle.std.specs.List.{range_with_len}
 use Rattle.std.proofs.lemmas.Bool.{and_parts}
@@ -7,12 +7,14 @@ use Rattle.std.proofs.lemmas.Bool.Decides.{nat_tests}
 use Rattle.std.proofs.lemmas.List.{get_or_past}
 use Rattle.std.proofs.lemmas.List.FromFn.{get_or-map-range_with_len, length-map-range_with_len}
 use Rattle.marks.specs.Places.{is_constant}
+use Rattle.marks.specs.Ranges.{covers}
 use Rattle.race_watch_pages.specs.Kept.{kept, size}
 use Rattle.race_watch_pages.specs.declared.pages.Pages.{Pages}
 use Rattle.race_watch.specs.declared.bytes.Bytes.{Bytes}
+use Rattle.race_watch.specs.declared.seen.Seen.{Seen}
 use Rattle.race_watch.specs.declared.tables.Tables.{Tables}
 use Rattle.race_watch.specs.Cells.{cell_of, base_of, IsPart}
-use Rattle.race_watch.specs.Tables.{at, entry, entry_cell, listed, listed_entry, listed_cell, cells_of, AreTables, IsPut}
+use Rattle.race_watch.specs.Tables.{at, entry, entry_cell, listed, listed_entry, listed_cell, cells_of, AreTables, ArePut, IsPut}
 
 entry_none : (t : Tables) (w : Bool) (u x : ℕ) → t.threads ≤ u → entry t w u x ≡ 0
 entry_none t w u x le = go (cell_of x)
@@ -282,6 +284,14 @@ at_same old new threads same false u x = entry_same old new threads same false u
 -- more threads may be used
 pub still_unused : (old new : Tables) → AreTables old → new.threads ≡ old.threads → old.used ≤ new.used → ((c : ℕ) → kept new.epochs c ≡ kept old.epochs c) → (w : Bool) (u x : ℕ) → new.used ≤ u → at new w u x ≡ 0
 still_unused old new h threads more same w u x le = at_same old new threads same w u x ∙ h.unused w u x (omega (arith, le, more))
+
+-- the bytes are those of an access
+pub put_access : (b : Bytes) (one : Seen) (old new : Bool → ℕ → ℕ → ℕ) → b.from ≡ one.range.addr → b.to ≡ one.range.addr + one.range.len → IsPut b one.thread one.write (one.place + 1) old new → ArePut old new one
+put_access b one old new from to put touched u x =
+    put touched u x
+    ∙ (ap (λ n. cond (eqb one.thread u && ((touched || one.write) && (nat_le n x && nat_lt x b.to))) (one.place + 1) (old touched u x)) from
+    ∙ (ap (λ n. cond (eqb one.thread u && ((touched || one.write) && (nat_le one.range.addr x && nat_lt x n))) (one.place + 1) (old touched u x)) to
+    ∙ ap (λ n. cond (eqb one.thread u && ((touched || one.write) && covers one.range x)) n (old touched u x)) (add-one one.place)))
 
 -- one thread is used now
 pub put_unused : (old new : Tables) (t epoch : ℕ) (b : Bytes) (write : Bool) → AreTables old → old.used ≤ new.used → t < new.used → IsPut b t write epoch (at old) (at new) → (w : Bool) (u x : ℕ) → new.used ≤ u → at new w u x ≡ 0

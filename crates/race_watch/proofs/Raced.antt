@@ -119,6 +119,10 @@ is_race past w t a addr other h r e ts lt is f =
 pub no_race : (past : List Told) (w : WatchState) (t : Tables) (a : Tested) → Stands past w → Reached w → w.epochs ≡ cells_of t → AreTables t → a.thread < length w.rows → a.known.now ≡ get_or w.rows a.thread [] → ((x u : ℕ) → IsInRange a.range x → HasHit a w.seen x u ⊎ HasEpoch a (at t) x u → ⊥) → NoRace past a.thread a.range a.write
 no_race past w t a h r e ts lt is f = λ x u i v. f x u i (hit_at w.seen t past a x u (known_of past w a h lt is) (keeps_of past w t h r e ts) i.2 v)
 
+-- nor where nothing is listed, and no access of the tables is unknown
+pub free_no_race : (past : List Told) (w : WatchState) (t : Tables) (a : Tested) → Stands past w → Reached w → w.epochs ≡ cells_of t → AreTables t → a.thread < length w.rows → a.known.now ≡ get_or w.rows a.thread [] → w.seen ≡ [] → ((x u : ℕ) → IsInRange a.range x → HasEpoch a (at t) x u → ⊥) → NoRace past a.thread a.range a.write
+free_no_race past w t a h r e ts lt is none free = no_race past w t a h r e ts lt is (λ x u i. ⊎_elim (λ (s : HasHit a w.seen x u). subst (In s.0) none s.1) (free x u i))
+
 -- no epoch of a thread is after its place
 pub own_epochs : (w : WatchState) (ts : Tables) (t n : ℕ) → Reached w → w.epochs ≡ cells_of ts → AreTables ts → t < length w.made → n ≡ slice_index w.made t → (x : ℕ) → at ts true t x ≤ n + 1
 own_epochs w ts t n r e k lm is x =
@@ -205,6 +209,11 @@ noted_reached w seen a b t range write n r e k l lt lm is none p =
 
 pub same_reached : (w : WatchState) (seen : List Seen) (epochs : List ℕ) → Reached w → seen ≡ w.seen → epochs ≡ w.epochs → Reached (record w { seen = seen; epochs = epochs })
 same_reached w seen epochs r e f = subst (λ l. Reached (record w { seen = l; epochs = epochs })) (sym e) (subst (λ m. Reached (record w { epochs = m })) (sym f) r)
+
+-- by whether the access was kept, in the tables
+pub reached_if : (w : WatchState) (a b : Tables) (t : ℕ) (range : Range) (write : Bool) (n : ℕ) (kept : Bool) → Reached w → w.epochs ≡ cells_of a → AreTables a → AreTables b → t < length w.rows → t < length w.made → n ≡ slice_index w.made t → (kept ≡ true → (past : List Told) → Stands past w → NoRace past t range write) → (kept ≡ true → ArePut (at a) (at b) (access t n range write)) → (kept ≡ false → b ≡ a) → Reached (record w { seen = w.seen; epochs = cells_of b })
+reached_if w a b t range write n true r e k l lt lm is none put same = noted_reached w w.seen a b t range write n r e k l lt lm is (none refl) (inr (refl, put refl))
+reached_if w a b t range write n false r e k l lt lm is none put same = same_reached w w.seen (cells_of b) r refl (ap cells_of (same refl) ∙ sym e)
 
 -- by what the keeping answers
 

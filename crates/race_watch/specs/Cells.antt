@@ -1,5 +1,5 @@
 -- Which bytes have cells.
-use Rattle.std.specs.Prelude.{◌≡◌, ℕ, ◌+◌, ◌-◌, ◌*◌, ◌<◌, ◌≤◌, Bool, ◌&&◌, nat_le, nat_lt, if◌then◌else◌, Option, Some, None, MatchOption}
+use Rattle.std.specs.Prelude.{◌≡◌, ℕ, ◌+◌, ◌-◌, ◌*◌, ◌%◌, ◌<◌, ◌≤◌, Bool, ◌&&◌, nat_le, nat_lt, if◌then◌else◌, Option, Some, None, MatchOption}
 use Rattle.marks.specs.declared.range.Range.{Range}
 use Rattle.marks.specs.Ranges.{IsInRange}
 use Rattle.race_watch.specs.declared.bytes.Bytes.{Bytes}
@@ -20,6 +20,11 @@ pub record IsPart (b : Bytes) : Type 0 where
   pub order : b.from ≤ b.to
   pub cells : (x : ℕ) → b.from ≤ x → x < b.to → cell_of x ≡ Some (b.cell + (x - b.from))
   pub within : b.cell + (b.to - b.from) ≤ 0x400000
+
+-- a few bytes, of whose cells none lies past the eight in a row that the first is one of
+pub record IsFew (b : Bytes) : Type 0 where
+  pub some : b.from < b.to
+  pub few : b.cell % 8 + (b.to - b.from) ≤ 8
 
 -- something holds of each of the bytes
 abbrev pub EachIn : Bytes → (ℕ → Type 0) → Type 0

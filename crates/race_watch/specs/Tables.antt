@@ -99,6 +99,10 @@ pub record IsLeastThread (R : ℕ → Type 0) (other : ℕ) : Type 0 where
 abbrev pub IsFirstThread : (ℕ → Type 0) → Option ℕ → Type 0
 IsFirstThread R result = MatchOption result ((u : ℕ) → R u → ⊥) (λ u. IsLeastThread R u)
 
+-- the access, after so many events of its thread
+abbrev pub seen_at : Tested → ℕ → Seen
+seen_at a place = record { thread = a.thread; place = place; range = a.range; write = a.write }
+
 -- epochs with one access more
 abbrev pub ArePut : (Bool → ℕ → ℕ → ℕ) → (Bool → ℕ → ℕ → ℕ) → Seen → Type 0
 ArePut old new one = (touched : Bool) (u x : ℕ) →

@@ -1,7 +1,7 @@
 //! Which bytes have cells: those of the areas that replay code may write, one area's after another's.
 
-ghost use Rattle.std.specs.Prelude.{◌≡◌, ◌+◌, ◌-◌, ◌<◌, ◌≤◌, IfSome};
-ghost use Rattle.race_watch.specs.Cells.{IsPart, IsCommon};
+ghost use Rattle.std.specs.Prelude.{◌≡◌, ◌+◌, ◌-◌, ◌%◌, ◌<◌, ◌≤◌, IfSome, IsTrue};
+ghost use Rattle.race_watch.specs.Cells.{cell_of, IsPart, IsFew, IsCommon};
 
 use memory_map::{
     GLOBALS_SIZE, POOL_SIZE, REPLAY_GLOBALS, REPLAY_POOL, REPLAY_STACKS, Range, STACK_SIZE,
@@ -83,5 +83,51 @@ pub fn whole(range: Range) -> Option<Bytes>
         from: range.addr,
         to: range.addr + range.len,
         cell: area.cell + (range.addr - area.from) as u32,
+    })
+}
+
+/// The number of a byte's cell.
+#[inline(always)]
+fn cell_at(addr: u64) -> Option<u32>
+    ensures { result ≡ cell_of addr }
+{
+    let in_stacks = addr.wrapping_sub(STACKS.from);
+    if in_stacks < STACKS.to - STACKS.from {
+        return Some(STACKS.cell + in_stacks as u32);
+    }
+    let in_globals = addr.wrapping_sub(GLOBALS.from);
+    if in_globals < GLOBALS.to - GLOBALS.from {
+        return Some(GLOBALS.cell + in_globals as u32);
+    }
+    let in_pool = addr.wrapping_sub(POOL.from);
+    if in_pool < POOL.to - POOL.from {
+        return Some(POOL.cell + in_pool as u32);
+    }
+    None
+}
+
+/// Whether the range has a few bytes, of which none lies past the eight in a row that the first is one of.
+#[inline(always)]
+pub fn is_few(range: Range) -> bool
+    ensures some { IsTrue result → 1 ≤ range.len }
+    ensures few { IsTrue result → range.addr % 8 + range.len ≤ 8 }
+{
+    range.len.wrapping_sub(1) <= 7 - range.addr % 8
+}
+
+/// The bytes of such a range, where they lie in an area: it has all eight of them, or none.
+#[inline(always)]
+pub fn few(range: Range) -> Option<Bytes>
+    ensures part { IfSome result (λ b. IsPart b × (b.from ≡ range.addr) × (b.to ≡ range.addr + range.len)) }
+    ensures few { IfSome result IsFew }
+{
+    if !is_few(range) {
+        return None;
+    }
+    let cell = cell_at(range.addr)?;
+    Some(Bytes {
+        from: range.addr,
+        to: range.addr + range.len,
+        cell,
     })
 }

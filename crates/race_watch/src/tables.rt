@@ -1,13 +1,13 @@
 //! By thread and byte, one more than the place of the last read, and of the last write.
 
-ghost use Rattle.std.specs.Prelude.{◌≡◌, ◌+◌, ◌-◌, ◌*◌, ◌<◌, ◌≤◌, ◌&&◌, ℕ, true, false, length, IfOk, IfErr, OnOk, OnErr, IsTrue, Some};
+ghost use Rattle.std.specs.Prelude.{◌≡◌, ◌+◌, ◌-◌, ◌*◌, ◌<◌, ◌≤◌, ◌≢◌, ◌&&◌, ℕ, Bool, true, false, length, IfOk, IfErr, OnOk, OnErr, IsTrue, IsFalse, Some};
 ghost use Rattle.std.specs.List.{All};
 ghost use Rattle.memory_map.specs.declared.areas.TheConstants.{THREADS};
-ghost use Rattle.race_watch.specs.Cells.{IsPart, EachIn, base_of, cell_of};
+ghost use Rattle.race_watch.specs.Cells.{IsPart, IsFew, EachIn, base_of, cell_of};
 ghost use Rattle.race_watch.specs.declared.bytes.TheConstants.{GLOBALS, STACKS, POOL};
 ghost use Rattle.race_watch.specs.Tables.{at, entry, cells_of, AreTables, AreBlankTables, HasEpoch, HasEpochIn, NoneUnknown, IsPut, IsFirst, IsFirstFrom, IsFirstThread};
 
-use crate::bytes::{Bytes, GLOBALS, POOL, STACKS, common, whole};
+use crate::bytes::{Bytes, GLOBALS, POOL, STACKS, common, few, whole};
 use crate::error::WatchError;
 use crate::first::Tested;
 use race_watch_pages::Pages;
@@ -75,6 +75,36 @@ impl Tables {
         self.has_all(thread, false, part, epoch)
     }
 
+    /// Whether each of a few bytes is seen to have this epoch, of the thread's reads or of its writes.
+    #[inline(always)]
+    fn has_all_of_few(&self, thread: u8, read: bool, part: Bytes, epoch: u32) -> bool
+        requires tables { AreTables self.now }
+        requires thread { thread < self.now.threads }
+        requires part { IsPart part }
+        requires few { IsFew part }
+        ensures { IsTrue result → EachIn part (λ x. entry self.now read thread x ≡ epoch) }
+    {
+        let from = base(thread, read) + part.cell;
+        self.epochs
+            .is_all_of_few(from, (part.to - part.from) as u32, epoch)
+    }
+
+    /// Whether each of a few bytes is seen to have this epoch, which no access of the thread exceeds.
+    #[inline(always)]
+    pub fn is_all_of_few(&self, thread: u8, touched: bool, part: Bytes, epoch: u32) -> bool
+        requires tables { AreTables self.now }
+        requires thread { thread < self.now.threads }
+        requires part { IsPart part }
+        requires few { IsFew part }
+        requires before { (x : ℕ) → at self.now true thread x ≤ epoch }
+        ensures { IsTrue result → EachIn part (λ x. at self.now touched thread x ≡ epoch) }
+    {
+        if self.has_all_of_few(thread, false, part, epoch) {
+            return true;
+        }
+        touched && self.has_all_of_few(thread, true, part, epoch)
+    }
+
     /// Whether the thread is seen to have no later access of the bytes that counts.
     fn is_known(&self, thread: u8, touched: bool, part: Bytes, known: u32) -> bool
         requires tables { AreTables self.now }
@@ -94,6 +124,27 @@ impl Tables {
         self.epochs.is_at_most(read, read + len, known)
     }
 
+    /// Whether the thread is seen to have no later access of a few bytes that counts.
+    #[inline(always)]
+    fn is_known_of_few(&self, thread: u8, touched: bool, part: Bytes, known: u32) -> bool
+        requires tables { AreTables self.now }
+        requires thread { thread < self.now.threads }
+        requires part { IsPart part }
+        requires few { IsFew part }
+        ensures { IsTrue result → EachIn part (λ x. at self.now touched thread x ≤ known) }
+    {
+        let len = (part.to - part.from) as u32;
+        let wrote = base(thread, false) + part.cell;
+        if !self.epochs.is_at_most_of_few(wrote, len, known) {
+            return false;
+        }
+        if !touched {
+            return true;
+        }
+        let read = base(thread, true) + part.cell;
+        self.epochs.is_at_most_of_few(read, len, known)
+    }
+
     /// Whether no other thread is seen to have an access of one of the bytes that isn't known and counts.
     fn is_quiet(&self, tested: &Tested, part: Bytes) -> bool
         requires tables { AreTables self.now }
@@ -105,6 +156,38 @@ impl Tables {
             if thread != tested.thread {
                 let known = tested.known[thread as usize];
                 if !self.is_known(thread, tested.write, part, known) {
+                    return false;
+                }
+            }
+        }
+        true
+    }
+
+    /// Whether no other thread is seen to have made an access.
+    #[inline(always)]
+    fn is_alone(&self, thread: u8) -> bool
+        requires { AreTables self.now }
+        ensures { IsTrue result → (touched : Bool) (u x : ℕ) → u ≢ thread → at self.now touched u x ≡ 0 }
+    {
+        thread == 0 && self.used <= 1
+    }
+
+    /// Whether no other thread is seen to have an access of one of a few bytes that isn't known and counts.
+    #[inline(always)]
+    pub fn is_quiet_of_few(&self, tested: &Tested, part: Bytes) -> bool
+        requires tables { AreTables self.now }
+        requires known { self.now.threads ≤ length tested.now.known.now }
+        requires part { IsPart part }
+        requires few { IsFew part }
+        ensures { IsTrue result → NoneUnknown tested.now (at self.now) part }
+    {
+        if self.is_alone(tested.thread) {
+            return true;
+        }
+        for thread in 0..self.used {
+            if thread != tested.thread {
+                let known = tested.known[thread as usize];
+                if !self.is_known_of_few(thread, tested.write, part, known) {
                     return false;
                 }
             }
@@ -183,6 +266,11 @@ impl Tables {
         requires known { self.now.threads ≤ length tested.now.known.now }
         ensures { IsFirst tested.now.range (HasEpoch tested.now (at self.now)) result }
     {
+        if let Some(part) = few(tested.range) {
+            if self.is_quiet_of_few(tested, part) {
+                return None;
+            }
+        }
         match whole(tested.range) {
             Some(part) => self.first_in(tested, part),
             None => self.first_apart(tested),
@@ -202,6 +290,28 @@ impl Tables {
             return Some(found);
         }
         self.first_of(tested, POOL)
+    }
+
+    /// Notes a few bytes as read or written by the thread, no earlier than any access of it, where there is a place for each.
+    #[inline(always)]
+    pub fn put_few(&mut self, thread: u8, part: Bytes, write: bool, epoch: u32) -> bool
+        requires tables { AreTables self.old }
+        requires thread { thread < self.old.threads }
+        requires part { IsPart part }
+        requires few { IsFew part }
+        requires before { (x : ℕ) → at self.old true thread x ≤ epoch }
+        ensures tables { AreTables self.new }
+        ensures threads { self.new.threads ≡ self.old.threads }
+        ensures put { IsTrue result → IsPut part thread write epoch (at self.old) (at self.new) }
+        ensures unchanged { IsFalse result → self.new ≡ self.old }
+    {
+        let from = base(thread, !write) + part.cell;
+        let len = (part.to - part.from) as u32;
+        if !self.epochs.fill_few(from, len, epoch) {
+            return false;
+        }
+        self.used = self.used.max(thread + 1);
+        true
     }
 
     /// Notes the bytes as read or written by the thread, no earlier than any access of it.

@@ -1,13 +1,13 @@
 //! The watch.
 
-ghost use Rattle.std.specs.Prelude.{◌≡◌, ◌+◌, ◌<◌, ◌≤◌, [], length, IsTrue, IfOk, OnOk, OnErr};
+ghost use Rattle.std.specs.Prelude.{◌≡◌, ◌+◌, ◌<◌, ◌≤◌, [], length, IsTrue, IsFalse, IfOk, OnOk, OnErr};
 ghost use Rattle.logical_clock.specs.Events.{occurrence};
 ghost use Rattle.memory_map.specs.declared.areas.TheConstants.{THREADS};
 ghost use Rattle.race_watch.specs.Told.{Accessed, Happened};
 ghost use Rattle.race_watch.specs.Rows.{AreBlank};
 ghost use Rattle.race_watch.specs.Stands.{Stands, AnswersBy, WasTold, WasToldNoMore};
 
-use crate::access::{first_race, is_settled, note};
+use crate::access::{first_race, is_settled, is_settled_apart, note, take_few};
 use crate::error::WatchError;
 use crate::first::{Tested, has_constants_alone};
 use crate::known::{Row, learn_keys, tell_keys};
@@ -114,11 +114,68 @@ impl Watch {
         if self.has(thread, range, write) {
             return Ok(());
         }
+        self.access_apart(thread, range, write)
+    }
+
+    // An access that isn't seen at a glance to leave the watch as it is. Of constants nothing is kept: none races there.
+    #[inline(never)]
+    fn access_apart(&mut self, thread: u8, range: Range, write: bool) -> Result<(), WatchError>
+        requires { thread < length self.old.rows }
+        ensures answers { AnswersBy self.old thread range write result }
+        ensures told { OnOk result (WasTold (Accessed thread range write) self.old self.new) }
+        ensures unchanged { OnErr result (self.new ≡ self.old) }
+        ensures events { self.new.events ≡ self.old.events }
+        ensures threads { length self.new.rows ≡ length self.old.rows }
+    {
+        if self.take_few(thread, range, write) {
+            return Ok(());
+        }
+        if has_constants_alone(range) {
+            return Ok(());
+        }
+        self.access_slowly(thread, range, write)
+    }
+
+    // Takes an access of a few bytes where a glance is enough, or does nothing.
+    #[inline(always)]
+    fn take_few(&mut self, thread: u8, range: Range, write: bool) -> bool
+        requires { thread < length self.old.rows }
+        ensures free { IsTrue result → AnswersBy self.old thread range write (Ok tt) }
+        ensures told { IsTrue result → WasTold (Accessed thread range write) self.old self.new }
+        ensures unchanged { IsFalse result → self.new ≡ self.old }
+        ensures events { self.new.events ≡ self.old.events }
+        ensures threads { length self.new.rows ≡ length self.old.rows }
+    {
+        if !self.seen.is_empty() {
+            return false;
+        }
+        let place = self.made[thread as usize];
+        let tested = Tested {
+            thread,
+            known: &self.rows[thread as usize],
+            range,
+            write,
+        };
+        take_few(&tested, &mut self.tables, place)
+    }
+
+    // An access at which a glance isn't enough.
+    #[inline(never)]
+    fn access_slowly(&mut self, thread: u8, range: Range, write: bool) -> Result<(), WatchError>
+        requires { thread < length self.old.rows }
+        ensures answers { AnswersBy self.old thread range write result }
+        ensures told { OnOk result (WasTold (Accessed thread range write) self.old self.new) }
+        ensures unchanged { OnErr result (self.new ≡ self.old) }
+        ensures events { self.new.events ≡ self.old.events }
+        ensures threads { length self.new.rows ≡ length self.old.rows }
+    {
+        if self.has_apart(thread, range, write) {
+            return Ok(());
+        }
         self.access_anew(thread, range, write)
     }
 
-    // An access that is tested and kept, but for constants: none races there, so nothing is kept of it.
-    #[inline(never)]
+    // An access that is tested and kept.
     fn access_anew(&mut self, thread: u8, range: Range, write: bool) -> Result<(), WatchError>
         requires { thread < length self.old.rows }
         ensures answers { AnswersBy self.old thread range write result }
@@ -127,9 +184,6 @@ impl Watch {
         ensures events { self.new.events ≡ self.old.events }
         ensures threads { length self.new.rows ≡ length self.old.rows }
     {
-        if has_constants_alone(range) {
-            return Ok(());
-        }
         if let Err(race) = self.test(thread, range, write) {
             return Err(race);
         }
@@ -153,6 +207,16 @@ impl Watch {
     {
         let place = self.made[thread as usize];
         is_settled(&self.tables, thread, range, write, place + 1)
+    }
+
+    // The same of bytes at which a glance isn't enough.
+    fn has_apart(&self, thread: u8, range: Range, write: bool) -> bool
+        requires { thread < length self.now.rows }
+        ensures free { IsTrue result → AnswersBy self.now thread range write (Ok tt) }
+        ensures told { IsTrue result → WasTold (Accessed thread range write) self.now self.now }
+    {
+        let place = self.made[thread as usize];
+        is_settled_apart(&self.tables, thread, range, write, place + 1)
     }
 
     /// `Race` exactly where `access` would answer it. The watch isn't told of the access.

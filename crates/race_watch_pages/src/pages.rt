@@ -1,9 +1,12 @@
 //! Numbers by cell.
 
-ghost use Rattle.std.specs.Prelude.{◌≡◌, ◌+◌, ◌*◌, ◌/◌, ◌%◌, ◌<◌, ◌≤◌, ◌&&◌, ℕ, nat_le, nat_lt, if◌then◌else◌, slice_index, IfOk, OnOk, IsTrue, MatchOption};
-ghost use Rattle.race_watch_pages.specs.Kept.{kept, size, IsThere, IsSplit, IsReady, StandsAt, StandsInWords};
+ghost use Rattle.std.specs.Prelude.{◌≡◌, ◌+◌, ◌*◌, ◌/◌, ◌%◌, ◌<◌, ◌≤◌, ◌&&◌, ℕ, nat_le, nat_lt, if◌then◌else◌, slice_index, IfOk, OnOk, IsTrue, IsFalse, MatchOption};
+ghost use Rattle.race_watch_pages.specs.Kept.{kept, size, IsThere, IsSplit, IsReady, StandsAt, StandsInWords, StandsInCells};
 
-use crate::part::{are_all, are_at_most, are_words, fill, spread};
+use crate::part::{
+    are_all, are_at_most, are_few, are_few_words, are_few_words_at_most, are_words, fill, fill_two,
+    spread,
+};
 use std::alloc::{AllocError, Global};
 
 /// A page of 256 cells: one number for four in a row, or where each has its own.
@@ -140,6 +143,27 @@ impl Pages {
         true
     }
 
+    /// The same of a few cells, of which none lies past the eight in a row that the first is one of.
+    #[inline(always)]
+    pub fn is_at_most_of_few(&self, from: u32, len: u32, bound: u32) -> bool
+        requires some { 1 ≤ len }
+        requires few { from % 8 + len ≤ 8 }
+        requires within { from < 256 * size self.now }
+        ensures { IsTrue result → (c : ℕ) → from ≤ c → c < from + len → kept self.now c ≤ bound }
+    {
+        let first = (from % 256) as usize;
+        let len = len as usize;
+        match self.find(from / 256) {
+            None => true,
+            Some(Place::Words(at)) => {
+                are_few_words_at_most(&self.words[at as usize].values, first, len, bound)
+            }
+            Some(Place::Cells(at)) => {
+                are_at_most(&self.cells[at as usize].values, first, first + len, bound)
+            }
+        }
+    }
+
     /// Whether each cell, from the first to before the last, has this number; `false` may be answered for a page that isn't there.
     #[inline(always)]
     pub fn is_all(&self, from: u32, to: u32, value: u32) -> bool
@@ -152,6 +176,25 @@ impl Pages {
             return self.is_part_all(from, to, value);
         }
         self.are_parts_all(from, to, value)
+    }
+
+    /// The same of a few cells, of which none lies past the eight in a row that the first is one of.
+    #[inline(always)]
+    pub fn is_all_of_few(&self, from: u32, len: u32, value: u32) -> bool
+        requires some { 1 ≤ len }
+        requires few { from % 8 + len ≤ 8 }
+        requires within { from < 256 * size self.now }
+        ensures { IsTrue result → (c : ℕ) → from ≤ c → c < from + len → kept self.now c ≡ value }
+    {
+        let first = (from % 256) as usize;
+        let len = len as usize;
+        match self.find(from / 256) {
+            None => false,
+            Some(Place::Words(at)) => {
+                are_few_words(&self.words[at as usize].values, first, len, value)
+            }
+            Some(Place::Cells(at)) => are_few(&self.cells[at as usize].values, first, len, value),
+        }
     }
 
     // The same of the cells of several pages.
@@ -289,22 +332,49 @@ impl Pages {
         ensures filled { (c : ℕ) → kept self.new c ≡
             (if nat_le from c && nat_lt c to then value else kept self.old c) }
     {
-        let first = (from % 256) as usize;
-        let last = first + (to - from) as usize;
         match self.find(from / 256) {
             None => {}
-            Some(Place::Words(at)) => {
-                fill(
-                    &mut self.words[at as usize].values,
-                    first / 4,
-                    last / 4,
-                    value,
-                );
-            }
-            Some(Place::Cells(at)) => {
-                fill(&mut self.cells[at as usize].values, first, last, value);
-            }
+            Some(Place::Words(at)) => self.fill_words(at, from, to, value),
+            Some(Place::Cells(at)) => self.fill_cells(at, from, to, value),
         }
+    }
+
+    // The same of a page in which four cells in a row have one number.
+    fn fill_words(&mut self, at: u32, from: u32, to: u32, value: u32)
+        requires order { from < to }
+        requires page { to ≤ from / 256 * 256 + 256 }
+        requires place { StandsInWords self.old (from / 256) at }
+        requires ready { IsReady self.old from to }
+        ensures size { size self.new ≡ size self.old }
+        ensures stays { (p : ℕ) → IsThere self.old p → IsThere self.new p }
+        ensures split { (p : ℕ) → IsSplit self.old p → IsSplit self.new p }
+        ensures filled { (c : ℕ) → kept self.new c ≡
+            (if nat_le from c && nat_lt c to then value else kept self.old c) }
+    {
+        let first = (from % 256) as usize;
+        let last = first + (to - from) as usize;
+        fill(
+            &mut self.words[at as usize].values,
+            first / 4,
+            last / 4,
+            value,
+        );
+    }
+
+    // The same of a page in which each cell has its own.
+    fn fill_cells(&mut self, at: u32, from: u32, to: u32, value: u32)
+        requires order { from < to }
+        requires page { to ≤ from / 256 * 256 + 256 }
+        requires place { StandsInCells self.old (from / 256) at }
+        ensures size { size self.new ≡ size self.old }
+        ensures stays { (p : ℕ) → IsThere self.old p → IsThere self.new p }
+        ensures split { (p : ℕ) → IsSplit self.old p → IsSplit self.new p }
+        ensures filled { (c : ℕ) → kept self.new c ≡
+            (if nat_le from c && nat_lt c to then value else kept self.old c) }
+    {
+        let first = (from % 256) as usize;
+        let last = first + (to - from) as usize;
+        fill(&mut self.cells[at as usize].values, first, last, value);
     }
 
     /// Puts a number at the cells from the first to before the last, which are made ready.
@@ -324,6 +394,62 @@ impl Pages {
             let stop = to.min(at / 256 * 256 + 256);
             self.fill_part(at, stop, value);
             at = stop;
+        }
+    }
+
+    // Puts a number at one word, or at two, of a page in which four cells in a row have one number.
+    #[inline(always)]
+    fn fill_two_words(&mut self, at: u32, from: u32, to: u32, value: u32)
+        requires order { from < to }
+        requires few { to ≤ from + 8 }
+        requires page { to ≤ from / 256 * 256 + 256 }
+        requires first { from % 4 ≡ 0 }
+        requires last { to % 4 ≡ 0 }
+        requires place { StandsInWords self.old (from / 256) at }
+        ensures size { size self.new ≡ size self.old }
+        ensures stays { (p : ℕ) → IsThere self.old p → IsThere self.new p }
+        ensures split { (p : ℕ) → IsSplit self.old p → IsSplit self.new p }
+        ensures filled { (c : ℕ) → kept self.new c ≡
+            (if nat_le from c && nat_lt c to then value else kept self.old c) }
+    {
+        let first = (from % 256) as usize;
+        let last = first + (to - from) as usize;
+        fill_two(
+            &mut self.words[at as usize].values,
+            first / 4,
+            last / 4,
+            value,
+        );
+    }
+
+    /// Puts a number at a few cells, of which none lies past the eight in a row that the first is one of, where they are seen to be
+    /// made ready. Else it answers `false`, and nothing changes.
+    #[inline(always)]
+    pub fn fill_few(&mut self, from: u32, len: u32, value: u32) -> bool
+        requires some { 1 ≤ len }
+        requires few { from % 8 + len ≤ 8 }
+        requires within { from < 256 * size self.old }
+        requires small { from ≤ 4000000000 }
+        ensures size { size self.new ≡ size self.old }
+        ensures stays { (p : ℕ) → IsThere self.old p → IsThere self.new p }
+        ensures split { (p : ℕ) → IsSplit self.old p → IsSplit self.new p }
+        ensures filled { IsTrue result → (c : ℕ) → kept self.new c ≡
+            (if nat_le from c && nat_lt c (from + len) then value else kept self.old c) }
+        ensures unchanged { IsFalse result → self.new ≡ self.old }
+    {
+        match self.find(from / 256) {
+            None => false,
+            Some(Place::Words(at)) => {
+                if from % 4 == 0 && len % 4 == 0 {
+                    self.fill_two_words(at, from, from + len, value);
+                    return true;
+                }
+                false
+            }
+            Some(Place::Cells(at)) => {
+                self.fill_cells(at, from, from + len, value);
+                true
+            }
         }
     }
 }

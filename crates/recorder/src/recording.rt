@@ -16,6 +16,7 @@ use c_code::Placed;
 use c_code_fused::FusedCode;
 use recorder_end::{Recorded, finish};
 use recorder_state::{Inputs, RunState, Stop, Turn, main_of};
+use recorder_stretches::{make_accesses, next_access};
 use std::alloc::{AllocError, Global};
 use stub_operations::StubSet;
 use system_side::SysFile;
@@ -59,6 +60,9 @@ fn run(
 {
     let mut buffers = Buffers::new(alloc);
     'steps: loop {
+        if let Some(side) = next_access(state) {
+            make_accesses(state, inputs, side);
+        }
         match state.next(inputs) {
             Turn::Ended(ending) => return Ok(ending),
             Turn::Step { thread, side, want } => {

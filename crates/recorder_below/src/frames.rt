@@ -52,6 +52,7 @@ pub fn call_back(
 }
 
 // A frame of the function, whose mode is tested first where `tested`.
+#[inline(always)]
 fn frame(
     state: &mut RunState,
     inputs: Inputs<'_>,

@@ -6,7 +6,7 @@ ghost use Rattle.marks.specs.Places.{thread_count};
 ghost use Rattle.recorder_book.specs.Sizes.{IsInFull};
 ghost use Rattle.recorder_book.specs.Book.{Adds, Begins, GivesLog, GivesRecords, GivesRecordsOf, IsRoomAfter};
 
-use crate::chunks::{add_shown, put_rests};
+use crate::chunks::{add_record, put_rests};
 use crate::room::Room;
 use crate::sizes::record_size;
 use call_inspector::{Records, Threads};
@@ -112,7 +112,8 @@ impl Book {
     ///
     /// Room isn't looked for here: Stops come after the last step whatever room there is. `AllocError` where there is no
     /// memory; the book is as it was then.
-    pub fn add(&mut self, alloc: Global, entry: Record) -> Result<(), AllocError>
+    #[inline(always)]
+    pub fn add(&mut self, entry: Record) -> Result<(), AllocError>
         requires form { IsInFull entry }
         requires few { self.old.events < 4000000000 }
         requires short { self.old.bytes < 2 ^ 63 }
@@ -122,7 +123,7 @@ impl Book {
         let size = record_size(&entry);
         let thread = entry.thread as usize;
         let records = &mut self.threads[thread];
-        add_shown(alloc, &mut self.log, records, self.chunk, entry)?;
+        add_record(&mut self.log, records, self.chunk, entry)?;
         self.events += 1;
         self.bytes += size;
         Ok(())

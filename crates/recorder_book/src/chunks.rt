@@ -11,8 +11,7 @@ ghost use Rattle.recorder_book.specs.Chunks.{AreKept, IsRecordOf, chunks_text, f
 use call_inspector::Records;
 use log_codec::put_chunk;
 use run_events::Record;
-use std::alloc::{AllocError, Global};
-use std::mem;
+use std::alloc::AllocError;
 
 /// Puts the last of a thread's records, so many of them, into the log as one chunk. Without memory nothing is put.
 fn put_last(
@@ -50,52 +49,10 @@ fn put_filled(
     put_last(log, thread, chunk as usize, records)
 }
 
-/// Adds a record at the end.
-fn push_record(records: &mut Vec<Record>, entry: Record) -> Result<(), AllocError>
-    ensures ok { OnOk result (records.new.items ≡ records.old.items ++ entry ∷ []) }
-    ensures err { OnErr result (records.new.items ≡ records.old.items) }
-{
-    records.push(entry)?;
-    Ok(())
-}
-
-/// Takes the last record away.
-fn drop_record(records: &mut Vec<Record>)
-    ensures { (before : List Record) (r : Record) → records.old.items ≡ before ++ r ∷ [] →
-        records.new.items ≡ before }
-{
-    records.pop();
-}
-
 /// Adds a record to those of its thread. Where they then number a multiple of `chunk`, the last `chunk` of them are put into
 /// the log. Without memory nothing is added.
+#[inline(always)]
 pub fn add_record(
-    log: &mut Vec<u8>,
-    records: &mut Vec<Record>,
-    chunk: u16,
-    entry: Record,
-) -> Result<(), AllocError>
-    requires chunk { 1 ≤ chunk }
-    requires records { AllByRecursion (IsRecordOf entry.thread) records.old.items }
-    requires entry { IsRecordOf entry.thread entry }
-    ensures records { OnOk result (records.new.items ≡ records.old.items ++ entry ∷ []) }
-    ensures log { OnOk result (log.new.items ≡ log.old.items ++
-        chunks_text (filled chunk entry.thread records.new.items)) }
-    ensures same_records { OnErr result (records.new.items ≡ records.old.items) }
-    ensures same_log { OnErr result (log.new.items ≡ log.old.items) }
-{
-    let thread = entry.thread;
-    push_record(records, entry)?;
-    let put = put_filled(log, thread, chunk, records);
-    if put.is_err() {
-        drop_record(records);
-    }
-    put
-}
-
-/// The same of records that a run shows.
-pub fn add_shown(
-    alloc: Global,
     log: &mut Vec<u8>,
     records: &mut Records,
     chunk: u16,
@@ -110,10 +67,14 @@ pub fn add_shown(
     ensures same_records { OnErr result (records.new ≡ records.old) }
     ensures same_log { OnErr result (log.new.items ≡ log.old.items) }
 {
-    let mut items = mem::replace(records, Records::new(alloc)).into_vec();
-    let added = add_record(log, &mut items, chunk, entry);
-    *records = Records::from(items);
-    added
+    let thread = entry.thread;
+    let count = records.as_slice().len();
+    records.push(entry)?;
+    let put = put_filled(log, thread, chunk, records.as_slice());
+    if put.is_err() {
+        records.truncate(count);
+    }
+    put
 }
 
 /// Puts into the log what a thread kept back, if anything.

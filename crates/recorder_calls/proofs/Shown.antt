@@ -1,6 +1,7 @@
 -- Pieces that have what memory has in their ranges.
 use Rattle.std.proofs.Common.{◌≡◌, false, ℕ, zero, suc, ◌+◌, ◌<◌, List, [], ◌∷◌, ◌++◌, length, Option, Some, None, refl, sym, ap, ◌∙◌, arith, All}
 use Rattle.std.specs.Prelude.{unwrap_or}
+use Rattle.std.proofs.lemmas.List.{append-nil}
 use Rattle.std.proofs.lemmas.List.Elements.{All-nil, All-cons}
 use Rattle.marks.specs.declared.range.Range.{Range}
 use Rattle.marks.specs.Ranges.{Piece, piece_ranges}
@@ -66,3 +67,8 @@ all_shown base [] h = All-nil (IsShown base.bytes)
 all_shown base (r ∷ rs) h = All-cons (IsShown base.bytes) (record { range = r; bytes = shown_in base.bytes r }) (pieces base.bytes rs)
     (record { whole = count base.bytes r.addr r.len; bytes_are = shows base.bytes r.addr r.len (λ i lt. h.0.live (r.addr + i) (covered r (r.addr + i) (omega arith) (omega (arith, lt)))) })
     (all_shown base rs h.1)
+
+-- no bytes add nothing
+pub none_printed : (output bytes : List ℕ) → length bytes ≡ 0 → output ≡ output ++ bytes
+none_printed output [] e = sym (append-nil output)
+none_printed output (b ∷ bytes) e = absurd (omega (arith, e))

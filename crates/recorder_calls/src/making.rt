@@ -7,7 +7,7 @@ ghost use Rattle.recorder_state.specs.Ends.{IsStopped};
 ghost use Rattle.recorder_events.specs.Room.{IsRoomOrEnd};
 ghost use Rattle.recorder_calls.specs.Calls.{IsCallNext};
 
-use crate::printing::printed;
+use crate::printing::{print, printed};
 use crate::testing::stop_of;
 use recorder_events::make_event;
 use recorder_state::{Inputs, RunState, Stop};
@@ -41,7 +41,7 @@ pub fn make(
     if let Err(_) = make_event(state, inputs, alloc, thread, keys, event) {
         return Err(Stop::Memory);
     }
-    if let Err(_) = state.output.extend_from_slice(printed.as_slice()) {
+    if let Err(_) = print(&mut state.output, printed.as_slice()) {
         return Err(Stop::Memory);
     }
     state.interface.register(keys);

@@ -32,6 +32,16 @@ pub fn printed(
     }
 }
 
+/// Adds these bytes to the output. Most Calls print none.
+pub fn print(output: &mut Vec<u8>, bytes: &[u8]) -> Result<(), AllocError>
+    ensures { OnOk result (output.new.items ≡ output.old.items ++ bytes.now) }
+{
+    if bytes.is_empty() {
+        return Ok(());
+    }
+    output.extend_from_slice(bytes)
+}
+
 // Whether the key of the output is one of them.
 fn prints(keys: &[Key]) -> bool
     ensures { result ≡ is_among keys.now (key_of Out 0) }

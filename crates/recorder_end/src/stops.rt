@@ -55,7 +55,7 @@ fn stop_thread(
             reason: reason(ending, thread),
         },
     };
-    state.book.add(alloc, entry)
+    state.book.add(entry)
 }
 
 // Why a run that ends so stops the thread.

@@ -21,6 +21,7 @@ ghost use Rattle.recorder_events.specs.Making.{IsAtUp, IsCallBackNext, IsEventSt
 
 use crate::making::make_event;
 use crate::room::full;
+use c_machine::Answer;
 use marks::Side;
 use recorder_state::{Inputs, RunState, Stop};
 use run_events::{Class, Event, Key, Words};
@@ -71,8 +72,7 @@ pub fn is_called_back(interface: &InterfaceState, main: u16, func: u16) -> bool
 pub fn copied_words(alloc: Global, words: &[u64]) -> Result<Words, AllocError>
     ensures { IfOk result (λ copy. copy ≡ words.now) }
 {
-    let mut items = Vec::new(alloc);
-    items.extend_from_slice(words)?;
+    let items = Vec::from_slice(alloc, words)?;
     Ok(Words::from(items))
 }
 
@@ -171,7 +171,9 @@ pub fn up_return(
     if let Err(stop) = make_up_return(state, inputs, memory, thread, value) {
         return Err(stop);
     }
-    state.threads.go(inputs.code, inputs.placed, thread);
-    state.end_step(inputs, thread);
+    let next = state
+        .threads
+        .next_after(inputs.code, inputs.placed, thread, Answer::Go);
+    state.end_step_known(inputs, thread, next);
     Ok(())
 }

@@ -11,6 +11,7 @@ use run_events::{Event, Key, Record};
 use std::alloc::{AllocError, Global};
 
 /// Records an event of the thread: it is given its numbers, and the book its record.
+#[inline(always)]
 pub fn make_event(
     state: &mut RunState,
     inputs: Inputs<'_>,
@@ -33,5 +34,5 @@ pub fn make_event(
         keys: stamp.keys,
         event,
     };
-    state.book.add(alloc, entry)
+    state.book.add(entry)
 }

@@ -17,6 +17,7 @@ ghost use Rattle.recorder_state.specs.Ends.{IsStopped};
 use crate::making::make_event;
 use crate::refusals::{not_read, refused_by, stop_above};
 use crate::room::full;
+use c_machine::Answer;
 use marks::Side;
 use memory_map::{Range, SYSTEM_MEMORY};
 use recorder_memory::Memory;
@@ -56,8 +57,11 @@ pub fn alloc(
     if let Err(_) = make_event(state, inputs, memory, thread, &[POOL_KEY], event) {
         return Err(Stop::Memory);
     }
-    state.threads.give(inputs.code, inputs.placed, thread, addr);
-    state.end_step(inputs, thread);
+    let answer = Answer::Value(addr);
+    let next = state
+        .threads
+        .next_after(inputs.code, inputs.placed, thread, answer);
+    state.end_step_known(inputs, thread, next);
     Ok(())
 }
 
@@ -132,7 +136,9 @@ pub fn free(
     if let Err(_) = make_event(state, inputs, memory, thread, &[POOL_KEY], event) {
         return Err(Stop::Memory);
     }
-    state.threads.go(inputs.code, inputs.placed, thread);
-    state.end_step(inputs, thread);
+    let next = state
+        .threads
+        .next_after(inputs.code, inputs.placed, thread, Answer::Go);
+    state.end_step_known(inputs, thread, next);
     Ok(())
 }

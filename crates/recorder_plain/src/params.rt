@@ -23,6 +23,7 @@ pub struct ParamPlaces {
 
 impl ParamPlaces {
     /// The places of the function's parameters.
+    #[inline(always)]
     pub fn of(code: &FusedCode, func: u16) -> ParamPlaces
         ensures offsets { result.offsets.items ≡ param_offsets 0 (params_of (func_of code.now func)) }
         ensures widths { result.widths.items ≡ param_widths (params_of (func_of code.now func)) }
@@ -43,22 +44,25 @@ fn check(code: &FusedCode)
 }
 
 // The places of parameters of these types.
+#[inline(always)]
 fn places_of(params: &[Shape]) -> ParamPlaces
     requires { length params.now ≤ most_params }
     ensures offsets { result.offsets.items ≡ param_offsets 0 params.now }
     ensures widths { result.widths.items ≡ param_widths params.now }
 {
-    let mut offsets = ArrayVec::new();
-    let mut widths = ArrayVec::new();
+    let mut places = ParamPlaces {
+        offsets: ArrayVec::new(),
+        widths: ArrayVec::new(),
+    };
     let mut end = 0;
     for shape in params {
         let width = size_of(*shape);
         let offset = place_after(end, width);
-        offsets.push(offset);
-        widths.push(width);
+        places.offsets.push(offset);
+        places.widths.push(width);
         end = offset + u64::from(width);
     }
-    ParamPlaces { offsets, widths }
+    places
 }
 
 // The size of a type in bytes.

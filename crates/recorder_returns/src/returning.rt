@@ -48,10 +48,8 @@ impl Returning {
     {
         let code = inputs.code.code();
         let ops = inputs.stubs.ops(func);
-        self.done.fill(code, ops, func, args, 0)?;
-        self.ranges.clear();
-        self.ranges.extend_from_slice(self.done.outs())?;
-        self.done.fill(code, ops, func, args, value)?;
+        self.done
+            .fill_at_return(code, ops, func, args, value, &mut self.ranges)?;
         self.done.return_keys(&mut self.keys)
     }
 

@@ -1,5 +1,5 @@
 -- A step in which a call comes to its result.
-use Rattle.std.proofs.Common.{◌≡◌, ℕ, ◌<◌, inl, inr, true, false, ◌&&◌, not, eqb, List, [], ◌∷◌, length, Some, None, refl, sym, ap, ◌∙◌, subst, eqb-true, get_or, Result, Ok, Err}
+use Rattle.std.proofs.Common.{◌≡◌, ℕ, ◌<◌, inl, inr, true, false, ◌&&◌, not, eqb, List, [], ◌∷◌, length, Some, None, refl, sym, ap, ◌∙◌, subst, eqb-true, get_or, arith}
 use Rattle.marks.specs.Marks.{Mark}
 use Rattle.marks.specs.Wants.{Want, Outside, Turns, Loads, Stores, Enters, Leaves, Allocs, Frees, Calls, Below, Gives, Returns, CallsBack, UpReturns, Steps, Fails, Answer, Go, Value}
 use Rattle.c_builtins.specs.declared.builtin.Builtin.TheVariants.{Spawn}
@@ -14,13 +14,12 @@ use Rattle.whole_runs.specs.Picks.{Asked, asked, can_step, is_free}
 use Rattle.whole_runs.specs.Below.{Says, given}
 use Rattle.whole_runs_seen.specs.Suits.{Suits}
 use Rattle.whole_runs_threads.proofs.Suits.{answers_suit}
-use Rattle.recorder_threads.specs.Threads.{AreThreadsOf, args_at}
+use Rattle.recorder_threads.specs.Threads.{AreInside, AreThreadsOf, args_at}
 use Rattle.recorder_threads.specs.Answers.{IsAnswered, IsNoCall, IsPlain, IsStart}
 use Rattle.recorder_threads.proofs.Answering.{below}
 use Rattle.recorder_threads.proofs.Places.{count_is}
-use Rattle.whole_runs_threads.proofs.Own.{numbered_so}
+use Rattle.whole_runs_threads.proofs.Own.{numbered_so, started_on}
 use Rattle.c_code.specs.Valid.{IsValid}
-use Rattle.std.specs.Prelude.{OnOk}
 use Rattle.std.proofs.lemmas.Bool.{and_parts}
 use Rattle.recorder_system.specs.Calls.{HasInt, IsOutcome, Notes}
 use Rattle.recorder_system.proofs.Noted.{none_apart}
@@ -156,10 +155,6 @@ is_back_plain w s t func result h = record { next = is_answered w s t func resul
 
 -- ---- the thread that is given a result
 
-pub on_ok : {A X E : Type 0} (P : A → Type 0) (r : Result X E) → ((a : A) → OnOk r (P a)) → OnOk r ((a : A) → P a)
-on_ok P (Ok x) h = h
-on_ok P (Err e) h = tt
-
 module _ (l : Laid) (threads : List ThreadState) (t func v : ℕ) (a : IsResult l threads t func v) where
   abbrev xs : List ℕ
   xs = args_at threads t
@@ -202,3 +197,18 @@ module _ (l : Laid) (threads : List ThreadState) (t func v : ℕ) (a : IsResult 
         starts = starts;
         with_args = e;
       }
+
+  abbrev pub starts_so : starts_thread func v ≡ true → (args : List ℕ) → args ≡ xs → IsStart l threads t (get_or args 0 0) (get_or args 1 0)
+  starts_so starts args e = starts_one starts (get_or args 0 0) (get_or args 1 0) (takes_two starts ∙ (λ i. get_or (sym e i) 0 0 ∷ get_or (sym e i) 1 0 ∷ []))
+
+  -- after the mark it is there as before, and all threads wait inside their code
+  pub there_then : (after : List ThreadState) → AreThreadsOf a.next.world (a.next.mark ∷ a.next.past) after → t < length after
+  there_then after stand =
+      let lt = there in
+      let before = count_is a.next.world a.next.past threads a.next.stand in
+      let now = count_is a.next.world (a.next.mark ∷ a.next.past) after stand in
+      let on = started_on a.next.past a.next.mark in
+      omega (arith, lt, before, now, on)
+
+  pub inside_then : (after : List ThreadState) → AreThreadsOf a.next.world (a.next.mark ∷ a.next.past) after → AreInside l after
+  inside_then after stand = subst (λ (k : Laid). AreInside k after) a.next.laid stand.inside

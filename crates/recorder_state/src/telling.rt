@@ -1,6 +1,6 @@
 //! What the state is told of a step that was made in memory.
 
-ghost use Rattle.std.specs.Prelude.{◌≡◌, ◌+◌, ◌∷◌, OnOk};
+ghost use Rattle.std.specs.Prelude.{◌≡◌, ◌+◌, ◌∷◌, IfOk, OnOk};
 ghost use Rattle.marks.specs.Wants.{Value};
 ghost use Rattle.c_machine.specs.Wants.{told};
 ghost use Rattle.recorder_threads.specs.Answers.{IsNoCall, IsPlain};
@@ -74,8 +74,8 @@ impl RunState {
         ensures steps { OnOk result (self.new.steps ≡ self.old.steps + 1) }
     {
         self.system.note(thread, func, self.threads.args(thread))?;
-        give_to(&mut self.threads, alloc, inputs, thread, func, value)?;
-        self.end_step(inputs, thread);
+        let next = give_to(&mut self.threads, alloc, inputs, thread, func, value)?;
+        self.end_step_known(inputs, thread, next);
         Ok(())
     }
 
@@ -88,8 +88,10 @@ impl RunState {
         ensures steps { OnOk result (self.new.steps ≡ self.old.steps + 1) }
     {
         self.system.note(thread, func, self.threads.args(thread))?;
-        self.threads.go(inputs.code, inputs.placed, thread);
-        self.end_step(inputs, thread);
+        let next = self
+            .threads
+            .next_after(inputs.code, inputs.placed, thread, Answer::Go);
+        self.end_step_known(inputs, thread, next);
         Ok(())
     }
 
@@ -100,11 +102,21 @@ impl RunState {
         ensures steps { self.new.steps ≡ self.old.steps + 1 }
     {
         let next = self.threads.want(inputs.code, inputs.placed, thread);
+        self.end_step_known(inputs, thread, next);
+    }
+
+    /// The same where the code of the thread is known to have come to this.
+    pub fn end_step_known(&mut self, inputs: Inputs<'_>, thread: u8, next: Next)
+        requires told { IsStepTold (world_of inputs) self.old thread }
+        requires next { IsNextOf (world_of inputs).laid self.old.threads thread next }
+        ensures reached { IsReached (world_of inputs.entry) self.new }
+        ensures steps { self.new.steps ≡ self.old.steps + 1 }
+    {
         self.end_step_at(inputs, thread, next);
         self.keep(thread, next);
     }
 
-    // The same where the code of the thread has come to this, which isn't kept.
+    // The same, which isn't kept.
     #[inline(always)]
     fn end_step_at(&mut self, inputs: Inputs<'_>, thread: u8, next: Next)
         requires told { IsStepTold (world_of inputs) self.old thread }
@@ -135,7 +147,7 @@ fn tell(threads: &mut Threads, inputs: Inputs<'_>, thread: u8, answer: Answer) -
     }
 }
 
-// Gives the thread the value of its call, which may start one more thread.
+// Gives the thread the value of its call, which may start one more thread: what its code comes to then.
 fn give_to(
     threads: &mut Threads,
     alloc: Global,
@@ -143,19 +155,21 @@ fn give_to(
     thread: u8,
     func: u16,
     value: u64,
-) -> Result<(), AllocError>
+) -> Result<Next, AllocError>
     requires { IsResult (world_of inputs).laid threads.old thread func value }
-    ensures { OnOk result ((a : IsResult (world_of inputs.entry).laid threads.old thread func value) →
+    ensures stand { OnOk result ((a : IsResult (world_of inputs.entry).laid threads.old thread func value) →
         AreThreadsOf a.next.world (a.next.mark ∷ a.next.past) threads.new) }
+    ensures next { IfOk result (IsNextOf (world_of inputs.entry).laid threads.new thread) }
 {
     if is_start(func, value) {
         let args = threads.args(thread);
         let address = args[0];
         let argument = args[1];
-        return threads.start(alloc, inputs.code, inputs.placed, thread, address, argument);
+        threads.start(alloc, inputs.code, inputs.placed, thread, address, argument)?;
+        return Ok(threads.want(inputs.code, inputs.placed, thread));
     }
-    threads.give(inputs.code, inputs.placed, thread, value);
-    Ok(())
+    let answer = Answer::Value(value);
+    Ok(threads.next_after(inputs.code, inputs.placed, thread, answer))
 }
 
 // Whether a call of the function that comes to this value starts a thread.

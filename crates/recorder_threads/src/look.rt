@@ -5,9 +5,10 @@ ghost use Rattle.c_code.specs.Machine.{Config, action, func_of};
 ghost use Rattle.c_code.specs.MarkLists.{Split, step};
 ghost use Rattle.c_code.specs.Valid.{IsValid};
 ghost use Rattle.c_machine.specs.declared.wants.Want.TheVariants.{Call as ShownCall};
+ghost use Rattle.c_machine.specs.Accesses.{Makes};
 ghost use Rattle.c_machine.specs.Moves.{IsInside, MayFeed, after_answer};
 ghost use Rattle.c_machine.specs.Positions.{laid};
-ghost use Rattle.c_machine.specs.Readers.{args_of};
+ghost use Rattle.c_machine.specs.Readers.{args_of, side_of};
 ghost use Rattle.c_machine.specs.Wants.{shown, told};
 ghost use Rattle.recorder_threads.specs.Wants.{IsNextTold};
 ghost use Rattle.recorder_threads.specs.Telling.{RestsAt, body_frame as frame_is, entered_as, told_call as call_is, told_crossing as crossing_is, told_mark as mark_is};
@@ -15,7 +16,7 @@ ghost use Rattle.recorder_threads.specs.Telling.{RestsAt, body_frame as frame_is
 use crate::wants::{Next, Want};
 use c_code::{Placed, Side};
 use c_code_fused::FusedCode;
-use c_machine::{Answer, Thread, Want as Shown};
+use c_machine::{Accesses, Answer, Thread, Want as Shown};
 
 // What it comes to.
 pub(crate) fn next_of(thread: &Thread, code: &FusedCode, placed: &Placed) -> Next
@@ -44,6 +45,26 @@ pub(crate) fn next_after(
         (step Split (laid code.now placed.now) c) }
 {
     let want = thread.feed_next(code, placed, answer);
+    next_where(thread, code, placed, want)
+}
+
+// The thread makes accesses and rounds, as far as `accesses` makes them: what it comes to then.
+#[inline(always)]
+pub(crate) fn next_after_accesses<A: Accesses>(
+    thread: &mut Thread,
+    code: &FusedCode,
+    placed: &Placed,
+    accesses: &mut A,
+) -> Next
+    requires inside { IsInside (laid code.now placed.now) thread.old.config }
+    ensures made { Makes A.makes (laid code.now placed.now) (side_of thread.old.config) accesses.old
+        thread.old accesses.new thread.new }
+    ensures inside { IsInside (laid code.now placed.now) thread.new.config }
+    ensures next { (c : Config) → RestsAt (laid code.now placed.now) c thread.new →
+        IsNextTold (laid code.now placed.now) (args_of thread.new.config) result
+        (step Split (laid code.now placed.now) c) }
+{
+    let want = thread.make_accesses(code, placed, accesses);
     next_where(thread, code, placed, want)
 }
 

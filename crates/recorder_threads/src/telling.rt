@@ -1,26 +1,27 @@
 //! What the threads of a run are told.
 
-ghost use Rattle.std.specs.Prelude.{◌≡◌, ◌≢◌, ℕ, ◌∷◌, IfOk, OnOk, OnErr};
+ghost use Rattle.std.specs.Prelude.{◌≡◌, ◌≢◌, ℕ, ◌<◌, ◌∷◌, length, slice_set, IfOk, OnOk, OnErr};
 ghost use Rattle.memory_map.specs.declared.placed.Placed.{Placed as Places};
 ghost use Rattle.marks.specs.Wants.{Go, Value, Frame};
+ghost use Rattle.c_machine.specs.Accesses.{Makes};
 ghost use Rattle.c_machine.specs.Positions.{laid};
 ghost use Rattle.c_machine.specs.Follows.{MayTell, after_report, frame_report};
 ghost use Rattle.c_code.specs.Machine.{Config};
 ghost use Rattle.c_code.specs.MarkLists.{Split, step};
 ghost use Rattle.c_machine.specs.Moves.{IsInside};
-ghost use Rattle.c_machine.specs.Readers.{args_of};
+ghost use Rattle.c_machine.specs.Readers.{args_of, side_of};
 ghost use Rattle.c_machine.specs.Wants.{told};
-ghost use Rattle.recorder_threads.specs.Threads.{AreThreadsOf, IsBegun, IsNextOf};
+ghost use Rattle.recorder_threads.specs.Threads.{AreInside, AreThreadsOf, IsBegun, IsNextOf, thread_at};
 ghost use Rattle.recorder_threads.specs.Wants.{IsNextTold};
 ghost use Rattle.recorder_threads.specs.Telling.{RestsAt};
 ghost use Rattle.recorder_threads.specs.Answers.{IsCall, IsCalledBack, IsNoCall, IsPlain, IsStart};
 
-use crate::look::next_after;
+use crate::look::{next_after, next_after_accesses};
 use crate::threads::{MOST_OPEN, Threads};
 use crate::wants::Next;
 use c_code::Placed;
 use c_code_fused::FusedCode;
-use c_machine::{Answer, Thread, Want as Shown, start_of};
+use c_machine::{Accesses, Answer, Thread, Want as Shown, start_of};
 use std::alloc::{AllocError, Global};
 
 impl Threads {
@@ -87,6 +88,27 @@ impl Threads {
         ensures next { IsNextOf (laid code.now placed.now) self.new thread result }
     {
         enter(&mut self.threads[thread as usize], code, placed, frame)
+    }
+
+    /// The thread goes on in one stretch from the mark that it wants next, as long as that is an access or a round that `accesses`
+    /// makes: what its code comes to then.
+    #[inline(always)]
+    pub fn make_accesses<A: Accesses>(
+        &mut self,
+        code: &FusedCode,
+        placed: &Placed,
+        thread: u8,
+        accesses: &mut A,
+    ) -> Next
+        requires started { thread < length self.old }
+        requires inside { AreInside (laid code.now placed.now) self.old }
+        ensures made { Makes A.makes (laid code.now placed.now) (side_of (thread_at self.old thread).config)
+            accesses.old (thread_at self.old thread) accesses.new (thread_at self.new thread) }
+        ensures others { self.new ≡ slice_set self.old thread (thread_at self.new thread) }
+        ensures inside { AreInside (laid code.now placed.now) self.new }
+        ensures next { IsNextOf (laid code.now placed.now) self.new thread result }
+    {
+        next_after_accesses(&mut self.threads[thread as usize], code, placed, accesses)
     }
 
     /// The Up of the function that the code of the thread calls through an address was made.

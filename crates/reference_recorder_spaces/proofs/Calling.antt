@@ -1,5 +1,5 @@
 -- A Call, whose parts are added one after the other.
-use Rattle.std.proofs.Common.{◌≡◌, ℕ, ◌+◌, ◌-◌, ◌^◌, ◌<◌, ◌≤◌, Bool, true, false, ◌||◌, eqb, List, [], ◌∷◌, ◌++◌, map, length, get_or, take, All, append_assoc, Option, Some, None, inl, inr, ⊎_elim, refl, ap, sym, ◌∙◌, subst, arith, eqb-true, get_or-set_same}
+use Rattle.std.proofs.Common.{◌≡◌, ℕ, ◌+◌, ◌-◌, ◌^◌, ◌<◌, ◌≤◌, Bool, true, false, cond, ◌||◌, eqb, List, [], ◌∷◌, ◌++◌, map, length, get_or, take, All, append_assoc, Option, Some, None, inl, inr, ⊎_elim, refl, ap, sym, ◌∙◌, subst, arith, eqb-true, get_or-set_same}
 use Rattle.std.specs.Prelude.{slice_index, slice_set}
 use Rattle.std.specs.List.{list_any}
 use Rattle.std.proofs.lemmas.List.Folds.{list_any-append}
@@ -11,7 +11,7 @@ use Rattle.marks.specs.Places.{thread_count, is_system}
 use Rattle.marks.specs.declared.range.Range.{Range}
 use Rattle.marks.specs.Ranges.{Piece, Prepared, any_piece, any_prepared, any_range, covers, piece_ranges}
 use Rattle.marks.specs.Marks.{Call, Event, Made, Mark}
-use Rattle.marks.specs.Bytes.{Asks, Dead, Live, EventAsks, IsLive, Shows, event_reads, event_writes, touches, writes}
+use Rattle.marks.specs.Bytes.{Asks, Cell, Dead, Held, Live, EventAsks, IsLive, Shows, cell_after, event_leaves, event_reads, event_writes, hold, touches, writes}
 use Rattle.space_memory_bytes.specs.Areas.{byte_at}
 use Rattle.space_memory_bytes.specs.Numbers.{HasBytes}
 use Rattle.space_memory_access.specs.declared.holder.Holder.TheVariants.{Key}
@@ -35,10 +35,11 @@ use Rattle.space_memory_laws.proofs.CallRules.{any_both, call_made}
 use Rattle.space_memory_laws.proofs.Calls.{no_region}
 use Rattle.space_memory_laws.proofs.Cells.{covered}
 use Rattle.space_memory_laws.proofs.Parts.{held_range, opened, prepared_range}
-use Rattle.reference_recorder_spaces.specs.Next.{Adds, AreFree, IsNext, IsNextPart, IsRegion, has_byte, writes_byte}
+use Rattle.reference_recorder_spaces.specs.Next.{Adds, AreFree, IsNext, IsNextPart, IsRegion, IsUntouched, has_byte, writes_byte}
 use Rattle.reference_recorder_spaces.proofs.Allowed.{not_dead, not_pending}
 use Rattle.reference_recorder_spaces.proofs.Parts.{all_free, next_after, next_first, reads_apart, reads_take, reads_write, written, written_apart, written_has, written_takes, written_write}
 use Rattle.reference_recorder_spaces.proofs.Same.{plain_is}
+use Rattle.reference_recorder_spaces.proofs.Untouched.{held_byte, untouched_if}
 
 -- ---- one part more
 
@@ -234,6 +235,22 @@ module _ (old : SpaceState) (t func : ℕ) (args : List ℕ) (ins : List Piece) 
     keys = λ k c. in_use_none k (sym (written_takes outs prepared k) ∙ sym (reads_take (λ (p : Piece). p.range) ins ws k) ∙ c);
   }
 
+  -- a byte that is pending then is what it was
+  as_held : (x v : ℕ) → is_system x ≡ false → cell_after n.mark.act x (byte n.start x n.past).cell ≡ Held v → byte_at old.bytes x ≡ Some v
+  as_held x v own e = go (any_range outs x || any_prepared prepared x) (byte n.start x n.past).cell refl
+      (sym (ap (λ a. cell_after a x (byte n.start x n.past).cell) made ∙ ap (λ k. event_leaves k x (byte n.start x n.past).cell) kind) ∙ e)
+    where
+      was_held : (c : Cell) → (byte n.start x n.past).cell ≡ c → c ≡ Held v → byte_at old.bytes x ≡ Some v
+      was_held c is z = held_byte n.start n.past old n.stands n.untouched x v own (is ∙ z)
+
+      go : (b : Bool) (c : Cell) → (byte n.start x n.past).cell ≡ c → cond b (hold c) c ≡ Held v → byte_at old.bytes x ≡ Some v
+      go true Dead is z = was_held Dead is z
+      go true (Live w) is z =
+          let same : w ≡ v = cc in
+          live_is (byte_at old.bytes x) (value_when_held old.held.regions x) v (sym (n.stands.bytes x own) ∙ is ∙ ap (λ u. Live u) same)
+      go true (Held w) is z = was_held (Held w) is z
+      go false c is z = was_held c is z
+
   module _ (small : t < thread_count) (begun : SpaceState) (held : begun.held ≡ record old.held { depths = slice_set old.held.depths t (slice_index old.held.depths t + 1) })
       (rest : begun ≡ record old { held = begun.held }) where
     in_call : InCall n.start n.past t [] old begun
@@ -261,7 +278,7 @@ module _ (old : SpaceState) (t func : ℕ) (args : List ℕ) (ins : List Piece) 
     next_prepares read held adds holds = next_after t (map Holds outs) (map prepared_part prepared) read held (after_reads read adds) holds
 
     pub calls : (read held prepares : SpaceState) → Adds t (map (λ (p : Piece). Reads p.range) ins) begun read → Adds t (map Holds outs) read held →
-        Adds t (map prepared_part prepared) held prepares → StandsFor n.start (n.mark ∷ n.past) prepares
+        Adds t (map prepared_part prepared) held prepares → StandsFor n.start (n.mark ∷ n.past) prepares × IsUntouched prepares
     calls read held prepares a b c =
         let s = n.start in
         let reads = map (λ (p : Piece). Reads p.range) ins in
@@ -269,7 +286,8 @@ module _ (old : SpaceState) (t func : ℕ) (args : List ℕ) (ins : List Piece) 
         let parts : (reads ++ map Holds outs) ++ map prepared_part prepared ≡ parts_of (piece_ranges ins) outs prepared = append_assoc reads (map Holds outs) (map prepared_part prepared) ∙ ap (λ ps. ps ++ (map Holds outs ++ map prepared_part prepared)) (read_parts ins) in
         let made' : InCall s n.past n.mark.thread (parts_of (piece_ranges ins) outs prepared) old prepares =
         subst (λ u. InCall s n.past u (parts_of (piece_ranges ins) outs prepared) old prepares) (sym n.of_thread) (subst (λ ps. InCall s n.past t ps old prepares) parts whole) in
-        (call_made s n.past old prepares n.mark e func args ins outs prepared made' made kind (shown ins carries.1 (λ x. (asks x).0) own_read) keyed).mark.stands
+        let stands = (call_made s n.past old prepares n.mark e func args ins outs prepared made' made kind (shown ins carries.1 (λ x. (asks x).0) own_read) keyed).mark.stands in
+        (stands, untouched_if s (n.mark ∷ n.past) prepares stands (λ x v own e. ap (λ (q : SpaceState). byte_at q.bytes x) whole.rest ∙ as_held x v own e))
       where
         read_parts : (ps : List Piece) → map (λ (p : Piece). Reads p.range) ps ≡ map Reads (piece_ranges ps)
         read_parts [] = refl

@@ -9,7 +9,7 @@ use Rattle.marks.specs.declared.range.Range.{Range}
 use Rattle.marks.specs.Ranges.{within}
 use Rattle.marks.specs.Ranges as marks
 use Rattle.marks.specs.Marks.{Act, Enter, Fault, Leave, Load, Made, Mark, Step, Store, Turn}
-use Rattle.marks.specs.Bytes.{Asks, IsLive, Live, touches, writes}
+use Rattle.marks.specs.Bytes.{Asks, Cell, Dead, IsLive, Live, cell_after, touches, writes}
 use Rattle.marks.specs.Wants.{Want}
 use Rattle.space_memory_bytes.specs.Numbers.{FillsWith}
 use Rattle.space_memory_access.specs.declared.refusal.Refusal.{Refusal}
@@ -35,9 +35,10 @@ use Rattle.space_memory_laws.proofs.Cells.{covered}
 use Rattle.space_memory_laws.proofs.Frames as memory
 use Rattle.space_memory_laws.proofs.Rooms.{full_stacks}
 use Rattle.space_memory_laws.proofs.Stacks.{IsInnermost, count_is, innermost, last_of}
-use Rattle.reference_recorder_spaces.specs.Next.{IsDone, IsNext}
+use Rattle.reference_recorder_spaces.specs.Next.{IsDone, IsNext, IsUntouched}
 use Rattle.reference_recorder_spaces.proofs.Allowed.{allowed, not_pending}
 use Rattle.reference_recorder_spaces.proofs.Same.{plain_is}
+use Rattle.reference_recorder_spaces.proofs.Untouched.{stays_outside}
 
 -- a frame that is entered lies at the next place of its stack, and has room there
 abbrev HasPlace : ℕ → List Mark → Act → Type 0
@@ -146,7 +147,10 @@ module _ (old mid new : SpaceState) (t addr : ℕ) (bytes : List ℕ) (small : t
       let by : IsEntered Replay old new n.mark.thread addr (length bytes) bytes = subst (λ u. IsEntered Replay old new u addr (length bytes) bytes) (sym n.of_thread) entered in
       let there = memory.enters n.start n.past old new (record n.mark { act = Enter func args addr bytes }) func args bytes addr (length bytes) n.stands lt by refl in
       let same : at ≡ addr = (placed n.program n.start n.past n.mark n.allowed func args at bytes is).0 ∙ sym there.place in
-      (memory.enters n.start n.past old new n.mark func args bytes addr (length bytes) n.stands lt by (is ∙ ap (λ x. Enter func args x bytes) same)).mark.stands
+      let act : n.mark.act ≡ Enter func args addr bytes = is ∙ ap (λ x. Enter func args x bytes) same in
+      let stands = (memory.enters n.start n.past old new n.mark func args bytes addr (length bytes) n.stands lt by act).mark.stands in
+      let cell : ℕ → Cell = λ x. Live (marks.byte_at addr bytes x) in
+      (stands, stays_outside n.start n.past n.mark old new n.stands n.untouched stands (reach addr (length bytes)) cell (λ x held. held) (λ x. ap (λ a. cell_after a x (byte n.start x n.past).cell) act) entered.others.bytes)
 
 module _ (old : SpaceState) (t at size : ℕ) (small : t < thread_count) (n : IsNext old t (Leave at size)) where
   abbrev own : List Range
@@ -204,13 +208,17 @@ module _ (old : SpaceState) (t at size : ℕ) (small : t < thread_count) (n : Is
   may_leave r p = no_pending r (subst (λ o. IsLeaveRefused Replay old.held.regions o r) (ap (top_of (side_of old.sides Replay)) (sym n.of_thread) ∙ top_is) p)
 
   pub leaves : (new : SpaceState) (frame : Range) → ((r : Refusal) → IsLeaveRefused Replay old.held.regions (top_of (side_of old.sides Replay) t) r → ⊥) →
-      IsLeft Replay old new t frame → StandsFor n.start (n.mark ∷ n.past) new
+      IsLeft Replay old new t frame → StandsFor n.start (n.mark ∷ n.past) new × IsUntouched new
   leaves new frame free l =
       let u = n.mark.thread in
       let left : IsLeft Replay old new u frame = subst (λ u. IsLeft Replay old new u frame) (sym n.of_thread) l in
       let k : IsInnermost own (frames_of new.sides.replay u) frame = innermost own (frames_of new.sides.replay u) frame (sym frames_are ∙ left.frames) in
       let top : LeavesFirst (Leave at size) (k.top ∷ k.below) = subst (LeavesFirst (Leave at size)) k.is first in
       let as_left : Leave at size ≡ Leave frame.addr frame.len = (λ i. Leave (top.0 i) (top.1 i)) ∙ sym (ap (λ (q : Range). Leave q.addr q.len) k.frame_is) in
+      let act : n.mark.act ≡ Leave frame.addr frame.len = leave_is ∙ as_left in
+      let stands =
       (memory.leaves n.start n.past old new n.mark frame n.stands in_range
       (subst (λ v. (r : Refusal) → IsLeaveRefused Replay old.held.regions (top_of (side_of old.sides Replay) v) r → ⊥) (sym n.of_thread) free)
-      left (leave_is ∙ as_left)).stands
+      left act).stands in
+      let cell : ℕ → Cell = λ x. Dead in
+      (stands, stays_outside n.start n.past n.mark old new n.stands n.untouched stands frame cell (λ x held. held) (λ x. ap (λ a. cell_after a x (byte n.start x n.past).cell) act) l.dead.others.bytes)

@@ -1,4 +1,6 @@
 mod Same
+mod Untouched
+mod Filled
 mod Allowed
 mod Written
 mod Framed
@@ -6,6 +8,7 @@ mod Pooled
 mod Parts
 mod Calling
 mod Apart
+mod Pieces
 mod Giving
 mod Answered
 mod Still

@@ -7,13 +7,16 @@ use Rattle.marks.specs.Marks.{Mark}
 use Rattle.memory_map.specs.declared.areas.TheConstants.{THREADS, REPLAY_STACKS, REPLAY_POOL, SYSTEM_STACKS, SYSTEM_POOL}
 use Rattle.memory_map.specs.declared.placed.Place.{Place}
 use Rattle.c_code.specs.MarkLists.{same_side}
+use Rattle.space_memory_access.specs.Held.{HeldState}
 use Rattle.space_memory_bytes.specs.Areas.{byte_at}
 use Rattle.replay_runs.specs.Unseen.{Calm}
 use Rattle.space_memory.specs.Objects.{IsInArea, byte_of}
 use Rattle.space_memory.specs.Sides.{fresh_side}
 use Rattle.space_memory.specs.Spaces.{SpaceState}
+use Rattle.space_memory_laws.specs.Shown.{value_when_held}
 use Rattle.space_memory_laws.specs.StandsFor.{StandsFor}
 use Rattle.space_memory_laws.proofs.Fresh as fresh
+use Rattle.space_memory_laws.proofs.Regions.{some_none}
 use Rattle.whole_runs.specs.World.{World, begin, program_of}
 use Rattle.whole_runs.specs.Sides.{seen}
 use Rattle.whole_runs.specs.Ends.{Follows}
@@ -23,7 +26,7 @@ use Rattle.reference_recorder_marks.specs.declared.mark.Mark.{Mark as Told}
 use Rattle.reference_recorder_marks.specs.Marks.{act_of, mark_of}
 use Rattle.reference_recorder_threads.specs.Telling.{IsPast}
 use Rattle.reference_recorder_threads.proofs.Oldest.{as_many, follows_on, mark_at, mark_is, oldest, oldest_all, oldest_more, oldest_none}
-use Rattle.reference_recorder_spaces.specs.Next.{IsDone, IsNext}
+use Rattle.reference_recorder_spaces.specs.Next.{IsDone, IsNext, IsUntouched}
 use Rattle.reference_recorder_spaces.specs.Whole.{IsMarkNext, IsMemoryAfter, StandsForMore}
 
 in_areas : (os : List Place) → LieApart os → All IsInArea os
@@ -40,8 +43,11 @@ strings_in w fit = in_areas w.laid.placed.strings fit.placed.objects.string_area
 pub begins : (w : World) → IsFit w → (memory : SpaceState) →
     ((x : ℕ) → byte_at memory.bytes x ≡ byte_of w.laid.placed.strings x (byte_of w.laid.placed.globals x None)) →
     memory.held ≡ record { regions = []; depths = replicate THREADS 0 } →
-    memory.sides ≡ record { replay = fresh_side REPLAY_STACKS REPLAY_POOL; system = fresh_side SYSTEM_STACKS SYSTEM_POOL } → StandsFor (begin w) [] memory
-begins w fit memory bytes held sides = fresh.stands w.laid.placed _ memory (globals_in w fit) (strings_in w fit) (λ x own. refl) bytes held sides
+    memory.sides ≡ record { replay = fresh_side REPLAY_STACKS REPLAY_POOL; system = fresh_side SYSTEM_STACKS SYSTEM_POOL } → StandsFor (begin w) [] memory × IsUntouched memory
+begins w fit memory bytes held sides = (
+  fresh.stands w.laid.placed _ memory (globals_in w fit) (strings_in w fit) (λ x own. refl) bytes held sides,
+  λ x v e. absurd (some_none v (sym e ∙ ap (λ (q : HeldState). value_when_held q.regions x) held)),
+)
 
 module _ (w : World) (memory : SpaceState) (told : Told) (n : IsMarkNext w memory told) where
   side_is : n.mark.side ≡ told.side
@@ -64,6 +70,7 @@ module _ (w : World) (memory : SpaceState) (told : Told) (n : IsMarkNext w memor
       start = begin w;
       past = seen n.past;
       stands = n.stands;
+      untouched = n.untouched;
       mark = n.mark;
       of_thread = ap (λ (m : Mark). m.thread) n.same;
       same = ap (λ (m : Mark). m.act) n.same;
@@ -71,30 +78,31 @@ module _ (w : World) (memory : SpaceState) (told : Told) (n : IsMarkNext w memor
       first = calm_so.in_order.0;
     }
 
-    pub done_above : (new : SpaceState) → IsDone memory told.thread (act_of told.act) new → StandsFor (begin w) (seen (n.mark ∷ n.past)) new
+    pub done_above : (new : SpaceState) → IsDone memory told.thread (act_of told.act) new → StandsFor (begin w) (seen (n.mark ∷ n.past)) new × IsUntouched new
     unfolding next_above
-    done_above new done = subst (λ ms. StandsFor (begin w) ms new) (sym seen_so) (done next_above)
+    done_above new done = let both = done next_above in (subst (λ ms. StandsFor (begin w) ms new) (sym seen_so) both.0, both.1)
 
   -- below the cut it changes nothing
-  pub done_below : same_side told.side Replay ≡ false → StandsFor (begin w) (seen (n.mark ∷ n.past)) memory
+  pub done_below : same_side told.side Replay ≡ false → StandsFor (begin w) (seen (n.mark ∷ n.past)) memory × IsUntouched memory
   done_below below =
       let seen_so : seen (n.mark ∷ n.past) ≡ seen n.past = ap (λ b. cond b (n.mark ∷ seen n.past) (seen n.past)) (ap (λ d. same_side d Replay) side_is ∙ below) in
-      subst (λ ms. StandsFor (begin w) ms memory) (sym seen_so) n.stands
+      (subst (λ ms. StandsFor (begin w) ms memory) (sym seen_so) n.stands, n.untouched)
 
 -- ---- the oldest marks of a run
 
 abbrev pub StandsForOldest : World → List Told → ℕ → SpaceState → Type 0
-StandsForOldest w marks i memory = (p : IsPast w marks) → StandsFor (begin w) (seen (oldest i p.run)) memory
+StandsForOldest w marks i memory = (p : IsPast w marks) → StandsFor (begin w) (seen (oldest i p.run)) memory × IsUntouched memory
 
-pub before_all : (w : World) (marks : List Told) (memory : SpaceState) → StandsFor (begin w) [] memory → StandsForOldest w marks 0 memory
-before_all w marks memory h = λ p. subst (λ ms. StandsFor (begin w) (seen ms) memory) (sym (oldest_none p.run)) h
+pub before_all : (w : World) (marks : List Told) (memory : SpaceState) → StandsFor (begin w) [] memory × IsUntouched memory → StandsForOldest w marks 0 memory
+before_all w marks memory h = λ p. (subst (λ ms. StandsFor (begin w) (seen ms) memory) (sym (oldest_none p.run)) h.0, h.1)
 
 pub after_all : (w : World) (marks : List Told) (i : ℕ) (memory : SpaceState) → length marks ≤ i → StandsForOldest w marks i memory → IsMemoryAfter w marks memory
 after_all w marks i memory le h = λ p.
     let long : length p.run ≤ i = (let n = as_many p.run marks p.same in omega (arith, n, le)) in
-    subst (λ ms. StandsFor (begin w) (seen ms) memory) (oldest_all p.run i long) (h p)
+    subst (λ ms. StandsFor (begin w) (seen ms) memory) (oldest_all p.run i long) (h p).0
 
-module _ (w : World) (marks : List Told) (p : IsPast w marks) (i : ℕ) (k : Told) (lt : i < length marks) (is : k ≡ get_or marks i k) (memory : SpaceState) (h : StandsFor (begin w) (seen (oldest i p.run)) memory) where
+module _ (w : World) (marks : List Told) (p : IsPast w marks) (i : ℕ) (k : Told) (lt : i < length marks) (is : k ≡ get_or marks i k) (memory : SpaceState)
+    (h : StandsFor (begin w) (seen (oldest i p.run)) memory × IsUntouched memory) where
   pub next : IsMarkNext w memory k
   next = record {
     fit = p.fit;
@@ -102,9 +110,12 @@ module _ (w : World) (marks : List Told) (p : IsPast w marks) (i : ℕ) (k : Tol
     mark = mark_at p.run marks p.same i k lt is (mark_of k);
     same = mark_is p.run marks p.same i k lt is (mark_of k);
     follows = subst (Follows w) (oldest_more p.run marks p.same i k lt is (mark_of k)) (follows_on w (length p.run - (i + 1)) p.run p.follows);
-    stands = h;
+    stands = h.0;
+    untouched = h.1;
   }
 
-  pub after_next : (new : SpaceState) → StandsForMore w memory k new → StandsFor (begin w) (seen (oldest (i + 1) p.run)) new
+  pub after_next : (new : SpaceState) → StandsForMore w memory k new → StandsFor (begin w) (seen (oldest (i + 1) p.run)) new × IsUntouched new
   unfolding next
-  after_next new more = subst (λ ms. StandsFor (begin w) (seen ms) new) (sym (oldest_more p.run marks p.same i k lt is (mark_of k))) (more next)
+  after_next new more =
+      let both = more next in
+      (subst (λ ms. StandsFor (begin w) (seen ms) new) (sym (oldest_more p.run marks p.same i k lt is (mark_of k))) both.0, both.1)

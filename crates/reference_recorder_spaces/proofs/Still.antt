@@ -19,7 +19,7 @@ quiet_is (Fault kind crosses ins outs access) b e q = tt
 quiet_is (Made ev) b e q = subst IsQuiet (sym e) q
 
 pub still : (old : SpaceState) (t : ℕ) (act : Act) → IsQuiet act → IsDone old t act old
-still old t act q n = quiet n.start n.past old n.mark n.stands (quiet_is n.mark.act act n.same q)
+still old t act q n = (quiet n.start n.past old n.mark n.stands (quiet_is n.mark.act act n.same q), n.untouched)
 
 pub still_event : (old : SpaceState) (t : ℕ) (kind : EventKind) → IsQuietEvent kind → MakesKind old t kind old
 still_event old t kind q e is n = still old t (Made e) (subst IsQuietEvent (sym is) q) n

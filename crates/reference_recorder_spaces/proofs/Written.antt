@@ -6,7 +6,7 @@ use Rattle.marks.specs.Places.{is_system}
 use Rattle.marks.specs.Ranges.{covers}
 use Rattle.marks.specs.Ranges as marks
 use Rattle.marks.specs.Marks.{Store, Mark}
-use Rattle.marks.specs.Bytes.{Live, cell_after, block_after}
+use Rattle.marks.specs.Bytes.{Cell, Live, cell_after, block_after}
 use Rattle.space_memory_bytes.specs.Areas.{AreaState, byte_at}
 use Rattle.space_memory_bytes.specs.Numbers.{HasBytes}
 use Rattle.replay_runs.specs.Runs.{Start, byte}
@@ -20,6 +20,7 @@ use Rattle.space_memory_laws.proofs.Cells.{cover_cases, cover_parts}
 use Rattle.space_memory_laws.proofs.Moved.{moved}
 use Rattle.reference_recorder_spaces.specs.Next.{IsDone}
 use Rattle.reference_recorder_spaces.proofs.Same.{store_is}
+use Rattle.reference_recorder_spaces.proofs.Untouched.{stays_outside}
 
 -- a byte of those that memory has
 pub there : (bytes : List AreaState) (addr : ℕ) (values : List ℕ) (x : ℕ) → HasBytes bytes addr values → covers (reach addr (length values)) x ≡ true →
@@ -56,4 +57,6 @@ pub stores : (old new : SpaceState) (thread addr : ℕ) (bytes : List ℕ) → a
     (origin : Option ℕ) → IsDone old thread (Store origin addr bytes) new
 stores old new thread addr bytes small k origin n =
     let o = store_is n.mark.act origin addr bytes n.same in
-    stored n.start n.past old new n.mark o.0 thread addr bytes n.stands small k o.1
+    let stands = stored n.start n.past old new n.mark o.0 thread addr bytes n.stands small k o.1 in
+    let cell : ℕ → Cell = λ x. Live (marks.byte_at addr bytes x) in
+    (stands, stays_outside n.start n.past n.mark old new n.stands n.untouched stands (reach addr (length bytes)) cell (λ x held. held) (λ x. ap (λ a. cell_after a x (byte n.start x n.past).cell) o.1) k.others.bytes)

@@ -1,9 +1,9 @@
 -- The mark that a run makes next, in the words of replay runs, and what is done in memory for it.
-use Rattle.std.specs.Prelude.{◌≡◌, ℕ, ◌==◌, ◌<◌, Bool, true, false, ◌&&◌, List, [], ◌∷◌, ◌++◌, length, All, Option, Some, None}
+use Rattle.std.specs.Prelude.{◌≡◌, ℕ, ◌==◌, ◌<◌, Bool, true, false, ◌&&◌, List, [], ◌∷◌, ◌++◌, map, length, All, Option, Some, None}
 use Rattle.std.specs.List.{list_any}
 use Rattle.marks.specs.Places.{thread_count, is_constant, is_system}
 use Rattle.marks.specs.declared.range.Range.{Range}
-use Rattle.marks.specs.Ranges.{Piece, any_piece, covers, piece_ranges}
+use Rattle.marks.specs.Ranges.{Piece, any_range, covers, piece_ranges}
 use Rattle.marks.specs.Marks.{Act, Commit, Event, EventKind, Made, Mark, NoRegion, Released, Withheld}
 use Rattle.space_memory_bytes.specs.Areas.{byte_at}
 use Rattle.space_memory_bytes.specs.Numbers.{HasBytes}
@@ -18,24 +18,32 @@ use Rattle.space_memory.specs.Spaces.{SpaceState}
 use Rattle.space_memory_laws.specs.Calls.{Holds, InCall, IsFree, Part, Prepares, Reads, is_written, range_of}
 use Rattle.space_memory_laws.specs.Returns.{FitsIn}
 use Rattle.space_memory_laws.specs.Rights.{IsHandedDown}
+use Rattle.space_memory_laws.specs.Shown.{value_when_held}
 use Rattle.space_memory_laws.specs.StandsFor.{StandsFor}
 use Rattle.reference_recorder_marks.specs.Marks.{without_origin}
 
--- memory stands for a run in which the thread may do this next, but for the global that a path begins with
+-- each byte that is pending is still what it was when it was held
+abbrev pub IsUntouched : SpaceState → Type 0
+IsUntouched memory = (x v : ℕ) → value_when_held memory.held.regions x ≡ Some v →
+    byte_at memory.bytes x ≡ Some v
+
+-- memory, untouched so far, stands for a run in which the thread may do this next, but for the global that
+-- a path begins with
 pub record IsNext (memory : SpaceState) (thread : ℕ) (act : Act) : Type 0 where
   pub program : Program
   pub start : Start
   pub past : List Mark
   pub stands : StandsFor start past memory
+  pub untouched : IsUntouched memory
   pub mark : Mark
   pub of_thread : mark.thread ≡ thread
   pub same : without_origin mark.act ≡ act
   pub allowed : Allowed (replay_rules program start) start past mark
   pub first : LeavesFirst mark.act (frames (marks_of start mark.thread past))
 
--- then memory stands for the run with it
+-- then memory stands for the run with it, and is untouched still
 abbrev pub IsDone : (old : SpaceState) → (thread : ℕ) → Act → (new : SpaceState) → Type 0
-IsDone old t act new = (n : IsNext old t act) → StandsFor n.start (n.mark ∷ n.past) new
+IsDone old t act new = (n : IsNext old t act) → StandsFor n.start (n.mark ∷ n.past) new × IsUntouched new
 
 -- the same of an event of this kind
 abbrev pub IsKindNext : SpaceState → (thread : ℕ) → EventKind → Type 0
@@ -91,13 +99,18 @@ pub record IsNextPart (t : ℕ) (more : List Part) (memory : SpaceState) : Type 
 
 -- ---- a Ret
 
+-- where the bytes of a piece lie, the first of its range
+abbrev pub filled_range : Piece → Range
+filled_range p = record { addr = p.range.addr; len = length p.bytes }
+
 -- memory has the bytes of each piece, and no other was changed: the run doesn't see them yet
 pub record HasPieces (s : Start) (past : List Mark) (pieces : List Piece) (old new : SpaceState) :
     Type 0 where
   pub stands : StandsFor s past new
   pub held : new.held ≡ old.held
   pub bytes : All (λ p. HasBytes new.bytes p.range.addr p.bytes) pieces
-  pub others : (x : ℕ) → any_piece pieces x ≡ false → byte_at new.bytes x ≡ byte_at old.bytes x
+  pub others : (x : ℕ) → any_range (map filled_range pieces) x ≡ false →
+      byte_at new.bytes x ≡ byte_at old.bytes x
 
 -- so it is after code of the thread below the cut wrote pieces that fit in their ranges, which don't meet
 abbrev pub Puts : (thread : ℕ) → List Piece → (old new : SpaceState) → Type 0

@@ -18,8 +18,7 @@ use std::alloc::{AllocError, Global};
 /// The memory above the cut after these marks of a run, the oldest first: the objects of the program are placed, and each mark
 /// above the cut is done in it, one after the other.
 ///
-/// `AllocError` where there is no memory. The contract doesn't rule out that memory refuses to close the call of a Ret, for which the
-/// answer is the same.
+/// `AllocError` where there is no memory.
 pub fn spaces_after(alloc: Global, inputs: Inputs<'_>, marks: &[Mark]) -> Result<Spaces, AllocError>
     requires { IsPast (world_of inputs) marks.now }
     ensures { IfOk result (IsMemoryAfter (world_of inputs.entry) marks.now) }

@@ -15,7 +15,7 @@ use std::alloc::{AllocError, Global};
 /// Does a Ret that gives these pieces and commits this: they are written as code below the cut does, and the thread's innermost
 /// call is closed.
 ///
-/// `AllocError` where there is no memory, and where memory refuses to close the call.
+/// `AllocError` where there is no memory.
 pub fn give_back(
     spaces: &mut Spaces,
     alloc: Global,
@@ -34,7 +34,7 @@ pub fn give_back(
     let used = sizes_of(alloc, outs)?;
     match spaces.release(thread, &used, committing(commit)) {
         Ok(()) => Ok(()),
-        Err(_) => Err(AllocError),
+        Err(_) => unreachable!("its regions are filled as the pieces say, and its key is in use"),
     }
 }
 

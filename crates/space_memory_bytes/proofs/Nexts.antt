@@ -1,42 +1,45 @@
 -- The next live byte: among marks, in an area, and in all.
-use Rattle.std.proofs.Common.{◌≡◌, ◌≢◌, ℕ, ◌+◌, ◌-◌, ◌^◌, ◌<◌, ◌≤◌, true, eqb, List, [], length, drop, get_or, Option, Some, None, ap, sym, ◌∙◌, subst, inl, inr, arith}
+use Rattle.std.proofs.Common.{◌≡◌, ◌≢◌, ℕ, ◌+◌, ◌-◌, ◌<◌, ◌≤◌, List, [], length, drop, get_or, Option, None, ap, sym, ◌∙◌, subst, inl, inr, arith}
+use Rattle.std.specs.Prelude.{min}
 use Rattle.std.proofs.lemmas.Bool.{cases_lt, cases_order, eq-eqb, eqb-true}
 use Rattle.std.proofs.lemmas.List.{length-drop, get_or-drop}
-use Rattle.memchr.specs.Find.{IsFirst, Nowhere, NoneBefore, Passes, is_byte}
-use Rattle.space_memory_bytes.specs.Areas.{AreaState, holds, cell, byte_at, extents, RiseFrom, IsDead}
+use Rattle.memchr.specs.Find.{Nowhere, NoneBefore, Passes, is_byte}
+use Rattle.space_memory_bytes.specs.Areas.{AreaState, extents, RiseFrom, IsDead}
 use Rattle.space_memory_bytes.specs.AreaChanges.{IsLiveIn}
-use Rattle.space_memory_bytes.specs.Marks.{cells_of}
+use Rattle.space_memory_bytes.specs.Marks.{cells_in, AreMarks}
 use Rattle.space_memory_bytes.specs.Nexts.{IsNext}
 use Rattle.space_memory_bytes.proofs.Lookup.{holds_from, holds_parts, rise_order, byte_at_held, live_held}
-use Rattle.space_memory_bytes.proofs.Marks.{length_is, get_is, live_mark, mark_live, some_there}
+use Rattle.space_memory_bytes.proofs.Marks.{length_is, get_is, mark_is, mark_within, mark_live, some_there}
 
 -- a byte of a list lives
 abbrev pub LivesAt : List (Option ℕ) → ℕ → Type 0
 LivesAt cells k = get_or cells k None ≢ None
 
-module _ (marks values : List ℕ) (same : length values ≡ length marks) (now : List (Option ℕ)) (view : cells_of marks values ≡ now) (from : ℕ) (le : from ≤ length now) where
-  left : length (drop from marks) ≡ length now - from
-  left = length-drop from marks ∙ ap (λ n. n - from) (length_is marks values same now view)
+module _ (size : ℕ) (marks values : List ℕ) (are : AreMarks size marks values) (now : List (Option ℕ)) (view : cells_in size marks values ≡ now) (from start : ℕ) (start_is : start ≡ min from (length marks)) where
+  left : length (drop start marks) ≡ length marks - start
+  left = length-drop start marks
 
   -- a byte that lives has the mark 1
-  passes : (k : ℕ) → from ≤ k → LivesAt now k → Passes (is_byte 1) (drop from marks) (k - from)
+  marked_one : (k : ℕ) → LivesAt now k → get_or marks k 0 ≡ 1
+  marked_one k live = mark_is size marks values are now view k live
+
+  passes : (k : ℕ) → from ≤ k → LivesAt now k → Passes (is_byte 1) (drop start marks) (k - start)
   passes k low live =
-      let there : from + (k - from) ≡ k = omega arith in
-      let one : get_or marks k 0 ≡ 1 = live_mark (get_or marks k 0) (get_or values k 0) (λ none. live (get_is marks values same now view k ∙ none)) in
-      eq-eqb (get_or (drop from marks) (k - from) 0) 1 (get_or-drop from marks (k - from) 0 ∙ ap (λ j. get_or marks j 0) there ∙ one)
+      let there : start + (k - start) ≡ k = omega (arith, start_is, low) in
+      eq-eqb (get_or (drop start marks) (k - start) 0) 1 (get_or-drop start marks (k - start) 0 ∙ ap (λ j. get_or marks j 0) there ∙ marked_one k live)
 
-  nowhere : (j : ℕ) → Nowhere (Passes (is_byte 1) (drop from marks)) 0 j → Nowhere (LivesAt now) from (from + j)
-  nowhere j none = λ k low high live. none (k - from) (omega arith) (omega arith) (passes k low live)
+  nowhere : (j : ℕ) → Nowhere (Passes (is_byte 1) (drop start marks)) 0 j → Nowhere (LivesAt now) from (start + j)
+  nowhere j none = λ k low high live. none (k - start) (omega arith) (omega (arith, start_is, low, high)) (passes k low live)
 
-  pub live_nowhere : Nowhere (Passes (is_byte 1) (drop from marks)) 0 (length (drop from marks)) → Nowhere (LivesAt now) from (length now)
-  live_nowhere none = λ k low high live. none (k - from) (omega arith) (omega (arith, left)) (passes k low live)
+  pub live_nowhere : Nowhere (Passes (is_byte 1) (drop start marks)) 0 (length (drop start marks)) → Nowhere (LivesAt now) from (length now)
+  live_nowhere none = λ k low high live. none (k - start) (omega arith) (omega (arith, left, start_is, low, mark_within size marks values are now view k (marked_one k live))) (passes k low live)
 
-  pub live_first : (at : ℕ) → NoneBefore (Passes (is_byte 1) (drop from marks)) 0 (length (drop from marks)) at × Passes (is_byte 1) (drop from marks) at → NoneBefore (LivesAt now) from (length now) (from + at) × LivesAt now (from + at)
+  pub live_first : (at : ℕ) → NoneBefore (Passes (is_byte 1) (drop start marks)) 0 (length (drop start marks)) at × Passes (is_byte 1) (drop start marks) at → NoneBefore (LivesAt now) from (length now) (start + at) × LivesAt now (start + at)
   live_first at found =
       let high = found.0.high in
-      let one : get_or marks (from + at) 0 ≡ 1 = sym (get_or-drop from marks at 0) ∙ eqb-true (get_or (drop from marks) at 0) 1 found.1 in (
-        record { low = omega arith; high = omega (arith, high, left); before = nowhere at found.0.before },
-        some_there (get_or now (from + at) None) (get_or values (from + at) 0) (get_is marks values same now view (from + at) ∙ mark_live (get_or marks (from + at) 0) (get_or values (from + at) 0) one),
+      let one : get_or marks (start + at) 0 ≡ 1 = sym (get_or-drop start marks at 0) ∙ eqb-true (get_or (drop start marks) at 0) 1 found.1 in (
+        record { low = omega (arith, high, left, start_is); high = omega (arith, high, left, are.within, length_is size marks values are now view); before = nowhere at found.0.before },
+        some_there (get_or now (start + at) None) (get_or values (start + at) 0) (get_is size marks values are now view (start + at) ∙ mark_live (get_or marks (start + at) 0) (get_or values (start + at) 0) one),
       )
 
 module _ (a : AreaState) (from first : ℕ) (first_is : first ≡ from - a.base) where

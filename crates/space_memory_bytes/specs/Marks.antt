@@ -1,5 +1,5 @@
 -- Bytes as marks beside values, and what is said of a list of bytes.
-use Rattle.std.specs.Prelude.{◌≡◌, ◌≢◌, ℕ, ◌+◌, ◌-◌, ◌<◌, ◌≤◌, ◌==◌, List, [], ◌∷◌, length, slice_index, slice_index_or, Option, Some, None, if◌then◌else◌}
+use Rattle.std.specs.Prelude.{◌≡◌, ◌≢◌, ℕ, ◌+◌, ◌-◌, ◌<◌, ◌≤◌, ◌==◌, List, [], ◌∷◌, ◌++◌, replicate, length, slice_index, slice_index_or, Option, Some, None, if◌then◌else◌}
 use Rattle.marks.specs.Ranges.{covers}
 use Rattle.space_memory_bytes.specs.Numbers.{digit}
 
@@ -13,9 +13,14 @@ cells_of [] values = []
 cells_of (mark ∷ marks) [] = []
 cells_of (mark ∷ marks) (value ∷ values) = marked mark value ∷ cells_of marks values
 
--- as many values as marks, each of which is 0 or 1
-pub record AreMarks (marks values : List ℕ) : Type 0 where
-  pub size : length values ≡ length marks
+-- so many bytes, of which those past the marks are dead
+unfoldable pub cells_in : ℕ → List ℕ → List ℕ → List (Option ℕ)
+cells_in size marks values = cells_of marks values ++ replicate (size - length marks) None
+
+-- as many values as marks, at most one for each of so many bytes; a mark is 0 or 1
+pub record AreMarks (size : ℕ) (marks values : List ℕ) : Type 0 where
+  pub same : length values ≡ length marks
+  pub within : length marks ≤ size
   pub bits : (k : ℕ) → slice_index marks k ≤ 1
 
 -- each of the n bytes from a place on is there, and live

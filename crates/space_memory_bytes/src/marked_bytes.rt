@@ -1,32 +1,36 @@
 // The bytes of an area.
 ghost use Rattle.std.specs.Bool.{OnTrue, OnFalse};
-ghost use Rattle.std.specs.Prelude.{◌≡◌, ◌≢◌, ℕ, ◌+◌, ◌-◌, ◌^◌, ◌<◌, ◌≤◌, ◌↔◌, IsTrue, IsSome, IfOk, IfSome, None, Some, replicate, length, slice_index, slice_index_or, if◌then◌else◌};
+ghost use Rattle.std.specs.Prelude.{◌≡◌, ◌≢◌, ℕ, ◌+◌, ◌-◌, ◌^◌, ◌<◌, ◌≤◌, ◌↔◌, IsTrue, IsSome, IfOk, IfSome, None, Some, replicate, length, vec_capacity, slice_index, slice_index_or, if◌then◌else◌};
 ghost use Rattle.memchr.specs.Find.{IsFirst};
 ghost use Rattle.marks.specs.Ranges.{covers};
 ghost use Rattle.space_memory_bytes.specs.Numbers.{digit};
-ghost use Rattle.space_memory_bytes.specs.Marks.{marked, AreLive, HasDigits, FillsCells, PutsCells, WritesDigits};
+ghost use Rattle.space_memory_bytes.specs.Marks.{AreLive, HasDigits, FillsCells, PutsCells, WritesDigits};
 
 use memchr::memchr;
 use std::alloc::{AllocError, Global};
 use std::marker::Model;
 
 /// Bytes, each dead or live with a value. Beside the values lie as many marks, 1 where a byte lives and 0 where it is dead,
-/// so that the bytes of a number are tested and read at once, and those of a range are whole slices.
+/// so that the bytes of a number are tested and read at once, and those of a range are whole slices. Both go up to the last
+/// byte that was ever made live, in memory that is reserved for all; bytes past them are dead.
 #[derive(Drop)]
 pub struct MarkedBytes {
+    size: usize,
     marks: Vec<u8>,
     values: Vec<u8>,
 }
 
 impl Model for MarkedBytes {
-    ghost use Rattle.std.specs.Prelude.{◌≡◌, ℕ, List, Option, length};
-    ghost use Rattle.space_memory_bytes.specs.Marks.{cells_of, AreMarks};
+    ghost use Rattle.std.specs.Prelude.{ℕ, ◌≤◌, List, Option};
+    ghost use Rattle.std.specs.Vec.{vec_capacity};
+    ghost use Rattle.space_memory_bytes.specs.Marks.{cells_in, AreMarks};
 
     ghost Value = { List (Option ℕ) };
 
-    ghost view = { λ c. cells_of c.marks.items c.values.items };
+    ghost view = { λ c. cells_in c.size c.marks.items c.values.items };
 
-    ghost invariant = { λ c. AreMarks c.marks.items c.values.items };
+    ghost invariant = { λ c. AreMarks c.size c.marks.items c.values.items ×
+        (c.size ≤ vec_capacity c.marks) × (c.size ≤ vec_capacity c.values) };
 }
 
 impl MarkedBytes {
@@ -34,11 +38,13 @@ impl MarkedBytes {
     pub fn new(alloc: Global, n: usize) -> Result<MarkedBytes, AllocError>
         ensures { IfOk result (λ cells. cells ≡ replicate n None) }
     {
-        let mut marks = Vec::new(alloc);
-        marks.resize(n, 0)?;
-        let mut values = Vec::new(alloc);
-        values.resize(n, 0)?;
-        Ok(MarkedBytes { marks, values })
+        let marks = Vec::with_capacity(alloc, n)?;
+        let values = Vec::with_capacity(alloc, n)?;
+        Ok(MarkedBytes {
+            size: n,
+            marks,
+            values,
+        })
     }
 
     /// How many bytes there are.
@@ -46,7 +52,7 @@ impl MarkedBytes {
     pub fn len(&self) -> usize
         ensures { result ≡ length self.now }
     {
-        self.marks.len()
+        self.size
     }
 
     /// The byte at a place, `None` where it is dead.
@@ -55,6 +61,9 @@ impl MarkedBytes {
         requires { at < length self.now }
         ensures { result ≡ slice_index_or self.now at None }
     {
+        if self.marks.len() <= at {
+            return None;
+        }
         let value = self.values[at];
         if self.marks[at] == 1 {
             Some(value)
@@ -68,8 +77,9 @@ impl MarkedBytes {
         requires { from ≤ length self.now }
         ensures { IsFirst (λ k. slice_index_or self.now k None ≢ None) from (length self.now) result }
     {
-        let at = memchr(1, &self.marks[from..])?;
-        Some(from + at)
+        let start = from.min(self.marks.len());
+        let at = memchr(1, &self.marks[start..])?;
+        Some(start + at)
     }
 
     /// The first place from one up to another whose byte is dead.
@@ -78,8 +88,7 @@ impl MarkedBytes {
         requires in_cells { to ≤ length self.now }
         ensures { IsFirst (λ k. slice_index_or self.now k None ≡ None) from to result }
     {
-        let at = memchr(0, &self.marks[from..to])?;
-        Some(from + at)
+        first_unmarked(&self.marks, from, to)
     }
 
     /// The values of the live bytes from one place up to another.
@@ -91,11 +100,15 @@ impl MarkedBytes {
         ensures values { (i : ℕ) → i < length result.now →
             slice_index_or self.now (from + i) None ≡ Some (slice_index result.now i) }
     {
+        if from == to {
+            return &[];
+        }
         &self.values[from..to]
     }
 
     /// The number of the `width` bytes from a place on, the lowest first; `None` where one is dead.
-    #[inline(always)]
+    // It's large, so it stands in one place, and what calls it is inlined.
+    #[inline(never)]
     pub fn number(&self, at: usize, width: u8) -> Option<u64>
         requires in_cells { at < length self.now }
         requires some { 1 ≤ width }
@@ -114,7 +127,8 @@ impl MarkedBytes {
     }
 
     /// Makes the `width` bytes from a place on those of the number, the lowest first, if all are live; whether they are.
-    #[inline(always)]
+    // It stands in one place, as `number` does.
+    #[inline(never)]
     pub fn overwrite(&mut self, at: usize, width: u8, value: u64) -> bool
         requires in_cells { at < length self.old }
         requires some { 1 ≤ width }
@@ -138,9 +152,13 @@ impl MarkedBytes {
         requires in_cells { to ≤ length self.old }
         ensures { FillsCells from (to - from) byte self.old self.new }
     {
-        let (mark, value) = mark_of(byte);
-        fill_part(&mut self.marks, from, to, mark);
-        fill_part(&mut self.values, from, to, value);
+        match byte {
+            Some(value) => {
+                fill_grown(&mut self.marks, from, to, 1);
+                fill_grown(&mut self.values, from, to, value);
+            }
+            None => unmark(&mut self.marks, from, to),
+        }
     }
 
     /// Makes the bytes from a place on those of the list.
@@ -149,7 +167,9 @@ impl MarkedBytes {
         requires ends { at + length bytes.now < 2 ^ 64 }
         ensures { PutsCells at bytes.now self.old self.new }
     {
-        fill_part(&mut self.marks, at, at + bytes.len(), 1);
+        let to = at + bytes.len();
+        fill_grown(&mut self.marks, at, to, 1);
+        grow(&mut self.values, to);
         put_part(&mut self.values, at, bytes);
     }
 
@@ -194,26 +214,68 @@ impl MarkedBytes {
         requires in_cells { at < length self.now }
         requires some { 1 ≤ n }
         requires at_most_8 { n ≤ 8 }
-        ensures live { IsTrue result ↔ AreLive self.now at n }
-        ensures within { IsTrue result → at + n ≤ length self.now }
+        ensures { IsTrue result ↔ AreLive self.now at n }
     {
-        if self.marks.len() - at < n {
+        if self.marks.len() < at + n {
             return false;
         }
         number_at(&self.marks, at, n) == number_at(&[1; 8], 0, n)
     }
 }
 
-// The mark and the value of a byte; the value of a dead one is 0.
-#[inline]
-fn mark_of(byte: Option<u8>) -> (u8, u8)
-    ensures byte { marked result.0 result.1 ≡ byte }
-    ensures mark { result.0 ≤ 1 }
+// The first place from one up to another whose mark is 0, as are those past the marks.
+fn first_unmarked(marks: &[u8], from: usize, to: usize) -> Option<usize>
+    requires { from ≤ to }
+    ensures { IsFirst (λ k. slice_index marks.now k ≡ 0) from to result }
 {
-    match byte {
-        Some(value) => (1, value),
-        None => (0, 0),
+    let start = from.min(marks.len());
+    let end = to.min(marks.len());
+    if let Some(at) = memchr(0, &marks[start..end]) {
+        return Some(start + at);
     }
+    let past = from.max(end);
+    if past < to { Some(past) } else { None }
+}
+
+// Makes each mark from one place up to another 0, as are those past the marks.
+fn unmark(marks: &mut [u8], from: usize, to: usize)
+    requires { from ≤ to }
+    ensures len { length marks.new ≡ length marks.old }
+    ensures unmarked { (k : ℕ) → slice_index marks.new k ≡
+        (if covers (record { addr = from; len = to - from }) k then 0 else slice_index marks.old k) }
+{
+    let end = to.min(marks.len());
+    if from < end {
+        fill_part(marks, from, end, 0);
+    }
+}
+
+// Makes bytes end no earlier than a place, with zeros where they did, in memory that they have.
+fn grow(bytes: &mut Vec<u8>, to: usize)
+    requires { to ≤ vec_capacity bytes.old }
+    ensures len { length bytes.new.items ≡ length bytes.old.items + (to - length bytes.old.items) }
+    ensures same { (k : ℕ) → slice_index bytes.new.items k ≡ slice_index bytes.old.items k }
+    ensures capacity { vec_capacity bytes.old ≤ vec_capacity bytes.new }
+{
+    if bytes.len() < to {
+        match bytes.resize(to, 0) {
+            Ok(()) => (),
+            Err(_) => unreachable!("the memory is reserved"),
+        }
+    }
+}
+
+// Makes each byte from one place up to another the given one, those past the end too.
+fn fill_grown(bytes: &mut Vec<u8>, from: usize, to: usize, byte: u8)
+    requires order { from ≤ to }
+    requires room { to ≤ vec_capacity bytes.old }
+    ensures len { length bytes.new.items ≡ length bytes.old.items + (to - length bytes.old.items) }
+    ensures filled { (k : ℕ) → slice_index bytes.new.items k ≡
+        (if covers (record { addr = from; len = to - from }) k then byte else slice_index bytes.old.items k) }
+    ensures capacity { vec_capacity bytes.old ≤ vec_capacity bytes.new }
+{
+    grow(bytes, to);
+    fill_part(bytes, from, to, byte);
 }
 
 // The number of the n bytes from a place on, the lowest first.

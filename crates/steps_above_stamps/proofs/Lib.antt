@@ -5,3 +5,4 @@ pub mod Written
 pub mod Plain
 pub mod Few
 pub mod Distinct
+pub mod Counting

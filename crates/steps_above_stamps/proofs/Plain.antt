@@ -16,7 +16,7 @@ no_key (Step func args result ins pieces freed) k h = refl
 no_key (Fault kind crosses ins outs access) k h = refl
 no_key (Made e) k h = absurd (true≢false h)
 
-no_link : (m : Mark) (l : Link) → is_event m.act ≡ false → has m l ≡ false
+pub no_link : (m : Mark) (l : Link) → is_event m.act ≡ false → has m l ≡ false
 no_link m (OfThread t) h = ap (λ b. b && eqb m.thread t) h
 no_link m (OfKey k) h = no_key m.act k h
 

@@ -1,5 +1,5 @@
 -- Which runs stamps stand for, and which numbers the rules of runs ask of the next mark.
-use Rattle.std.specs.Prelude.{◌≡◌, ℕ, suc, ◌<◌, ◌^◌, true, List, [], ◌∷◌, map, length, slice_index}
+use Rattle.std.specs.Prelude.{◌≡◌, ℕ, suc, ◌+◌, ◌<◌, ◌^◌, true, List, [], ◌∷◌, map, length, slice_index, slice_set}
 use Rattle.std.specs.List.{AllByRecursion}
 use Rattle.run_events.specs.declared.key.KeyMark.{KeyMark}
 use Rattle.run_events.specs.declared.event.Stamp.{Stamp}
@@ -58,6 +58,15 @@ Begins s = (memory : ℕ → Byte) → AreStampsOf memory [] s
 abbrev pub CountsStep : (thread : ℕ) → StampsState → StampsState → Type 0
 CountsStep t old new = (memory : ℕ → Byte) (past : List Mark) (m : Mark) → m.thread ≡ t →
     counts m.act ≡ 1 → AreStampsOf memory past old → AreStampsOf memory (m ∷ past) new
+
+-- with so many more steps of the thread
+abbrev pub with_steps : (thread count : ℕ) → StampsState → StampsState
+with_steps t n s = record { clocks = s.clocks; steps = slice_set s.steps t (slice_index s.steps t + n) }
+
+-- so many steps of the thread, for which there is a place, are counted
+pub record CountsSteps (t n : ℕ) (old new : StampsState) : Type 0 where
+  pub there : t < length old.steps
+  pub counted : new ≡ with_steps t n old
 
 -- ---- the next event
 

@@ -1,12 +1,12 @@
 //! What the numbers of the next event follow from.
 
-ghost use Rattle.std.specs.Prelude.{◌≡◌, ◌<◌, ◌^◌, length, map, All, slice_index, IfOk, OnOk, OnErr};
+ghost use Rattle.std.specs.Prelude.{◌≡◌, ◌+◌, ◌<◌, ◌≤◌, ◌^◌, length, map, All, slice_index, IfOk, OnOk, OnErr};
 ghost use Rattle.std.specs.List.{AllByRecursion};
 ghost use Rattle.run_events.specs.declared.key.KeyMark.{KeyMark};
 ghost use Rattle.marks.specs.Places.{thread_count};
 ghost use Rattle.logical_clock.specs.Events.{AreDistinct};
 ghost use Rattle.steps_above_stamps.specs.Tickets.{HasWord};
-ghost use Rattle.steps_above_stamps.specs.Stamps.{Begins, CountsStep, CountsEvent, CountsNoMore, CanBeRecorded, IsStampAfter, stamp_of};
+ghost use Rattle.steps_above_stamps.specs.Stamps.{Begins, CountsStep, CountsSteps, CountsEvent, CountsNoMore, CanBeRecorded, IsStampAfter, stamp_of};
 
 use crate::tickets::{blank_marks, write_tickets};
 use logical_clock::Clocks;
@@ -84,6 +84,15 @@ impl Stamps {
         ensures { CountsStep thread self.old self.new }
     {
         self.steps[thread as usize] += 1;
+    }
+
+    /// Counts so many marks of the thread that are neither events nor faults.
+    pub fn count_steps(&mut self, thread: u8, count: u32)
+        requires thread { thread < thread_count }
+        requires few { slice_index self.old.steps thread + count ≤ 4000000000 }
+        ensures { CountsSteps thread count self.old self.new }
+    {
+        self.steps[thread as usize] += count;
     }
 
     /// The numbers of the next event, which the thread makes with these keys. A run has at most 4,000,000,000 events.

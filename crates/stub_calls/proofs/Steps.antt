@@ -3,6 +3,7 @@ use Rattle.std.proofs.Common.{◌≡◌, ℕ, ◌+◌, ◌<◌, Bool, true, fals
 use Rattle.std.proofs.lemmas.List.{take_more, append-nil}
 use Rattle.c_code.specs.Machine.{Flat}
 use Rattle.stub_operations.specs.declared.operation.StubOp.{StubOp}
+use Rattle.stub_operations.specs.declared.operation.StubOp.TheVariants.{Pass}
 use Rattle.stub_meaning.specs.Calls.{Called, Done, both, done, done_by, nothing}
 
 or_assoc : (a b c : Bool) → ((a || b) || c) ≡ (a || (b || c))
@@ -49,3 +50,7 @@ module _ (code : Flat) (c : Called) where
       is ∙ (ap (λ d. both d (done_by code c op)) was
       ∙ (both_assoc begin (done code c (take i ops)) (done_by code c op)
       ∙ ap (both begin) (sym (done_more (take i ops) op) ∙ ap (done code c) (ap (λ x. take i ops ++ x ∷ []) at ∙ sym (take_more ops i op lt)))))
+
+  -- what passes its parameter adds nothing
+  pub none_more : (ops : List StubOp) (i : ℕ) (op : StubOp) → i < length ops → op ≡ get_or ops i op → nothing ≡ done code c (take i ops) → op ≡ Pass → nothing ≡ done code c (take (i + 1) ops)
+  none_more ops i op lt at was pass = one_more nothing nothing nothing ops i op lt at was (ap (λ o. both nothing (done_by code c o)) (sym pass))

@@ -1,10 +1,11 @@
 //! What is done in a call.
 
-ghost use Rattle.std.specs.Prelude.{◌≡◌, IfOk, OnOk};
+ghost use Rattle.std.specs.Prelude.{◌≡◌, true, IfOk, OnOk};
 ghost use Rattle.std.specs.List.{All};
 ghost use Rattle.r2_num.specs.Operations.{IsAnyValue};
 ghost use Rattle.c_code.specs.Valid.{IsValid};
-ghost use Rattle.c_code.specs.Machine.{func_of};
+ghost use Rattle.c_code.specs.Machine.{Flat, func_of};
+ghost use Rattle.stub_operations.specs.declared.operation.StubOp.TheVariants.{Pass};
 ghost use Rattle.stub_meaning.specs.Calls.{Called, both, done as done_in, nothing};
 ghost use Rattle.stub_meaning.specs.Meaning.{called, first_of};
 ghost use Rattle.stub_calls.specs.Calls.{AreValuesOf, call_keys as call_keys_of, return_keys as return_keys_of};
@@ -63,6 +64,53 @@ impl Done {
             done_in code.now (called (func_of code.now func) args.now returned) ops.now) }
     {
         self.said.clear();
+        if say_nothing(ops) {
+            return Ok(());
+        }
+        self.add(code, ops, func, args, returned)
+    }
+
+    /// Reads the call at its return, once its result is known. The ranges that system code writes go to `held`, with
+    /// their capacities as they were at the call. After `AllocError` both may hold a part.
+    pub fn fill_at_return(
+        &mut self,
+        code: &Code,
+        ops: &[StubOp],
+        func: u16,
+        args: &[u64],
+        returned: u64,
+        held: &mut Vec<Range>,
+    ) -> Result<(), AllocError>
+        requires { IsValid code.now }
+        ensures done { OnOk result (self.new ≡
+            done_in code.now (called (func_of code.now func) args.now returned) ops.now) }
+        ensures held { OnOk result (held.new.items ≡
+            (done_in code.now (called (func_of code.now func) args.now 0) ops.now).outs) }
+    {
+        held.clear();
+        if say_nothing(ops) {
+            self.said.clear();
+            return Ok(());
+        }
+        self.fill(code, ops, func, args, 0)?;
+        held.extend_from_slice(self.outs())?;
+        self.fill(code, ops, func, args, returned)
+    }
+
+    // Adds what these operations say of the call. Where they say nothing there is no need to pay for it.
+    #[inline(never)]
+    fn add(
+        &mut self,
+        code: &Code,
+        ops: &[StubOp],
+        func: u16,
+        args: &[u64],
+        returned: u64,
+    ) -> Result<(), AllocError>
+        requires { IsValid code.now }
+        ensures { OnOk result (self.new ≡ both self.old
+            (done_in code.now (called (func_of code.now func) args.now returned) ops.now)) }
+    {
         let outcome = read(&mut self.numbers, code, func, args, returned)?;
         add_all(&mut self.said, code, ops, args, &self.numbers, outcome)
     }
@@ -147,6 +195,34 @@ impl Done {
         ensures { result.now ≡ self.now.keys_at_return }
     {
         &self.said.keys_at_return
+    }
+}
+
+/// Whether these operations say nothing of any call.
+fn say_nothing(ops: &[StubOp]) -> bool
+    ensures { result ≡ true → (code : Flat) (c : Called) → nothing ≡ done_in code c ops.now }
+{
+    for op in ops {
+        if !is_pass(op) {
+            return false;
+        }
+    }
+    true
+}
+
+fn is_pass(op: &StubOp) -> bool
+    ensures { result ≡ true → op.now ≡ Pass }
+{
+    match op {
+        StubOp::Pass => true,
+        StubOp::ReadIn { .. }
+        | StubOp::HoldOut { .. }
+        | StubOp::Prepare { .. }
+        | StubOp::Register { .. }
+        | StubOp::Commit { .. }
+        | StubOp::KeyAtCall { .. }
+        | StubOp::KeyAtRet { .. }
+        | StubOp::CacheRet => false,
     }
 }
 

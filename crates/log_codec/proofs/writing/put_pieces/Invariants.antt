@@ -1,4 +1,4 @@
-use Rattle.std.proofs.Common.{◌≡◌, ◌++◌, ◌∷◌, length, take}
+use Rattle.std.proofs.Common.{◌≡◌, ◌++◌, take}
 use Rattle.std.specs.Int.{to_be_bytes}
 use Rattle.std.specs.List.{flat_map}
 use Rattle.log_codec.specs.LogText.{piece_text}
@@ -7,5 +7,5 @@ use Rattle.log_codec.proofs.writing.put_pieces.Given as goal
 abbrev pub invariant-loop-piece : goal.invariant-loop-piece
 invariant-loop-piece l = record {
   before : l.out.before ≡ l.fn.out.before;
-  added : l.out.added ≡ l.fn.out.added ++ length l.pieces ∷ flat_map (piece_text to_be_bytes) (take l.piece-index l.pieces);
+  added : l.out.added ≡ l.fn.out.added ++ flat_map (piece_text to_be_bytes) (take l.piece-index l.pieces);
 }

@@ -42,7 +42,7 @@ pub make_event-requires-clause-coming : goal.make_event-requires-clause-coming
 make_event-requires-clause-coming c =
     coming_so _ c.args.state.now c.args.thread c.args.regions.now c.args.keys.now c.args.event c.requires.next c.call.new.self.spaces c.in_default-call.ensures.spaces c.in_default-call.ensures.passes (record { above = c.call.new.self })
 
-told : (c : After-register) → IsEventStep (world_of c.args.inputs) (record c.make_event.new.state { output = c.extend_from_slice.new.self; interface = c.register.new.self }) c.args.thread (Calls c.requires.next.indirect c.requires.next.func (args_at c.args.state.now.threads c.args.thread)) Go
+told : (c : After-register) → IsEventStep (world_of c.args.inputs) (record c.make_event.new.state { output = c.print.new.output; interface = c.register.new.self }) c.args.thread (Calls c.requires.next.indirect c.requires.next.func (args_at c.args.state.now.threads c.args.thread)) Go
 told c =
     let w = world_of c.args.inputs in
     let s = c.args.state.now in
@@ -52,10 +52,10 @@ told c =
     let passes = c.in_default-call.ensures.passes in
     let r = c.in_default-make_event.ensures (coming_so w s c.args.thread c.args.regions.now c.args.keys.now c.args.event h c.call.new.self.spaces parts passes memory) in
     let new1 : RunState = c.make_event.new.state in
-    let fin : RunState = record new1 { output = c.extend_from_slice.new.self; interface = c.register.new.self } in
+    let fin : RunState = record new1 { output = c.print.new.output; interface = c.register.new.self } in
     event_step w s c.args.thread c.args.regions.now c.args.keys.now c.args.event h c.call.new.self.spaces parts passes memory new1 fin r c.as_slice.result.now
     (c.as_slice.ensures.value ∙ c.in-Ok.ensures (all_read w s c.args.thread c.args.regions.now c.args.keys.now c.args.event h c.call.new.self.spaces parts passes))
-    (c.in_default-extend_from_slice.ensures.items ∙ ap (λ (z : RunState). z.output.items ++ c.as_slice.result.now) r.rest)
+    (c.in_default-print.ensures ∙ ap (λ (z : RunState). z.output.items ++ c.as_slice.result.now) r.rest)
     (subst (λ (z : RunState). CountsCall c.args.keys.now z.interface c.register.new.self) r.rest c.register.ensures.counts)
     (c.register.ensures.functions ∙ ap (λ (z : RunState). length z.interface.registered) r.rest)
     refl c.in_default-call.ensures.made refl c.requires.room

@@ -22,8 +22,8 @@ make_event-requires-clause-coming c =
     let h = c.requires in
     coming_so _ c.args.state.now c.args.thread c.args.size h c.in-Ok.addr (c.in-Ok.ensures.place _ h.reached.past h.reached.memory) c.alloc_above.new.self
 
-pub give-requires : goal.give-requires
-give-requires c =
+pub next_after-next-requires-clause-plain : goal.next_after-next-requires-clause-plain
+next_after-next-requires-clause-plain c =
     let h = c.requires in
     let s = c.args.state.now in
     let here = c.in-Ok.ensures.place _ h.reached.past h.reached.memory in
@@ -31,15 +31,15 @@ give-requires c =
     let made = made_so _ s c.args.thread c.args.size h c.in-Ok.addr here c.alloc_above.new.self _ c.in-Ok.ensures.made c.in_default.ensures recorded in
     plain_answer _ _ c.args.thread (Allocs c.args.size) (Value c.in-Ok.addr) made IsNoCall (λ z. z)
 
-pub end_step-requires : goal.end_step-requires
-end_step-requires c =
+pub end_step_known-requires-clause-told : goal.end_step_known-requires-clause-told
+end_step_known-requires-clause-told c =
     let h = c.requires in
     let s = c.args.state.now in
     let here = c.in-Ok.ensures.place _ h.reached.past h.reached.memory in
     let recorded = c.in_default-make_event.ensures (coming_so _ s c.args.thread c.args.size h c.in-Ok.addr here c.alloc_above.new.self) in
     let made = made_so _ s c.args.thread c.args.size h c.in-Ok.addr here c.alloc_above.new.self _ c.in-Ok.ensures.made c.in_default.ensures recorded in
     step_told _ _ c.args.thread (Allocs c.args.size) (Value c.in-Ok.addr) made _
-    (c.give.ensures (plain_answer _ _ c.args.thread (Allocs c.args.size) (Value c.in-Ok.addr) made IsNoCall (λ z. z)))
+    (c.next_after-next.ensures.stand (plain_answer _ _ c.args.thread (Allocs c.args.size) (Value c.in-Ok.addr) made IsNoCall (λ z. z)))
 
 pub returns-clause-steps : goal.returns-clause-steps
 returns-clause-steps c =
@@ -47,4 +47,7 @@ returns-clause-steps c =
     let s = c.args.state.now in
     let here = c.in-Ok.ensures.place _ h.reached.past h.reached.memory in
     let recorded = c.in_default-make_event.ensures (coming_so _ s c.args.thread c.args.size h c.in-Ok.addr here c.alloc_above.new.self) in
-    c.end_step.ensures.steps ∙ ap (λ (z : RunState). z.steps + 1) recorded.rest
+    c.end_step_known.ensures.steps ∙ ap (λ (z : RunState). z.steps + 1) recorded.rest
+
+pub end_step_known-requires-clause-next : goal.end_step_known-requires-clause-next
+end_step_known-requires-clause-next c = c.next_after-next.ensures.next

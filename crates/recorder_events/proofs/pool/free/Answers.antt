@@ -27,8 +27,8 @@ make_event-requires-clause-coming c =
     let q = c.in_default-free_above.ensures in
     coming_so _ c.args.state.now c.args.thread c.args.addr c.requires c.in_default-free_above.field-0 q.passes q.block c.free_above.new.self
 
-pub go-requires : goal.go-requires
-go-requires c =
+pub next_after-next-requires-clause-plain : goal.next_after-next-requires-clause-plain
+next_after-next-requires-clause-plain c =
     let h = c.requires in
     let s = c.args.state.now in
     let q = c.in_default-free_above.ensures in
@@ -37,18 +37,21 @@ go-requires c =
     let made = made_so _ s c.args.thread c.args.addr h size q.passes q.block c.free_above.new.self _ q.made c.in_default.ensures recorded in
     plain_answer _ _ c.args.thread (Frees c.args.addr) Go made IsNoCall (λ z. z)
 
-pub end_step-requires : goal.end_step-requires
-end_step-requires c =
+pub end_step_known-requires-clause-told : goal.end_step_known-requires-clause-told
+end_step_known-requires-clause-told c =
     let h = c.requires in
     let s = c.args.state.now in
     let q = c.in_default-free_above.ensures in
     let size = c.in_default-free_above.field-0 in
     let recorded = c.in_default-make_event.ensures (coming_so _ s c.args.thread c.args.addr h size q.passes q.block c.free_above.new.self) in
     let made = made_so _ s c.args.thread c.args.addr h size q.passes q.block c.free_above.new.self _ q.made c.in_default.ensures recorded in
-    step_told _ _ c.args.thread (Frees c.args.addr) Go made _ (c.go.ensures (plain_answer _ _ c.args.thread (Frees c.args.addr) Go made IsNoCall (λ z. z)))
+    step_told _ _ c.args.thread (Frees c.args.addr) Go made _ (c.next_after-next.ensures.stand (plain_answer _ _ c.args.thread (Frees c.args.addr) Go made IsNoCall (λ z. z)))
 
 pub returns-clause-steps : goal.returns-clause-steps
 returns-clause-steps c =
     let q = c.in_default-free_above.ensures in
     let recorded = c.in_default-make_event.ensures (coming_so _ c.args.state.now c.args.thread c.args.addr c.requires c.in_default-free_above.field-0 q.passes q.block c.free_above.new.self) in
-    c.end_step.ensures.steps ∙ ap (λ (z : RunState). z.steps + 1) recorded.rest
+    c.end_step_known.ensures.steps ∙ ap (λ (z : RunState). z.steps + 1) recorded.rest
+
+pub end_step_known-requires-clause-next : goal.end_step_known-requires-clause-next
+end_step_known-requires-clause-next c = c.next_after-next.ensures.next

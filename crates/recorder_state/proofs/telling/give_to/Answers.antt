@@ -1,8 +1,6 @@
-use Rattle.std.proofs.Common.{◌≡◌, [], ◌∷◌, length, get_or, sym, ap, ◌∙◌, arith}
+use Rattle.std.proofs.Common.{◌≡◌, length, sym, ap, ◌∙◌, arith}
 use Rattle.c_machine.specs.Positions.{laid}
-use Rattle.recorder_threads.specs.Threads.{AreThreadsOf, args_at}
-use Rattle.recorder_state.specs.Plain.{IsResult}
-use Rattle.recorder_state.proofs.Results.{goes_plainly, on_ok, starts_one, takes_two, there}
+use Rattle.recorder_state.proofs.Results.{goes_plainly, inside_then, starts_so, takes_two, there, there_then}
 use Rattle.recorder_state.proofs.telling.give_to.Goals as goal
 
 pub args-args-requires : goal.args-args-requires
@@ -21,25 +19,36 @@ bounds-args-1 c =
     omega (arith, long)
 
 pub start-requires : goal.start-requires
-start-requires c =
+start-requires c = starts_so (laid c.args.inputs.code.now c.args.inputs.placed.now) c.args.threads.now c.args.thread c.args.func c.args.value c.requires (sym c.is_start.ensures ∙ c.if-is_start.true) c.args-args.result.now c.args-args.ensures
+
+pub want-requires-clause-started : goal.want-requires-clause-started
+want-requires-clause-started c =
     let l = laid c.args.inputs.code.now c.args.inputs.placed.now in
     let starts = sym c.is_start.ensures ∙ c.if-is_start.true in
-    let two = takes_two l c.args.threads.now c.args.thread c.args.func c.args.value c.requires starts in
-    let read : args_at c.args.threads.now c.args.thread ≡ get_or c.args-args.result.now 0 0 ∷ get_or c.args-args.result.now 1 0 ∷ [] = two ∙ (λ i. get_or (sym c.args-args.ensures i) 0 0 ∷ get_or (sym c.args-args.ensures i) 1 0 ∷ []) in
-    starts_one l c.args.threads.now c.args.thread c.args.func c.args.value c.requires starts _ _ read
+    there_then l c.args.threads.now c.args.thread c.args.func c.args.value c.requires c.start.new.self
+    (c.in_ok-start.ensures.started (starts_so l c.args.threads.now c.args.thread c.args.func c.args.value c.requires starts c.args-args.result.now c.args-args.ensures))
 
-pub returns-then-is_start : goal.returns-then-is_start
-returns-then-is_start c =
+pub want-requires-clause-inside : goal.want-requires-clause-inside
+want-requires-clause-inside c =
     let l = laid c.args.inputs.code.now c.args.inputs.placed.now in
     let starts = sym c.is_start.ensures ∙ c.if-is_start.true in
-    on_ok (λ (a : IsResult l c.args.threads.now c.args.thread c.args.func c.args.value). AreThreadsOf a.next.world (a.next.mark ∷ a.next.past) c.start.new.self) c.start.result
-    (λ a.
-    let two = takes_two l c.args.threads.now c.args.thread c.args.func c.args.value a starts in
-    let read : args_at c.args.threads.now c.args.thread ≡ get_or c.args-args.result.now 0 0 ∷ get_or c.args-args.result.now 1 0 ∷ [] = two ∙ (λ i. get_or (sym c.args-args.ensures i) 0 0 ∷ get_or (sym c.args-args.ensures i) 1 0 ∷ []) in
-    c.start.ensures.started (starts_one l c.args.threads.now c.args.thread c.args.func c.args.value a starts _ _ read))
+    inside_then l c.args.threads.now c.args.thread c.args.func c.args.value c.requires c.start.new.self
+    (c.in_ok-start.ensures.started (starts_so l c.args.threads.now c.args.thread c.args.func c.args.value c.requires starts c.args-args.result.now c.args-args.ensures))
 
-pub give-requires : goal.give-requires
-give-requires c = goes_plainly (laid c.args.inputs.code.now c.args.inputs.placed.now) c.args.threads.now c.args.thread c.args.func c.args.value c.requires (sym c.is_start.ensures ∙ c.if-is_start.false)
+pub returns-then-is_start-clause-stand : goal.returns-then-is_start-clause-stand
+returns-then-is_start-clause-stand c =
+    let l = laid c.args.inputs.code.now c.args.inputs.placed.now in
+    let starts = sym c.is_start.ensures ∙ c.if-is_start.true in
+    λ a. c.in_ok-start.ensures.started (starts_so l c.args.threads.now c.args.thread c.args.func c.args.value a starts c.args-args.result.now c.args-args.ensures)
 
-pub returns : goal.returns
-returns c = λ a. c.give.ensures (goes_plainly (laid c.args.inputs.code.now c.args.inputs.placed.now) c.args.threads.now c.args.thread c.args.func c.args.value a (sym c.is_start.ensures ∙ c.if-is_start.false))
+pub returns-then-is_start-clause-next : goal.returns-then-is_start-clause-next
+returns-then-is_start-clause-next c = c.want.ensures
+
+pub next_after-requires-clause-plain : goal.next_after-requires-clause-plain
+next_after-requires-clause-plain c = goes_plainly (laid c.args.inputs.code.now c.args.inputs.placed.now) c.args.threads.now c.args.thread c.args.func c.args.value c.requires (sym c.is_start.ensures ∙ c.if-is_start.false)
+
+pub returns-clause-stand : goal.returns-clause-stand
+returns-clause-stand c = λ a. c.next_after.ensures.stand (goes_plainly (laid c.args.inputs.code.now c.args.inputs.placed.now) c.args.threads.now c.args.thread c.args.func c.args.value a (sym c.is_start.ensures ∙ c.if-is_start.false))
+
+pub returns-clause-next : goal.returns-clause-next
+returns-clause-next c = c.next_after.ensures.next

@@ -1,5 +1,5 @@
 use Rattle.std.proofs.Common.{arith}
-use Rattle.reference_recorder_spaces.proofs.Giving.{given_first, given_rest, puts_first, rest_less}
+use Rattle.reference_recorder_spaces.proofs.Pieces.{given_first, given_rest, puts_first, rest_less}
 use Rattle.reference_recorder_spaces.proofs.returns.+put_all.Goals as goal
 
 pub put_piece-requires : goal.put_piece-requires

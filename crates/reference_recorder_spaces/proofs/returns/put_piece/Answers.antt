@@ -3,7 +3,7 @@ use Rattle.marks.specs.declared.side.Side.TheVariants.{System}
 use Rattle.space_memory_access.specs.Accesses.{IsAllowed}
 use Rattle.space_memory_laws.specs.Changes.{IsWritten, access_on}
 use Rattle.reference_recorder_spaces.specs.Next.{AreGiven, Puts}
-use Rattle.reference_recorder_spaces.proofs.Giving.{may_put, puts_one}
+use Rattle.reference_recorder_spaces.proofs.Pieces.{may_put, puts_one}
 use Rattle.reference_recorder_spaces.proofs.returns.put_piece.Goals as goal
 
 pub put-requires : goal.put-requires

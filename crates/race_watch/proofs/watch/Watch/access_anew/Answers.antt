@@ -4,7 +4,7 @@ use Rattle.race_watch.specs.Tables.{cells_of}
 use Rattle.race_watch.specs.State.{WatchState}
 use Rattle.race_watch.specs.Stands.{Stands, AnswersBy}
 use Rattle.race_watch.proofs.Happens.{index_fits}
-use Rattle.race_watch.proofs.Raced.{own_epochs, answers_by, constants_stand, stands_by, reached_by, each_ok}
+use Rattle.race_watch.proofs.Raced.{own_epochs, answers_by, stands_by, reached_by, each_ok}
 use Rattle.race_watch.proofs.watch.Watch.access_anew.Goals as goal
 
 pub note-requires-clause-place : goal.note-requires-clause-place
@@ -21,10 +21,6 @@ note-requires-clause-before c =
     let lt : c.args.thread < length old.rows = subst (λ (s : WatchState). c.args.thread < length s.rows) (sym c.self.view_is) c.requires in
     let lm : c.args.thread < length old.made = omega (arith, c.self.invariant.0.width, lt) in
     own_epochs old c.self.inside.tables c.args.thread c.index-place.result.now c.self.invariant.0 refl c.self.invariant.1 lm (get_or_read old.made _ _ lm c.index-place.ensures 0)
-
-pub returns-then-has_constants_alone-clause-told : goal.returns-then-has_constants_alone-clause-told
-returns-then-has_constants_alone-clause-told c = λ past h.
-    constants_stand past c.args.self.now c.args.thread c.args.range c.args.write h (c.if-has_constants_alone.ensures refl)
 
 pub returns-clause-answers : goal.returns-clause-answers
 returns-clause-answers c = λ past k.

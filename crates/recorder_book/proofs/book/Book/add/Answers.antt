@@ -14,15 +14,15 @@ invariant_of-self-2 c =
     let lt : t < 32 = c.requires.form.thread in
     let below : t < length b.threads.items = omega (arith, lt, c.self.invariant.threads) in
     let was : c.index_mut-records.result.now ≡ get_or b.threads.items t [] = get_or_read b.threads.items t _ below c.index_mut-records.ensures.value [] in
-    let more : c.add_shown.new.records ≡ get_or b.threads.items t [] ++ c.args.entry ∷ [] = c.in_ok-add_shown.ensures.records ∙ ap (λ rs. rs ++ c.args.entry ∷ []) was in
-    let new : BookState = record { chunk = b.chunk; events = b.events + 1; bytes = b.bytes + c.record_size-size.result; log = c.add_shown.new.log.items; threads = set b.threads.items t c.add_shown.new.records } in
+    let more : c.add_record.new.records ≡ get_or b.threads.items t [] ++ c.args.entry ∷ [] = c.in_ok-add_record.ensures.records ∙ ap (λ rs. rs ++ c.args.entry ∷ []) was in
+    let new : BookState = record { chunk = b.chunk; events = b.events + 1; bytes = b.bytes + c.record_size-size.result; log = c.add_record.new.log.items; threads = set b.threads.items t c.add_record.new.records } in
     let added : IsAdded c.args.entry old new = record {
       full = c.requires.form;
       chunk = refl;
       events = refl;
       bytes = ap (λ n. b.bytes + n) c.record_size-size.ensures.size;
       threads = ap (set b.threads.items t) more;
-      log = c.in_ok-add_shown.ensures.log ∙ ap (λ rs. b.log.items ++ chunks_text (filled b.chunk t rs)) more;
+      log = c.in_ok-add_record.ensures.log ∙ ap (λ rs. b.log.items ++ chunks_text (filled b.chunk t rs)) more;
     } in
     still_sound c.args.entry old new added c.self.invariant
 
@@ -34,14 +34,14 @@ returns-clause-added c = λ w past m made is k.
     let lt : t < 32 = c.requires.form.thread in
     let below : t < length b.threads.items = omega (arith, lt, c.self.invariant.threads) in
     let was : c.index_mut-records.result.now ≡ get_or b.threads.items t [] = get_or_read b.threads.items t _ below c.index_mut-records.ensures.value [] in
-    let more : c.add_shown.new.records ≡ get_or b.threads.items t [] ++ c.args.entry ∷ [] = c.in_ok-add_shown.ensures.records ∙ ap (λ rs. rs ++ c.args.entry ∷ []) was in
-    let new : BookState = record { chunk = b.chunk; events = b.events + 1; bytes = b.bytes + c.record_size-size.result; log = c.add_shown.new.log.items; threads = set b.threads.items t c.add_shown.new.records } in
+    let more : c.add_record.new.records ≡ get_or b.threads.items t [] ++ c.args.entry ∷ [] = c.in_ok-add_record.ensures.records ∙ ap (λ rs. rs ++ c.args.entry ∷ []) was in
+    let new : BookState = record { chunk = b.chunk; events = b.events + 1; bytes = b.bytes + c.record_size-size.result; log = c.add_record.new.log.items; threads = set b.threads.items t c.add_record.new.records } in
     let added : IsAdded c.args.entry old new = record {
       full = c.requires.form;
       chunk = refl;
       events = refl;
       bytes = ap (λ n. b.bytes + n) c.record_size-size.ensures.size;
       threads = ap (set b.threads.items t) more;
-      log = c.in_ok-add_shown.ensures.log ∙ ap (λ rs. b.log.items ++ chunks_text (filled b.chunk t rs)) more;
+      log = c.in_ok-add_record.ensures.log ∙ ap (λ rs. b.log.items ++ chunks_text (filled b.chunk t rs)) more;
     } in
     is_added c.args.entry old new added w past m made is (subst (IsBookOf w past) (sym c.self.view_is) k)

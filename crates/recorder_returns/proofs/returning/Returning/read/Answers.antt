@@ -1,4 +1,4 @@
-use Rattle.std.proofs.Common.{◌≡◌, ◌++◌, [], sym, ap, ◌∙◌}
+use Rattle.std.proofs.Common.{◌≡◌, [], sym, ap, ◌∙◌}
 use Rattle.c_code.specs.Machine.{func_of}
 use Rattle.stub_operations.specs.Stubs.{added_at, or_none}
 use Rattle.stub_meaning.specs.Calls.{Done, done}
@@ -17,11 +17,10 @@ returns c =
     let args = c.args.args.now in
     let v = c.args.value in
     let ops = or_none (added_at w.stubs f) in
-    let before : c.fill.new.self ≡ done w.laid.code (called (func_of w.laid.code f) args 0) ops = c.in_ok-fill.ensures ∙ (λ j. done (c.code-code.ensures j) (called (func_of (c.code-code.ensures j) f) args 0) (c.ops-ops.ensures j)) in
-    let after : c.fill-2.new.self ≡ done w.laid.code (called (func_of w.laid.code f) args v) ops = c.in_ok-fill-2.ensures ∙ (λ j. done (c.code-code.ensures j) (called (func_of (c.code-code.ensures j) f) args v) (c.ops-ops.ensures j)) in
+    let after : c.fill_at_return.new.self ≡ done w.laid.code (called (func_of w.laid.code f) args v) ops = c.in_ok-fill_at_return.ensures.done ∙ (λ j. done (c.code-code.ensures j) (called (func_of (c.code-code.ensures j) f) args v) (c.ops-ops.ensures j)) in
     on_ok c.return_keys.result
     (λ keys. record {
-      ranges = c.in_ok-extend_from_slice.ensures.items ∙ ((λ j. c.clear.ensures.items j ++ c.outs.ensures j) ∙ ap (λ (d : Done). d.outs) before);
+      ranges = c.in_ok-fill_at_return.ensures.held ∙ (λ j. (done (c.code-code.ensures j) (called (func_of (c.code-code.ensures j) f) args 0) (c.ops-ops.ensures j)).outs);
       used = ap (λ (d : Done). d.used) after;
       commit = ap (λ (d : Done). first_of d.commits) after;
       cached = ap (λ (d : Done). d.is_cached) after ∙ cached_same w.laid.code (called (func_of w.laid.code f) args v) (called (func_of w.laid.code f) [] 0) ops;

@@ -5,8 +5,5 @@ use Rattle.recorder_state.proofs.state.RunState.end_step.Goals as goal
 pub want-next-requires-clause-started : goal.want-next-requires-clause-started
 want-next-requires-clause-started c = is_started (world_of c.args.inputs) c.args.self.now c.args.thread c.requires
 
-pub end_step_at-requires-clause-next : goal.end_step_at-requires-clause-next
-end_step_at-requires-clause-next c = c.want-next.ensures
-
-pub returns-clause-reached : goal.returns-clause-reached
-returns-clause-reached c = c.keep.ensures.reached (world_of c.args.inputs) c.end_step_at.ensures.gone_on
+pub end_step_known-requires-clause-next : goal.end_step_known-requires-clause-next
+end_step_known-requires-clause-next c = c.want-next.ensures

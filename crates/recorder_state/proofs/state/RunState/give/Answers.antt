@@ -18,11 +18,14 @@ note-requires-clause-ints c =
 pub give_to-requires : goal.give_to-requires
 give_to-requires c = is_result (world_of c.args.inputs) c.args.self.now c.args.thread c.args.func c.args.value c.requires
 
-pub end_step-requires : goal.end_step-requires
-end_step-requires c =
+pub end_step_known-requires-clause-told : goal.end_step_known-requires-clause-told
+end_step_known-requires-clause-told c =
     let w = world_of c.args.inputs in
     let s = c.args.self.now in
     let t = c.args.thread in
     step_told w s t c.args.func c.args.value (Value c.args.value) c.requires c.give_to.new.threads c.note.new.self
-    (c.in_ok-give_to.ensures (is_result w s t c.args.func c.args.value c.requires))
+    (c.in_ok-next.ensures.stand (is_result w s t c.args.func c.args.value c.requires))
     (subst (λ xs. Notes t c.args.func xs s.system c.note.new.self) c.args-2.ensures c.in_ok-note.ensures.noted) c.note.ensures.running
+
+pub end_step_known-requires-clause-next : goal.end_step_known-requires-clause-next
+end_step_known-requires-clause-next c = c.in_ok-next.ensures.next

@@ -1,0 +1,5 @@
+mod Bodies
+mod Alone
+mod Marks
+mod Chains
+mod Lent
