@@ -24,4 +24,3 @@ pub mod Together
 pub mod Numbers
 pub mod Widths
 pub mod Making
-pub mod Goes

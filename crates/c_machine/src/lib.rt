@@ -9,7 +9,6 @@ mod begin;
 mod calls;
 mod edits;
 mod feed;
-mod going;
 mod laws;
 mod look;
 mod make;
@@ -26,7 +25,6 @@ mod settle;
 mod state;
 mod thread;
 mod tops;
-mod tries;
 mod waits;
 mod wants;
 
