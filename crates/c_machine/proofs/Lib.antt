@@ -24,3 +24,4 @@ pub mod Together
 pub mod Numbers
 pub mod Widths
 pub mod Making
+pub mod Goes

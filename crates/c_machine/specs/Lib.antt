@@ -11,4 +11,5 @@ pub mod Makes
 pub mod Follows
 pub mod Callers
 pub mod Accesses
+pub mod Going
 pub mod Operators

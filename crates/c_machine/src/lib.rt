@@ -9,6 +9,7 @@ mod begin;
 mod calls;
 mod edits;
 mod feed;
+mod going;
 mod laws;
 mod look;
 mod make;
@@ -25,6 +26,7 @@ mod settle;
 mod state;
 mod thread;
 mod tops;
+mod tries;
 mod waits;
 mod wants;
 

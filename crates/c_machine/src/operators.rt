@@ -14,13 +14,13 @@ use r2_num::{IntKind, Op};
 
 // The bits of a kind, and how far its least value is below 0.
 #[derive(Clone, Copy)]
-struct Bits {
-    all: u64,
+pub(crate) struct Bits {
+    pub(crate) all: u64,
     half: u64,
 }
 
 #[inline(always)]
-fn bits_of(kind: IntKind) -> Bits
+pub(crate) fn bits_of(kind: IntKind) -> Bits
     ensures all { result.all ≡ 2 ^ width_of kind - 1 }
     ensures half { result.half ≡ unsigned_abs (least kind) }
 {

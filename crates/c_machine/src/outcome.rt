@@ -52,3 +52,18 @@ pub(crate) enum Passed {
     Marks(usize, Want, Heard),
     Calls(usize, Call),
 }
+
+// An instruction at a place that makes this mark, whose answer does so much.
+#[derive(Clone, Copy)]
+pub(crate) struct Asked {
+    pub(crate) place: usize,
+    pub(crate) want: Want,
+    pub(crate) heard: Heard,
+}
+
+// Where a thread comes to that makes its accesses: the activation goes on at the place, or stays at the instruction there.
+#[derive(Clone, Copy)]
+pub(crate) enum Went {
+    On(usize),
+    Stays(usize),
+}

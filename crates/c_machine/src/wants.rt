@@ -5,6 +5,7 @@ ghost use Rattle.marks.specs.Ranges.{number_of_bytes, bytes_of_number};
 ghost use Rattle.c_code.specs.Values.{bytes_of};
 ghost use Rattle.c_machine.specs.declared.wants.Want.TheVariants.{Load as ShownLoad, Store as ShownStore};
 
+use crate::operators::bits_of;
 use r2_num::IntKind;
 
 /// The next mark of a thread, or its next call.
@@ -87,10 +88,5 @@ fn width(kind: IntKind) -> u8
 fn low_bytes(kind: IntKind, value: u64) -> u64
     ensures { result ≡ value % 256 ^ bytes_of kind }
 {
-    match kind {
-        IntKind::I8 | IntKind::U8 => value % 0x100,
-        IntKind::I16 | IntKind::U16 => value % 0x1_0000,
-        IntKind::I32 | IntKind::U32 => value % 0x1_0000_0000,
-        IntKind::I64 | IntKind::U64 => value,
-    }
+    value & bits_of(kind).all
 }

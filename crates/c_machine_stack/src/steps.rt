@@ -40,10 +40,7 @@ impl<T: Copy + Drop> Stack<T> {
         ensures pushed { held self.new ≡ value ∷ held self.old }
         ensures room { room_of self.new ≡ room_of self.old }
     {
-        match self.items.push(value) {
-            Ok(()) => {}
-            Err(_) => unreachable!("the stack has room for the value"),
-        }
+        self.items.push_reserved(value);
     }
 
     /// Takes the topmost value; `None` where there is none.
@@ -74,7 +71,7 @@ impl<T: Copy + Drop> Stack<T> {
         ensures replaced { held self.new ≡ value ∷ drop 2 (held self.old) }
         ensures room { room_of self.new ≡ room_of self.old }
     {
-        let _gone = self.pop();
+        let _gone = self.items.take_last();
         self.replace_top(value);
     }
 

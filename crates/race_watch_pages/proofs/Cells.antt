@@ -103,7 +103,7 @@ end_same f d x (y ∷ ys) (suc k) z = end_same f d x ys k z
 
 -- a page of zeros is made where none is
 pub record IsMade (m n : Pages) (page : WordPage) (p at : ℕ) : Type 0 where
-  pub size : p < size m
+  pub listed : p < length m.index.items
   pub index : n.index.items ≡ set m.index.items p at
   pub end : at ≡ length m.words.items
   pub words : n.words.items ≡ m.words.items ++ page ∷ []
@@ -121,7 +121,7 @@ made_same m n page p at c h z = ap (λ l. value_of l (page_of n (c / 256)) c) h.
     go : (b : Bool) → eqb (c / 256) p ≡ b → value_of m.cells.items (page_of n (c / 256)) c ≡ kept m c
     go true t =
         let e : c / 256 ≡ p = eqb-true (c / 256) p t in
-        let place : slice_index n.index.items (c / 256) ≡ at = ap (slice_index n.index.items) e ∙ (ap (λ l. slice_index l p) h.index ∙ get_or-set_same m.index.items p at 0 h.size) in
+        let place : slice_index n.index.items (c / 256) ≡ at = ap (slice_index n.index.items) e ∙ (ap (λ l. slice_index l p) h.index ∙ get_or-set_same m.index.items p at 0 h.listed) in
         let last : page_of n (c / 256) ≡ page = ap (λ k. get_or n.words.items k blank_words) (place ∙ h.end) ∙ (ap (λ l. get_or l (length m.words.items) blank_words) h.words ∙ get_or-append_seam m.words.items page [] blank_words) in
         ap (λ q. value_of m.cells.items q c) last ∙ (zero_is ∙ sym (absent_zeros m p c h.away e))
     go false f =

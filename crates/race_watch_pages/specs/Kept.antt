@@ -35,7 +35,7 @@ kept m c = value_of m.cells.items (page_of m (c / 256)) c
 
 -- how many pages there may be
 abbrev pub size : Pages → ℕ
-size m = length m.index.items
+size m = m.size
 
 -- the page stands there, with a number for four cells in a row
 pub record StandsInWords (m : Pages) (p at : ℕ) : Type 0 where

@@ -1,6 +1,6 @@
 //! Numbers by cell.
 
-ghost use Rattle.std.specs.Prelude.{◌≡◌, ◌+◌, ◌*◌, ◌/◌, ◌%◌, ◌<◌, ◌≤◌, ◌&&◌, ℕ, nat_le, nat_lt, if◌then◌else◌, slice_index, IfOk, OnOk, IsTrue, IsFalse, MatchOption};
+ghost use Rattle.std.specs.Prelude.{◌≡◌, ◌+◌, ◌*◌, ◌/◌, ◌%◌, ◌<◌, ◌≤◌, ◌&&◌, ℕ, nat_le, nat_lt, if◌then◌else◌, length, slice_index, IfOk, OnOk, IsTrue, IsFalse, MatchOption};
 ghost use Rattle.race_watch_pages.specs.Kept.{kept, size, IsThere, IsSplit, IsReady, StandsAt, StandsInWords, StandsInCells};
 
 use crate::part::{
@@ -34,7 +34,10 @@ pub enum Place {
 /// Numbers by cell. A page that isn't there has zeros.
 #[derive(Drop)]
 pub struct Pages {
-    /// By page, where it stands if it is there; no number counts where another page stands (Briggs and Torczon 1993).
+    /// How many pages there may be.
+    size: u32,
+    /// By page, where it stands if it is there; no number counts where another page stands (Briggs and Torczon 1993). It ends with
+    /// the last page that was made, in memory that is reserved for all; past its end it counts as zeros.
     index: Vec<u32>,
     words: Vec<WordPage>,
     cells: Vec<CellPage>,
@@ -47,7 +50,8 @@ impl Pages {
         ensures zeros { IfOk result (λ m. (c : ℕ) → kept m c ≡ 0) }
     {
         Ok(Pages {
-            index: vec![in alloc; 0; pages as usize]?,
+            size: pages,
+            index: Vec::with_capacity(alloc, pages as usize)?,
             words: Vec::new(alloc),
             cells: Vec::new(alloc),
         })
@@ -59,7 +63,7 @@ impl Pages {
         requires { page < size self.now }
         ensures { MatchOption result (IsThere self.now page → ⊥) (λ at. StandsAt self.now page at) }
     {
-        let at = self.index[page as usize];
+        let at = listed(&self.index, page as usize);
         if (at as usize) < self.words.len() && self.words[at as usize].number == page {
             match self.words[at as usize].split {
                 None => return Some(Place::Words(at)),
@@ -228,6 +232,32 @@ impl Pages {
         if let Some(_at) = self.find(page) {
             return Ok(());
         }
+        self.list(page)?;
+        self.add_page(page)
+    }
+
+    /// Lets the index go on to a page.
+    fn list(&mut self, page: u32) -> Result<(), AllocError>
+        ensures size { size self.new ≡ size self.old }
+        ensures listed { OnOk result (page < length self.new.index.items) }
+        ensures same { (c : ℕ) → kept self.new c ≡ kept self.old c }
+        ensures stays { (p : ℕ) → IsThere self.old p → IsThere self.new p }
+        ensures split { (p : ℕ) → IsSplit self.old p → IsSplit self.new p }
+        ensures away { (p : ℕ) → IsThere self.new p → IsThere self.old p }
+    {
+        grow(&mut self.index, page as usize + 1)
+    }
+
+    /// Makes a page that isn't there.
+    fn add_page(&mut self, page: u32) -> Result<(), AllocError>
+        requires listed { page < length self.old.index.items }
+        requires away { IsThere self.old page → ⊥ }
+        ensures size { size self.new ≡ size self.old }
+        ensures same { (c : ℕ) → kept self.new c ≡ kept self.old c }
+        ensures there { OnOk result (IsThere self.new page) }
+        ensures stays { (p : ℕ) → IsThere self.old p → IsThere self.new p }
+        ensures split { (p : ℕ) → IsSplit self.old p → IsSplit self.new p }
+    {
         let at = self.words.len();
         if at > 0xffff_ffff {
             return Err(AllocError);
@@ -452,4 +482,26 @@ impl Pages {
             }
         }
     }
+}
+
+// Where a page stands if it is there.
+#[inline(always)]
+fn listed(index: &[u32], page: usize) -> u32
+    ensures { result ≡ slice_index index.now page }
+{
+    match index.get(page) {
+        Some(at) => *at,
+        None => 0,
+    }
+}
+
+// Makes the index end no earlier than a place, with zeros where it did.
+fn grow(index: &mut Vec<u32>, to: usize) -> Result<(), AllocError>
+    ensures len { OnOk result (to ≤ length index.new.items) }
+    ensures same { (p : ℕ) → slice_index index.new.items p ≡ slice_index index.old.items p }
+{
+    if index.len() < to {
+        index.resize(to, 0)?;
+    }
+    Ok(())
 }

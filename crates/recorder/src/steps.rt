@@ -19,6 +19,7 @@ use stub_calls::Done;
 
 /// Makes the step of the thread, whose code wants this on this side of the cut; or tells why the run makes no more steps. `main` is the
 /// number of `main`.
+#[inline(always)]
 pub fn step(
     state: &mut RunState,
     alloc: Global,

@@ -14,10 +14,10 @@ use crate::making::make;
 use crate::modes::first_forbidden;
 use crate::testing::stop_full;
 use marks::Side;
-use recorder_events::{copied_words, full};
+use recorder_events::full;
 use recorder_plain::{keeps_mode, mode_breach};
 use recorder_state::{Inputs, RunState, Stop};
-use run_events::{Event, Key};
+use run_events::{Event, Key, Words};
 use std::alloc::Global;
 use steps_above_memory::CallRegions;
 
@@ -64,7 +64,7 @@ fn call_filled(
     ensures steps { OnOk result (state.new.steps ≡ state.old.steps + 1) }
     ensures stopped { IfErr result (IsStopped (world_of inputs.entry) state.new) }
 {
-    let Ok(args) = copied_words(alloc, state.threads.args(thread)) else {
+    let Ok(args) = Words::from_slice(alloc, state.threads.args(thread)) else {
         return Err(Stop::Memory);
     };
     let event = Event::Call { func, args };

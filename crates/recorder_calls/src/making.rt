@@ -1,6 +1,7 @@
 //! Calls that are made.
 
-ghost use Rattle.std.specs.Prelude.{◌≡◌, ◌+◌, None, length, IfErr, OnOk};
+ghost use Rattle.std.specs.Prelude.{◌≡◌, ◌+◌, ℕ, List, None, length, IfErr, OnOk};
+ghost use Rattle.run_events.specs.declared.event.Event.TheVariants as logged;
 ghost use Rattle.recorder_state.specs.Inputs.{world_of};
 ghost use Rattle.recorder_state.specs.Stands.{IsReached};
 ghost use Rattle.recorder_state.specs.Ends.{IsStopped};
@@ -31,6 +32,7 @@ pub fn make(
     ensures steps { OnOk result (state.new.steps ≡ state.old.steps + 1) }
     ensures stopped { IfErr result (IsStopped (world_of inputs.entry) state.new) }
 {
+    let func = func_of(&event);
     let spaces = &state.memory.above.spaces;
     let Ok(printed) = printed(spaces, alloc, thread, regions.ins, keys) else {
         return Err(Stop::Memory);
@@ -45,7 +47,25 @@ pub fn make(
         return Err(Stop::Memory);
     }
     state.interface.register(keys);
-    state.threads.cross(inputs.code, inputs.placed, thread);
-    state.end_step(inputs, thread);
+    let next = state
+        .threads
+        .next_across(inputs.code, inputs.placed, thread, func);
+    state.end_step_known(inputs, thread, next);
     Ok(())
+}
+
+// The function that a Call calls.
+fn func_of(event: &Event) -> u16
+    requires { (func : ℕ) × (args : List ℕ) × (event.now ≡ logged.Call func args) }
+    ensures { (func : ℕ) (args : List ℕ) → event.now ≡ logged.Call func args → result ≡ func }
+{
+    match event {
+        Event::Call { func, .. } => *func,
+        Event::Ret { .. }
+        | Event::Up { .. }
+        | Event::UpRet { .. }
+        | Event::Alloc { .. }
+        | Event::Free { .. }
+        | Event::Stop { .. } => unreachable!("a Call is made"),
+    }
 }

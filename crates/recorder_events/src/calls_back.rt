@@ -1,6 +1,6 @@
 //! Calls back of functions above the cut, and their returns.
 
-ghost use Rattle.std.specs.Prelude.{◌+◌, ◌≡◌, ◌≤◌, ◌<◌, length, List, IfErr, IfOk, OnOk};
+ghost use Rattle.std.specs.Prelude.{◌+◌, ◌≡◌, ◌≤◌, ◌<◌, length, List, IfErr, OnOk};
 ghost use Rattle.marks.specs.declared.side.Side.TheVariants as sides;
 ghost use Rattle.marks.specs.Marks.{Mark};
 ghost use Rattle.marks.specs.Wants.{CalledBack, Go};
@@ -25,7 +25,7 @@ use c_machine::Answer;
 use marks::Side;
 use recorder_state::{Inputs, RunState, Stop};
 use run_events::{Class, Event, Key, Words};
-use std::alloc::{AllocError, Global};
+use std::alloc::Global;
 use steps_above_interface::InterfaceState;
 
 // Records an Up or UpRet, which reads and writes nothing.
@@ -68,14 +68,6 @@ pub fn is_called_back(interface: &InterfaceState, main: u16, func: u16) -> bool
     func == main || interface.is_registered(func)
 }
 
-/// The arguments of a call, for its record.
-pub fn copied_words(alloc: Global, words: &[u64]) -> Result<Words, AllocError>
-    ensures { IfOk result (λ copy. copy ≡ words.now) }
-{
-    let items = Vec::from_slice(alloc, words)?;
-    Ok(Words::from(items))
-}
-
 // Records the Up of the function that code below the cut calls through its address.
 fn make_up(
     state: &mut RunState,
@@ -91,7 +83,7 @@ fn make_up(
     ensures steps { OnOk result (state.new.steps ≡ state.old.steps) }
     ensures stopped { IfErr result (IsStopped (world_of inputs.entry) state.new) }
 {
-    let Ok(args) = copied_words(memory, state.threads.args(thread)) else {
+    let Ok(args) = Words::from_slice(memory, state.threads.args(thread)) else {
         return Err(Stop::Memory);
     };
     let key = Key {

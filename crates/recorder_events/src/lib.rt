@@ -7,7 +7,7 @@ mod pool;
 mod refusals;
 mod room;
 
-pub use calls_back::{copied_words, is_called_back, up, up_return};
+pub use calls_back::{is_called_back, up, up_return};
 pub use making::make_event;
 pub use pool::{alloc, free};
 pub use room::full;

@@ -5,6 +5,7 @@ pub mod Flags
 pub mod Ending
 pub mod PlainSteps
 pub mod Tried
+pub mod Alone
 pub mod Broken
 pub mod Sources
 pub mod Begun

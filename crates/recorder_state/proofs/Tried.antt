@@ -3,6 +3,8 @@ use Rattle.std.proofs.Common.{◌≡◌, ◌≢◌, ℕ, ◌<◌, true, List, []
 use Rattle.std.specs.Prelude.{reverse}
 use Rattle.marks.specs.declared.side.Side.{Side}
 use Rattle.marks.specs.Marks.{Mark}
+use Rattle.marks.specs.Wants.{Want}
+use Rattle.c_code.specs.Machine.{Laid}
 use Rattle.c_code.specs.MarkLists.{Split, Wants, Ends, Wrong, lists, state, step}
 use Rattle.c_code.specs.Typed.{AreArguments, CarriesValues}
 use Rattle.system_side.specs.declared.threads.Standing.TheVariants.{Ready}
@@ -66,6 +68,23 @@ with_system w s system r stands = record {
   known = r.known;
 }
 
+-- what is told of code that waits for no result
+pub not_asked : (l : Laid) (args : List ℕ) (want : Want) (x : Told) → IsTold l args x want → asked_func x ≡ None → asked want ≡ None
+not_asked l args want (told.Give g) is e = absurd cc
+not_asked l args want (told.Step i g) is e = absurd cc
+not_asked l args want told.Turn is e = ap asked is
+not_asked l args want (told.Load at k) is e = ap asked is.1
+not_asked l args want (told.Store at k v) is e = ap asked is.1
+not_asked l args want (told.Enter i g size) is e = ap asked is.0
+not_asked l args want told.Leave is e = ap asked is.2
+not_asked l args want (told.Alloc k) is e = ap asked is
+not_asked l args want (told.Free at) is e = ap asked is
+not_asked l args want (told.Call i g) is e = ap asked is
+not_asked l args want (told.Return g v) is e = ap asked is
+not_asked l args want (told.CallBack g size) is e = ap asked is.0
+not_asked l args want (told.UpReturn v) is e = ap asked is.1
+not_asked l args want (told.Fault k) is e = ap asked is.1
+
 abbrev number_in : ℕ → Option ℕ → ℕ
 number_in d None = d
 number_in d (Some x) = x
@@ -120,22 +139,6 @@ module _ (w : World) (s : RunState) (t : ℕ) (h : IsTried w s t) where
     asked_so (told.UpReturn v) is f e = absurd cc
     asked_so (told.Fault k) is f e = absurd cc
 
-    not_asked : (x : Told) → IsTold w.laid args x n.want → asked_func x ≡ None → asked n.want ≡ None
-    not_asked (told.Give g) is e = absurd cc
-    not_asked (told.Step i g) is e = absurd cc
-    not_asked told.Turn is e = ap asked is
-    not_asked (told.Load at k) is e = ap asked is.1
-    not_asked (told.Store at k v) is e = ap asked is.1
-    not_asked (told.Enter i g size) is e = ap asked is.0
-    not_asked told.Leave is e = ap asked is.2
-    not_asked (told.Alloc k) is e = ap asked is
-    not_asked (told.Free at) is e = ap asked is
-    not_asked (told.Call i g) is e = ap asked is
-    not_asked (told.Return g v) is e = ap asked is
-    not_asked (told.CallBack g size) is e = ap asked is.0
-    not_asked (told.UpReturn v) is e = ap asked is.1
-    not_asked (told.Fault k) is e = ap asked is.1
-
     ints_so : (x : Told) → IsTold w.laid args x n.want → (f : ℕ) → asked_func x ≡ Some f → AreArguments w.laid f args
     ints_so (told.Give g) is f e = subst (λ k. AreArguments w.laid k args) (same f g e) (subst (CarriesValues w.laid) is carries)
     ints_so (told.Step i g) is f e = subst (λ k. AreArguments w.laid k args) (same f g e) (subst (CarriesValues w.laid) is carries)
@@ -161,7 +164,7 @@ module _ (w : World) (s : RunState) (t : ℕ) (h : IsTried w s t) where
     pub can_plainly : asked_func said ≡ None → can_step w past t ≡ true
     can_plainly e =
         can_by w past t h.started
-        ∙ (ap (λ x. may_go_on w past t x) n.wants ∙ ap (is_unblocked w past t) (not_asked said n.is_told e))
+        ∙ (ap (λ x. may_go_on w past t x) n.wants ∙ ap (is_unblocked w past t) (not_asked w.laid args n.want said n.is_told e))
 
     pub at_step : (system : SystemState) → IsSystemOf w past system → can_step w past t ≡ true → IsAtStep w (record s { system = system }) t side said
     at_step system stands can = record {

@@ -14,6 +14,9 @@ use crate::turn::Turn;
 use recorder_threads::{Next, Want};
 use whole_runs::{Ending, Halt};
 
+// The number of a run's only thread.
+const FIRST: u8 = 0;
+
 impl RunState {
     /// What comes next: the run ends, or a thread makes a step. A thread that has to wait is blocked on the way.
     pub fn next(&mut self, inputs: Inputs<'_>) -> Turn
@@ -21,6 +24,9 @@ impl RunState {
         ensures turn { IsTurn (world_of inputs.entry) self.new result }
         ensures steps { self.new.steps ≡ self.old.steps }
     {
+        if let Some(turn) = self.known_step(inputs) {
+            return turn;
+        }
         if self.system.all_ended() {
             return Turn::Ended(Ending::Done);
         }
@@ -29,6 +35,29 @@ impl RunState {
         }
         let wish = self.system.wish(self.steps);
         self.pick(inputs, wish)
+    }
+
+    // The step of a run's only thread, where that is known, waits for no result, and is within the budget: no schedule is asked.
+    #[inline(always)]
+    fn known_step(&self, inputs: Inputs<'_>) -> Option<Turn>
+        requires { IsReached (world_of inputs) self.now }
+        ensures { IfSome result (IsTurn (world_of inputs.entry) self.now) }
+    {
+        if self.threads.count() != 1 || self.steps == inputs.file.budget {
+            return None;
+        }
+        let known = self.known?;
+        let Next::Wants { side, want } = known.next else {
+            return None;
+        };
+        match asked(want) {
+            Some(_) => None,
+            None => Some(Turn::Step {
+                thread: FIRST,
+                side,
+                want,
+            }),
+        }
     }
 
     // The step of the first thread that can make one, from the one that is wished for on.

@@ -24,6 +24,7 @@ const SPAWN: u16 = 2;
 impl RunState {
     /// Goes on after a step of the thread on this side which is no event, and in which no call comes to its result: memory was told of
     /// it, and the thread is given this answer.
+    #[inline(always)]
     pub fn go_on(&mut self, inputs: Inputs<'_>, thread: u8, side: Side, answer: Answer)
         requires { IsPlainStep (world_of inputs) self.old thread side (told answer) }
         ensures reached { IsReached (world_of inputs.entry) self.new }
@@ -50,6 +51,7 @@ impl RunState {
     }
 
     /// Keeps what the code of the thread comes to.
+    #[inline(always)]
     pub fn keep(&mut self, thread: u8, next: Next)
         ensures reached { (w : World) → IsGoneOn w self.old thread next → IsReached w self.new }
         ensures steps { self.new.steps ≡ self.old.steps }
@@ -82,6 +84,7 @@ impl RunState {
     /// Goes on after the Ret of a function with a body: all but threads and system were told of it.
     ///
     /// `AllocError` where there is no memory.
+    #[inline(always)]
     pub fn give_back(&mut self, inputs: Inputs<'_>, thread: u8, func: u16) -> Result<(), AllocError>
         requires { IsReturnStep (world_of inputs) self.old thread func }
         ensures reached { OnOk result (IsReached (world_of inputs.entry) self.new) }
@@ -106,6 +109,7 @@ impl RunState {
     }
 
     /// The same where the code of the thread is known to have come to this.
+    #[inline(always)]
     pub fn end_step_known(&mut self, inputs: Inputs<'_>, thread: u8, next: Next)
         requires told { IsStepTold (world_of inputs) self.old thread }
         requires next { IsNextOf (world_of inputs).laid self.old.threads thread next }

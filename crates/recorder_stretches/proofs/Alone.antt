@@ -1,7 +1,5 @@
--- The only thread of a run makes its next step.
-use Rattle.std.proofs.Common.{◌≡◌, ℕ, zero, suc, ◌<◌, Bool, true, false, cond, List, [], ◌∷◌, ◌++◌, length, Option, Some, None, refl, sym, ap, ◌∙◌, subst, arith}
-use Rattle.std.specs.Prelude.{find, is_some, ◌&&◌, ◌-◌}
-use Rattle.std.specs.List.{list_all, range_with_len}
+-- What the code of the only thread of a run comes to.
+use Rattle.std.proofs.Common.{◌≡◌, ℕ, ◌<◌, Bool, true, false, List, length, Option, Some, None, refl, sym, ap, ◌∙◌, subst, arith}
 use Rattle.marks.specs.declared.side.Side.{Side}
 use Rattle.marks.specs.declared.side.Side.TheVariants.{Replay, System}
 use Rattle.marks.specs.Marks.{Mark}
@@ -14,13 +12,8 @@ use Rattle.c_machine.specs.declared.wants.Want.TheVariants as shows
 use Rattle.c_machine.specs.Moves.{EntersBody, ThreadState, IsInside, at_call, ready}
 use Rattle.c_machine.specs.Readers.{args_of, is_indirect, side_of}
 use Rattle.c_machine.specs.Wants.{shown, shown_want}
-use Rattle.system_side.specs.Schedule.{wish_at}
-use Rattle.system_side.specs.Threads.{order_of}
 use Rattle.whole_runs.specs.World.{World}
-use Rattle.whole_runs.specs.Outcomes.{started}
-use Rattle.whole_runs.specs.Threads.{comes, ended_with, has_ended, result_of}
-use Rattle.whole_runs.specs.Picks.{all_ended, asked, can_step, is_unblocked, may_go_on, stepping}
-use Rattle.recorder_system.proofs.Standing.{can_by, can_started}
+use Rattle.whole_runs.specs.Threads.{comes}
 use Rattle.recorder_threads.specs.declared.wants.Next.TheVariants as next
 use Rattle.recorder_threads.specs.declared.wants.Want.{Want as Told}
 use Rattle.recorder_threads.specs.declared.wants.Want.TheVariants as told
@@ -28,37 +21,12 @@ use Rattle.recorder_threads.specs.Telling.{told_mark}
 use Rattle.recorder_threads.specs.Threads.{IsNextOf, args_at, place_of, thread_at}
 use Rattle.recorder_threads.specs.Wants.{IsNextTold, IsTold, WantsTold}
 use Rattle.recorder_threads.proofs.Asked as asking
-use Rattle.recorder_threads.proofs.Places.{count_is, rests, thread_is}
+use Rattle.recorder_threads.proofs.Places.{rests, thread_is}
 use Rattle.recorder_threads.proofs.Told.{IsNoCall, mark_told}
 use Rattle.recorder_state.specs.declared.state.RunState.{RunState}
 use Rattle.recorder_state.specs.Stands.{IsKnown, IsReached}
-use Rattle.recorder_state.specs.Turns.{IsAtStep}
 use Rattle.recorder_stretches.specs.Stretches.{IsAccessTold, IsAtAccess}
 use Rattle.recorder_stretches.proofs.Bodies.{IsAccess}
-
--- ---- it is picked
-
-found_alone : (p : ℕ → Bool) (xs ys : List ℕ) → ((u : ℕ) → p u ≡ true → u ≡ 0) → p 0 ≡ true → find p (xs ++ 0 ∷ ys) ≡ Some 0
-found_alone p [] ys only is = ap (λ b. cond b (Some 0) (find p ys)) is
-found_alone p (x ∷ xs) ys only is = by (p x) refl (found_alone p xs ys only is)
-  where
-    by : (b : Bool) → p x ≡ b → find p (xs ++ 0 ∷ ys) ≡ Some 0 → cond b (Some x) (find p (xs ++ 0 ∷ ys)) ≡ Some 0
-    by true e h = ap Some (only x e)
-    by false e h = h
-
-module _ (w : World) (past : List Mark) (one : started past ≡ 1) where
-  only : (u : ℕ) → can_step w past u ≡ true → u ≡ 0
-  only u can = let lt = can_started w past u can in omega (arith, lt, one)
-
-  pub alone_steps : can_step w past 0 ≡ true → stepping w past ≡ Some 0
-  alone_steps can = by (wish_at w.file.schedule (length past))
-    where
-      by : (wish : ℕ) → find (can_step w past) (order_of wish) ≡ Some 0
-      by zero = ap (λ b. cond b (Some 0) (find (can_step w past) (range_with_len 1 31 ++ []))) can
-      by (suc n) = found_alone (can_step w past) (range_with_len (suc n) (32 - suc n)) (range_with_len 1 n) only can
-
-  pub alone_runs : result_of w past 0 ≡ None → all_ended w past ≡ false
-  alone_runs none = ap (λ k. list_all (has_ended w past) (range_with_len 0 k)) one ∙ ap (λ o. is_some o && true) none
 
 -- ---- what its code comes to
 
@@ -149,9 +117,6 @@ module _ (w : World) (s : RunState) (r : IsReached w s) (one : length s.threads 
   lt : 0 < length s.threads
   lt = omega (arith, one)
 
-  many : started past ≡ 1
-  many = sym (count_is w past s.threads r.around.shown.threads) ∙ one
-
   config_is : thread.config ≡ ready w.laid (place_of w past 0)
   config_is = ap (λ (t : ThreadState). t.config) (thread_is w past s.threads r.around.shown.threads 0 lt) ∙ (rests w past 0).config
 
@@ -170,27 +135,6 @@ module _ (w : World) (s : RunState) (r : IsReached w s) (one : length s.threads 
       let here : IsNextTold w.laid (args_of thread.config) (told_mark (side_of thread.config) (is_indirect thread.config) v) (step Split w.laid place) =
       subst (λ c. IsNextTold w.laid (args_of c) (told_mark (side_of c) (is_indirect c) v) (step Split w.laid place)) (sym config_is) there in
       subst (λ d. IsNextTold w.laid (args_of thread.config) (told_mark d (is_indirect thread.config) v) (step Split w.laid place)) (going_side side thread.config going) here
-
-  -- its step is the next one
-  pub at_step : (side : Side) (said : Told) (n : WantsTold w.laid (args_at s.threads 0) side said (comes w past 0)) → asked n.want ≡ None → s.steps < w.file.budget → IsAtStep w s 0 side said
-  at_step side said n none few = record {
-    reached = r;
-    step = record {
-      goes_on = record {
-        running = alone_runs w past many (ap ended_with n.wants);
-        in_budget = let e = r.steps in omega (arith, e, few);
-      };
-      thread = 0;
-      picked = alone_steps w past many (can_by w past 0 (omega (arith, many)) ∙ (ap (may_go_on w past 0) n.wants ∙ ap (is_unblocked w past 0) none));
-      side = side;
-      want = n.want;
-      to = n.to;
-      comes_is = n.wants;
-    };
-    thread = refl;
-    side_is = refl;
-    told = n.is_told;
-  }
 
 -- where it is known to come to an access on this side, it is on that side
 pub side_known : (w : World) (s : RunState) (r : IsReached w s) (side : Side) (at : IsAtAccess s side) → side_of (thread_at s.threads 0).config ≡ side

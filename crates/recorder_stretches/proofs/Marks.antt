@@ -34,13 +34,13 @@ use Rattle.recorder_state.specs.declared.state.RunState.{RunState}
 use Rattle.recorder_state.specs.Stands.{IsReached}
 use Rattle.recorder_state.specs.Turns.{IsAtStep}
 use Rattle.recorder_state.specs.Plain.{IsPlainStep, IsStepTold}
+use Rattle.recorder_state.proofs.Alone.{at_step}
 use Rattle.recorder_state.proofs.Going.{GoesOn}
 use Rattle.recorder_state.proofs.PlainSteps.{counted, step_told, uncounted}
 use Rattle.recorder_state.proofs.Ending as ending
 use Rattle.recorder_plain.proofs.Replies.{load_gives, store_gives, turn_gives}
 use Rattle.recorder_plain.proofs.Steps.{goes_on, comes as comes_to}
 use Rattle.recorder_stretches.specs.Stretches.{IsMadeIn}
-use Rattle.recorder_stretches.proofs.Alone.{at_step}
 use Rattle.recorder_stretches.proofs.Bodies as bodies
 use Rattle.recorder_stretches.proofs.Bodies.{IsOn}
 

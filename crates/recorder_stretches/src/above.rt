@@ -21,7 +21,7 @@ impl Accesses for Above<'_> {
 
     ghost left = { λ a. a.left };
 
-    #[inline(always)]
+    #[inline(never)]
     fn load(&mut self, addr: u64, width: u8) -> Option<u64> {
         if self.left == 0 {
             return None;
@@ -35,7 +35,7 @@ impl Accesses for Above<'_> {
         }
     }
 
-    #[inline(always)]
+    #[inline(never)]
     fn store(&mut self, addr: u64, width: u8, value: u64) -> bool {
         if self.left == 0 {
             return false;

@@ -7,3 +7,4 @@ pub mod Told
 pub mod Looks
 pub mod Places
 pub mod Answering
+pub mod Across

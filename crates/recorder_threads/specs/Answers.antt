@@ -1,5 +1,5 @@
 -- Marks with which a thread answers what its code wants.
-use Rattle.std.specs.Prelude.{◌≡◌, ℕ, true, List, [], ◌∷◌, length, Some}
+use Rattle.std.specs.Prelude.{◌≡◌, ℕ, Bool, true, List, [], ◌∷◌, length, Some}
 use Rattle.marks.specs.Marks.{Mark}
 use Rattle.marks.specs.Wants.{Want, Outside, Turns, Loads, Stores, Enters, Leaves, Allocs, Frees, Calls, Below, Gives, Returns, CallsBack, UpReturns, Steps, Fails, Answer, CalledBack, Value}
 use Rattle.c_code.specs.Machine.{Laid}
@@ -44,6 +44,10 @@ IsCall (CallsBack f args bytes) = ⊥
 IsCall (UpReturns f result) = ⊥
 IsCall (Steps indirect f args) = ⊥
 IsCall (Fails kind) = ⊥
+
+-- it is one of this function
+abbrev pub IsCallTo : (func : ℕ) → Want → Type 0
+IsCallTo f w = (indirect : Bool) × (args : List ℕ) × (w ≡ Calls indirect f args)
 
 -- anything else
 abbrev pub IsNoCall : Want → Type 0

@@ -1,12 +1,13 @@
 // What the code of a thread comes to where the thread rests.
 
-ghost use Rattle.std.specs.Prelude.{◌≡◌, Some};
+ghost use Rattle.std.specs.Prelude.{◌≡◌, true, Some};
 ghost use Rattle.c_code.specs.Machine.{Config, action, func_of};
 ghost use Rattle.c_code.specs.MarkLists.{Split, step};
 ghost use Rattle.c_code.specs.Valid.{IsValid};
 ghost use Rattle.c_machine.specs.declared.wants.Want.TheVariants.{Call as ShownCall};
 ghost use Rattle.c_machine.specs.Accesses.{Makes};
-ghost use Rattle.c_machine.specs.Moves.{IsInside, MayFeed, after_answer};
+ghost use Rattle.c_machine.specs.Callers.{crosses_at};
+ghost use Rattle.c_machine.specs.Moves.{IsInside, MayFeed, after_answer, after_call};
 ghost use Rattle.c_machine.specs.Positions.{laid};
 ghost use Rattle.c_machine.specs.Readers.{args_of, side_of};
 ghost use Rattle.c_machine.specs.Wants.{shown, told};
@@ -46,6 +47,23 @@ pub(crate) fn next_after(
 {
     let want = thread.feed_next(code, placed, answer);
     next_where(thread, code, placed, want)
+}
+
+// The event of the thread's call of this function was made: what it comes to below the cut.
+#[inline(always)]
+pub(crate) fn next_across(thread: &mut Thread, code: &FusedCode, placed: &Placed, func: u16) -> Next
+    requires crosses { crosses_at (laid code.now placed.now) thread.old.config ≡ true }
+    requires call { shown (laid code.now placed.now) (action (laid code.now placed.now) thread.old.config) ≡
+        Some (ShownCall func) }
+    ensures crossed { thread.new ≡ after_call thread.old }
+    ensures next { (c : Config) → RestsAt (laid code.now placed.now) c thread.new →
+        IsNextTold (laid code.now placed.now) (args_of thread.new.config) result
+        (step Split (laid code.now placed.now) c) }
+{
+    check(code);
+    thread.cross(code, placed);
+    // Whether it was called through an address doesn't matter below the cut.
+    told_crossing(Side::System, false, func, body_frame(code, func))
 }
 
 // The thread makes accesses and rounds, as far as `accesses` makes them: what it comes to then.

@@ -14,9 +14,9 @@ ghost use Rattle.c_machine.specs.Wants.{told};
 ghost use Rattle.recorder_threads.specs.Threads.{AreInside, AreThreadsOf, IsBegun, IsNextOf, thread_at};
 ghost use Rattle.recorder_threads.specs.Wants.{IsNextTold};
 ghost use Rattle.recorder_threads.specs.Telling.{RestsAt};
-ghost use Rattle.recorder_threads.specs.Answers.{IsCall, IsCalledBack, IsNoCall, IsPlain, IsStart};
+ghost use Rattle.recorder_threads.specs.Answers.{IsCall, IsCallTo, IsCalledBack, IsNoCall, IsPlain, IsStart};
 
-use crate::look::{next_after, next_after_accesses};
+use crate::look::{next_across, next_after, next_after_accesses};
 use crate::threads::{MOST_OPEN, Threads};
 use crate::wants::Next;
 use c_code::Placed;
@@ -42,6 +42,17 @@ impl Threads {
             AreThreadsOf a.next.world (a.next.mark ∷ a.next.past) self.new }
     {
         self.threads[thread as usize].cross(code, placed);
+    }
+
+    /// The same where the call is one of this function: what the code of the thread comes to then.
+    #[inline(always)]
+    pub fn next_across(&mut self, code: &FusedCode, placed: &Placed, thread: u8, func: u16) -> Next
+        requires { IsPlain (laid code.now placed.now) self.old thread (IsCallTo func) Go }
+        ensures stand { (a : IsPlain (laid code.now placed.now) self.old thread (IsCallTo func) Go) →
+            AreThreadsOf a.next.world (a.next.mark ∷ a.next.past) self.new }
+        ensures next { IsNextOf (laid code.now placed.now) self.new thread result }
+    {
+        next_across(&mut self.threads[thread as usize], code, placed, func)
     }
 
     /// The mark of the thread gave it this: the value that was loaded, the address of a block, the result of a Ret or Step that started
@@ -75,6 +86,7 @@ impl Threads {
 
     /// The function that the code of the thread enters, or calls through an address, has its frame at this address: what the code comes
     /// to then.
+    #[inline(always)]
     pub fn next_in_frame(
         &mut self,
         code: &FusedCode,
@@ -163,6 +175,7 @@ fn begun(
 }
 
 // The function that is to be entered has its frame there; at a call it begins first. What the code comes to then.
+#[inline(always)]
 fn enter(thread: &mut Thread, code: &FusedCode, placed: &Placed, frame: u64) -> Next
     requires inside { IsInside (laid code.now placed.now) thread.old.config }
     requires may { MayTell (laid code.now placed.now) thread.old (frame_report thread.old.config frame) }

@@ -1,17 +1,18 @@
 //! Lists of one kind of item. Contracts see each as the list of its items. Each is made from a vector
-//! and gives it back without taking memory.
+//! without taking memory.
 
-ghost use Rattle.std.specs.Prelude.{◌≡◌, [], ℕ, List};
+ghost use Rattle.std.specs.Prelude.{◌≡◌, [], ℕ, List, IfOk};
 ghost use Rattle.run_events.specs.declared.key.KeyMark.{KeyMark};
 
 use crate::key::KeyMark;
-use std::alloc::Global;
+use smallvec::SmallVec;
+use std::alloc::{AllocError, Global};
 use std::marker::Model;
 
-/// Values of 64 bits, as the arguments of a call.
+/// Values of 64 bits, as the arguments of a call. Up to two lie in the value itself.
 #[derive(Drop)]
 pub struct Words {
-    items: Vec<u64>,
+    items: SmallVec<u64, 2>,
 }
 
 impl Model for Words {
@@ -26,23 +27,24 @@ impl Words {
         ensures { result ≡ [] }
     {
         Words {
-            items: Vec::new(alloc),
+            items: SmallVec::new(alloc),
         }
     }
 
+    /// A copy of these values. `AllocError` where there is no memory.
+    pub fn from_slice(alloc: Global, values: &[u64]) -> Result<Self, AllocError>
+        ensures { IfOk result (λ copy. copy ≡ values.now) }
+    {
+        let items = SmallVec::from_slice(alloc, values)?;
+        Ok(Words { items })
+    }
+
     /// The values, in order.
+    #[inline(always)]
     pub fn as_slice(&self) -> &[u64]
         ensures { result.now ≡ self.now }
     {
-        &self.items
-    }
-
-    /// The vector of the values.
-    pub fn into_vec(self) -> Vec<u64>
-        ensures { result.items ≡ self }
-    {
-        let Words { items } = self;
-        items
+        self.items.as_slice()
     }
 }
 
@@ -50,7 +52,9 @@ impl From<Vec<u64>> for Words {
     ghost from_gives = { λ v l. l ≡ v.items };
 
     fn from(items: Vec<u64>) -> Words {
-        Words { items }
+        Words {
+            items: SmallVec::from_vec(items),
+        }
     }
 }
 

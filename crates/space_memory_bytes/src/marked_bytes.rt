@@ -107,7 +107,8 @@ impl MarkedBytes {
     }
 
     /// The number of the `width` bytes from a place on, the lowest first; `None` where one is dead.
-    // It's large, so it stands in one place, and what calls it is inlined.
+    // The commonest widths stand here, the others apart, so that little is done before either. It stands in one place, and what calls it
+    // is inlined.
     #[inline(never)]
     pub fn number(&self, at: usize, width: u8) -> Option<u64>
         requires in_cells { at < length self.now }
@@ -118,10 +119,25 @@ impl MarkedBytes {
         ensures fits { IfSome result (λ value. value < 256 ^ width) }
     {
         match width {
-            1 => self.number_of(at, 1),
-            2 => self.number_of(at, 2),
             4 => self.number_of(at, 4),
             8 => self.number_of(at, 8),
+            1 => self.number_of(at, 1),
+            _ => self.number_of_few(at, width),
+        }
+    }
+
+    // The same, of any width.
+    #[inline(never)]
+    fn number_of_few(&self, at: usize, width: u8) -> Option<u64>
+        requires in_cells { at < length self.now }
+        requires some { 1 ≤ width }
+        requires at_most_8 { width ≤ 8 }
+        ensures live { IsSome result ↔ AreLive self.now at width }
+        ensures digits { IfSome result (HasDigits self.now at width) }
+        ensures fits { IfSome result (λ value. value < 256 ^ width) }
+    {
+        match width {
+            2 => self.number_of(at, 2),
             _ => self.number_of(at, width as usize),
         }
     }
@@ -138,10 +154,25 @@ impl MarkedBytes {
         ensures unchanged { OnFalse result (self.new ≡ self.old) }
     {
         match width {
-            1 => self.overwrite_with(at, 1, value),
-            2 => self.overwrite_with(at, 2, value),
             4 => self.overwrite_with(at, 4, value),
             8 => self.overwrite_with(at, 8, value),
+            1 => self.overwrite_with(at, 1, value),
+            _ => self.overwrite_few(at, width, value),
+        }
+    }
+
+    // The same, of any width.
+    #[inline(never)]
+    fn overwrite_few(&mut self, at: usize, width: u8, value: u64) -> bool
+        requires in_cells { at < length self.old }
+        requires some { 1 ≤ width }
+        requires at_most_8 { width ≤ 8 }
+        ensures live { IsTrue result ↔ AreLive self.old at width }
+        ensures written { OnTrue result (WritesDigits at width value self.old self.new) }
+        ensures unchanged { OnFalse result (self.new ≡ self.old) }
+    {
+        match width {
+            2 => self.overwrite_with(at, 2, value),
             _ => self.overwrite_with(at, width as usize, value),
         }
     }

@@ -1,10 +1,10 @@
-use Rattle.std.proofs.Common.{◌+◌, ◌++◌, length, refl, ap, ◌∙◌, subst, arith}
+use Rattle.std.proofs.Common.{◌+◌, ◌++◌, length, refl, sym, ap, ◌∙◌, subst, arith}
 use Rattle.marks.specs.declared.side.Side.TheVariants.{Replay}
 use Rattle.marks.specs.Wants.{Calls, Go}
 use Rattle.steps_above_interface.specs.Stands.{CountsCall}
 use Rattle.recorder_threads.specs.declared.wants.Want.TheVariants as wants
 use Rattle.recorder_threads.specs.Threads.{args_at}
-use Rattle.recorder_threads.specs.Answers.{IsCall}
+use Rattle.recorder_threads.specs.Answers.{IsCallTo}
 use Rattle.recorder_state.specs.declared.state.RunState.{RunState}
 use Rattle.recorder_state.specs.Inputs.{world_of}
 use Rattle.recorder_plain.proofs.Steps.{few}
@@ -60,15 +60,28 @@ told c =
     (c.register.ensures.functions ∙ ap (λ (z : RunState). length z.interface.registered) r.rest)
     refl c.in_default-call.ensures.made refl c.requires.room
 
-pub cross-requires : goal.cross-requires
-cross-requires c = plain_answer _ _ c.args.thread _ Go (told (goal.at.cross-requires c).After-register) IsCall tt
+-- the call is one of the function of its event
+calls_it : (c : After-register) → IsCallTo c.func_of-func.result (Calls c.requires.next.indirect c.requires.next.func (args_at c.args.state.now.threads c.args.thread))
+calls_it c =
+    let h = c.requires.next in
+    let args = args_at c.args.state.now.threads c.args.thread in
+    (h.indirect, args, ap (λ f. Calls h.indirect f args) (sym (c.func_of-func.ensures h.func args (sym h.event_is))))
 
-pub end_step-requires : goal.end_step-requires
-end_step-requires c =
-    let d = told (goal.at.end_step-requires c).After-register in
-    step_told _ _ c.args.thread _ Go d _ (c.cross.ensures (plain_answer _ _ c.args.thread _ Go d IsCall tt))
+pub func_of-func-requires : goal.func_of-func-requires
+func_of-func-requires c = let h = c.requires.next in (h.func, args_at c.args.state.now.threads c.args.thread, sym h.event_is)
+
+pub next_across-next-requires : goal.next_across-next-requires
+next_across-next-requires c =
+    let r = (goal.at.next_across-next-requires c).After-register in
+    plain_answer _ _ c.args.thread _ Go (told r) (IsCallTo c.func_of-func.result) (calls_it r)
+
+pub end_step_known-requires-clause-told : goal.end_step_known-requires-clause-told
+end_step_known-requires-clause-told c =
+    let r = (goal.at.end_step_known-requires-clause-told c).After-register in
+    let d = told r in
+    step_told _ _ c.args.thread _ Go d _ (c.next_across-next.ensures.stand (plain_answer _ _ c.args.thread _ Go d (IsCallTo c.func_of-func.result) (calls_it r)))
 
 pub returns-clause-steps : goal.returns-clause-steps
 returns-clause-steps c =
     let r = c.in_default-make_event.ensures (coming_so _ c.args.state.now c.args.thread c.args.regions.now c.args.keys.now c.args.event c.requires.next c.call.new.self.spaces c.in_default-call.ensures.spaces c.in_default-call.ensures.passes (record { above = c.call.new.self })) in
-    c.end_step.ensures.steps ∙ ap (λ (z : RunState). z.steps + 1) r.rest
+    c.end_step_known.ensures.steps ∙ ap (λ (z : RunState). z.steps + 1) r.rest
