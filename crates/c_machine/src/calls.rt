@@ -80,6 +80,7 @@ impl Thread {
     }
 
     /// The thread's next mark or call.
+    #[inline(always)]
     pub fn next(&self, code: &FusedCode, placed: &Placed) -> Want
         requires inside { IsInside (laid code.now placed.now) self.now.config }
         ensures want { shown (laid code.now placed.now)
@@ -96,6 +97,22 @@ impl Thread {
             Some(want) => want,
             None => unreachable!("the code says what comes next"),
         }
+    }
+
+    // The same, in one place.
+    #[inline(never)]
+    pub(crate) fn next_apart(&self, code: &FusedCode, placed: &Placed) -> Want
+        requires inside { IsInside (laid code.now placed.now) self.now.config }
+        ensures want { shown (laid code.now placed.now)
+            (action (laid code.now placed.now) self.now.config) ≡ Some result }
+        ensures call { (f : ℕ) → result ≡ WantedCall f →
+            IsAtCall (laid code.now placed.now) self.now.config f }
+        ensures ret { (f v : ℕ) → result ≡ WantedRet f v →
+            IsAtReturn (laid code.now placed.now) self.now.config f v }
+        ensures answers { (answer : Answers) → IsNeeded result answer →
+            MayFeed (laid code.now placed.now) self.now.config (told answer) }
+    {
+        self.next(code, placed)
     }
 
     /// What came of the next mark or call. The thread goes on up to the one after it.
@@ -127,7 +144,7 @@ impl Thread {
     {
         match self.go_on(code, placed, answer) {
             Some(want) => want,
-            None => self.next(code, placed),
+            None => self.next_apart(code, placed),
         }
     }
 

@@ -3,7 +3,7 @@
 ghost use Rattle.std.specs.Prelude.{◌≡◌, ℕ, List, []};
 ghost use Rattle.c_code.specs.Valid.{IsValid};
 ghost use Rattle.c_code.specs.declared.activation.Waiting.{Waiting as Waits};
-ghost use Rattle.c_code.specs.Machine.{Laid, Going, action, close, take_args, with_args, returning};
+ghost use Rattle.c_code.specs.Machine.{Laid, Going, Under, action, close, take_args, with_args, returning};
 ghost use Rattle.c_machine_stack.specs.Stacks.{held};
 ghost use Rattle.c_machine.specs.Positions.{laid, config};
 ghost use Rattle.c_machine.specs.Moves.{FitsIn};
@@ -20,7 +20,7 @@ use c_code_fused::FusedCode;
 use marks::FaultKind;
 
 impl Position {
-    // What comes next; `None` where that is no mark and no call.
+    // What comes next; `None` where that is no mark and no call. A call is told at once.
     #[inline(always)]
     pub(crate) fn look(&self, code: &FusedCode, placed: &Placed) -> Option<Want>
         requires valid { IsValid code.now }
@@ -28,15 +28,23 @@ impl Position {
         ensures { result ≡ shown (laid code.now placed.now)
             (action (laid code.now placed.now) (config self.now)) }
     {
+        if let State::Calling(call, _) = &self.state {
+            return self.look_call(*call);
+        }
+        self.look_apart(code, placed)
+    }
+
+    // The same wherever it is.
+    #[inline(never)]
+    fn look_apart(&self, code: &FusedCode, placed: &Placed) -> Option<Want>
+        requires valid { IsValid code.now }
+        requires fits { FitsIn (laid code.now placed.now) (config self.now) }
+        ensures { result ≡ shown (laid code.now placed.now)
+            (action (laid code.now placed.now) (config self.now)) }
+    {
         match &self.state {
             State::Going(a) => self.look_at(a, code, placed),
-            State::Calling(call, _) => {
-                if has_args(&self.values, call.args) {
-                    Some(Want::Call { func: call.func })
-                } else {
-                    None
-                }
-            }
+            State::Calling(call, _) => self.look_call(*call),
             State::Entering(entry) => Some(Want::Enter {
                 func: entry.func,
                 size: frame_size(code, entry.func),
@@ -50,7 +58,6 @@ impl Position {
     }
 
     // The same at an instruction.
-    #[inline(never)]
     fn look_at(&self, a: &Activation, code: &FusedCode, placed: &Placed) -> Option<Want>
         requires valid { IsValid code.now }
         requires fits { FitsIn (laid code.now placed.now)
@@ -64,6 +71,19 @@ impl Position {
             Outcome::Asks(want, _) => Some(want),
             Outcome::Silent(_, _) => None,
             Outcome::Pends(_) => None,
+        }
+    }
+
+    // The same at a call.
+    #[inline(always)]
+    pub(crate) fn look_call(&self, call: Call) -> Option<Want>
+        ensures { (l : Laid) (ws : List Waits) →
+            result ≡ shown l (action l (Under call (held self.now.values) ws)) }
+    {
+        if has_args(&self.values, call.args) {
+            Some(Want::Call { func: call.func })
+        } else {
+            None
         }
     }
 

@@ -72,7 +72,7 @@ pub(crate) fn store_want(kind: IntKind, addr: u64, value: u64) -> Want
 
 // The bytes of the kind.
 #[inline(always)]
-fn width(kind: IntKind) -> u8
+pub(crate) fn width(kind: IntKind) -> u8
     ensures { result ≡ bytes_of kind }
 {
     match kind {

@@ -1,4 +1,5 @@
 pub mod RowSteps
 pub mod LineSteps
 pub mod DropSteps
+pub mod EndSteps
 pub mod LiveRows

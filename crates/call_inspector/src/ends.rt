@@ -1,17 +1,17 @@
 //! How a run ended, as its events show it.
 
-ghost use Rattle.std.specs.Prelude.{◌≡◌, ◌++◌, [], IfOk, OnOk};
+ghost use Rattle.std.specs.Prelude.{◌≡◌, ◌++◌, ◌&&◌, true, None, slice_get, OnOk};
 ghost use Rattle.std.specs.List.{list_any};
 ghost use Rattle.std.specs.Option.{option_copied};
-ghost use Rattle.call_inspector.specs.Ending.{fault_of_reason, fault_of, thread_fault, fault_from_thread, is_up, has_up, spawned, has_begun, is_over, is_done, ending_of, ending_text};
+ghost use Rattle.call_inspector.specs.Ending.{fault_of_reason, fault_of, fault_in, or_else, is_up, has_up, spawned, has_begun, ending_or, ending_text};
 
 use crate::crossings::Crossings;
 use crate::events::fault_word;
-use crate::run::{Records, Run};
+use crate::run::Records;
 use c_builtins::Builtin;
 use r2_base::put_dec;
 use run_events::{Event, Reason, Record};
-use std::alloc::{AllocError, Global};
+use std::alloc::AllocError;
 
 /// How a run ended, as its report shows it.
 #[derive(Clone, Copy)]
@@ -41,30 +41,6 @@ fn fault_of(event: &Event) -> Option<u8>
         Event::Stop { reason } => fault_of_reason(*reason),
         _ => None,
     }
-}
-
-/// The fault of a thread.
-fn thread_fault(records: &[Record]) -> Option<u8>
-    ensures { result ≡ thread_fault records.now }
-{
-    for record in records {
-        if let Some(kind) = fault_of(&record.event) {
-            return Some(kind);
-        }
-    }
-    None
-}
-
-/// The fault of the first thread that has one.
-fn first_fault(threads: &[Records]) -> Option<Shown>
-    ensures { result ≡ fault_from_thread 0 threads.now }
-{
-    for (thread, records) in threads.iter().enumerate() {
-        if let Some(kind) = thread_fault(records.as_slice()) {
-            return Some(Shown::Fault { kind, thread });
-        }
-    }
-    None
 }
 
 fn is_up(event: &Event) -> bool
@@ -125,60 +101,97 @@ fn has_begun(threads: &[Records], thread: Option<u64>) -> bool
     }
 }
 
-/// Whether the threads that a thread gave have an Up each, and each of its calls and callbacks has returned.
-fn is_over(
-    threads: &[Records],
-    active: &mut Crossings,
-    records: &[Record],
-) -> Result<bool, AllocError>
-    ensures { IfOk result (λ over. over ≡ is_over threads.now records.now) }
-{
-    active.clear();
-    for record in records {
-        if !has_begun(threads, spawned(active, &record.event)) {
-            return Ok(false);
-        }
-        active.pass(&record.event)?;
-    }
-    Ok(active.is_empty())
+/// What the events of a thread so far say of how the run ended.
+#[derive(Clone, Copy)]
+pub struct ThreadEnd {
+    /// The number of the fault of the first of them that has one.
+    pub fault: Option<u8>,
+    /// Whether each thread that they gave has an Up.
+    pub begun: bool,
 }
 
-/// Whether thread 0 has an Up and each thread is over.
-fn is_done(threads: &[Records], active: &mut Crossings) -> Result<bool, AllocError>
-    ensures { IfOk result (λ done. done ≡ is_done threads.now) }
-{
-    if !has_up(threads.get(0)) {
-        return Ok(false);
-    }
-    for records in threads {
-        if !is_over(threads, active, records.as_slice())? {
-            return Ok(false);
+impl ThreadEnd {
+    /// Before its first event.
+    pub fn new() -> ThreadEnd
+        ensures { result ≡ record { fault = None; begun = true } }
+    {
+        ThreadEnd {
+            fault: None,
+            begun: true,
         }
     }
-    Ok(true)
+
+    /// One more event, where these calls and callbacks are open.
+    #[inline(always)]
+    pub fn pass(&mut self, threads: &[Records], active: &Crossings, event: &Event)
+        ensures fault { self.new.fault ≡ or_else self.old.fault (fault_of event.now) }
+        ensures begun { self.new.begun ≡ (self.old.begun && has_begun threads.now (spawned active.now event.now)) }
+    {
+        if self.fault.is_none() {
+            self.fault = fault_of(event);
+        }
+        if self.begun {
+            self.begun = has_begun(threads, spawned(active, event));
+        }
+    }
 }
 
-/// How the run with these events ended. `active` is there for its memory.
-pub fn ending_in(threads: &[Records], active: &mut Crossings) -> Result<Shown, AllocError>
-    ensures { IfOk result (λ shown. shown ≡ ending_of threads.now) }
-{
-    if let Some(fault) = first_fault(threads) {
-        return Ok(fault);
+/// What the threads so far say of how the run ended.
+#[derive(Clone, Copy)]
+pub struct RunEnd {
+    /// The fault of the first of them that has one.
+    pub fault: Option<Shown>,
+    /// Whether each of them is over: the threads that it gave have an Up each, and each of its calls and callbacks has returned.
+    pub over: bool,
+}
+
+impl RunEnd {
+    /// Before the first thread.
+    pub fn new() -> RunEnd
+        ensures { result ≡ record { fault = None; over = true } }
+    {
+        RunEnd {
+            fault: None,
+            over: true,
+        }
     }
-    if is_done(threads, active)? {
-        Ok(Shown::Done)
-    } else {
-        Ok(Shown::Halted)
+
+    /// One more thread, with this number.
+    pub fn pass(&mut self, thread: usize, fault: Option<u8>, over: bool)
+        ensures fault { self.new.fault ≡ or_else self.old.fault (fault_in thread fault) }
+        ensures over { self.new.over ≡ (self.old.over && over) }
+    {
+        if self.fault.is_none() {
+            self.fault = fault_in(thread, fault);
+        }
+        self.over = self.over && over;
+    }
+
+    /// How the run ended, where these are all threads: with a fault where one has one; done where thread 0 has begun and each
+    /// thread is over; else halted.
+    pub fn shown(self, threads: &[Records]) -> Shown
+        ensures { result ≡ ending_or self.fault (has_up (slice_get threads.now 0) && self.over) }
+    {
+        match self.fault {
+            Some(fault) => fault,
+            None => {
+                if has_up(threads.get(0)) && self.over {
+                    Shown::Done
+                } else {
+                    Shown::Halted
+                }
+            }
+        }
     }
 }
 
-/// How a run ended, as its report shows it: with a fault where a thread's stop has one; done where thread 0 and each thread that
-/// a return of `r2_spawn` gave have begun, and every call and callback has returned; else halted.
-pub fn ending(alloc: Global, run: &Run) -> Result<Shown, AllocError>
-    ensures { IfOk result (λ shown. shown ≡ ending_of run.now.threads) }
+fn fault_in(thread: usize, fault: Option<u8>) -> Option<Shown>
+    ensures { result ≡ fault_in thread fault }
 {
-    let mut active = Crossings::new(alloc);
-    ending_in(run.threads.as_slice(), &mut active)
+    match fault {
+        Some(kind) => Some(Shown::Fault { kind, thread }),
+        None => None,
+    }
 }
 
 /// Adds the ending.

@@ -10,6 +10,6 @@ mod run;
 mod threads;
 mod values;
 
-pub use ends::{Shown, ending};
+pub use ends::Shown;
 pub use reporting::report;
 pub use run::{Records, Run, Threads};

@@ -4,7 +4,7 @@ ghost use Rattle.std.specs.Prelude.{◌≡◌, IfOk};
 ghost use Rattle.call_inspector.specs.ReportText.{report_text};
 
 use crate::crossings::Crossings;
-use crate::ends::{ending_in, put_ending};
+use crate::ends::put_ending;
 use crate::memory::put_memory;
 use crate::run::Run;
 use crate::threads::put_threads;
@@ -19,11 +19,11 @@ pub fn report(alloc: Global, run: &Run, code: &Code) -> Result<Vec<u8>, AllocErr
     let threads = run.threads.as_slice();
     let mut text = Vec::new(alloc);
     let mut active = Crossings::new(alloc);
-    put_threads(&mut text, code, &mut active, threads)?;
+    let shown = put_threads(&mut text, code, &mut active, threads)?;
     text.extend_from_slice(b"memory\n")?;
     put_memory(&mut text, &run.memory)?;
     text.extend_from_slice(b"end ")?;
-    put_ending(&mut text, ending_in(threads, &mut active)?)?;
+    put_ending(&mut text, shown)?;
     text.push(b'\n')?;
     Ok(text)
 }

@@ -1,10 +1,12 @@
 //! The lines of threads and their events.
 
-ghost use Rattle.std.specs.Prelude.{◌≡◌, ◌≤◌, ◌+◌, ◌++◌, [], OnOk, codes, decimal, length};
+ghost use Rattle.std.specs.Prelude.{◌≡◌, ◌≤◌, ◌+◌, ◌++◌, [], IfOk, OnOk, codes, decimal, length};
 ghost use Rattle.event_texts.specs.EventTexts.{kind_word};
+ghost use Rattle.call_inspector.specs.Ending.{thread_fault, is_over, ending_of};
 ghost use Rattle.call_inspector.specs.ThreadText.{event_line, lines_after, thread_text, threads_from};
 
 use crate::crossings::Crossings;
+use crate::ends::{RunEnd, Shown, ThreadEnd};
 use crate::events::put_detail;
 use crate::run::Records;
 use c_code::Code;
@@ -66,53 +68,64 @@ fn put_line(
     Ok(())
 }
 
-/// Adds the lines of a thread's events. `active` is there for its memory.
+/// Adds the lines of a thread's events, and tells what they say of the run's end. `active` is there for its memory.
 fn put_lines(
     text: &mut Vec<u8>,
     code: &Code,
     active: &mut Crossings,
+    threads: &[Records],
     records: &[Record],
-) -> Result<(), AllocError>
-    ensures { OnOk result (text.new.items ≡ text.old.items ++ lines_after code.now [] records.now) }
+) -> Result<(Option<u8>, bool), AllocError>
+    ensures text { OnOk result (text.new.items ≡ text.old.items ++ lines_after code.now [] records.now) }
+    ensures fault { IfOk result (λ end. end.0 ≡ thread_fault records.now) }
+    ensures over { IfOk result (λ end. end.1 ≡ is_over threads.now records.now) }
 {
     active.clear();
+    let mut end = ThreadEnd::new();
     for (index, entry) in records.iter().enumerate() {
         put_line(text, code, active, index, entry)?;
+        end.pass(threads, active, &entry.event);
         active.pass(&entry.event)?;
     }
-    Ok(())
+    Ok((end.fault, end.begun && active.is_empty()))
 }
 
-/// Adds a thread, if it has an event.
+/// Adds a thread, if it has an event, and tells what it says of the run's end.
 fn put_thread(
     text: &mut Vec<u8>,
     code: &Code,
     active: &mut Crossings,
+    threads: &[Records],
     number: usize,
     records: &[Record],
-) -> Result<(), AllocError>
-    ensures { OnOk result (text.new.items ≡ text.old.items ++ thread_text code.now number records.now) }
+) -> Result<(Option<u8>, bool), AllocError>
+    ensures text { OnOk result (text.new.items ≡ text.old.items ++ thread_text code.now number records.now) }
+    ensures fault { IfOk result (λ end. end.0 ≡ thread_fault records.now) }
+    ensures over { IfOk result (λ end. end.1 ≡ is_over threads.now records.now) }
 {
     if records.is_empty() {
-        return Ok(());
+        return Ok((None, true));
     }
     text.extend_from_slice(b"thread ")?;
     put_dec(text, number as i128)?;
     text.push(b'\n')?;
-    put_lines(text, code, active, records)
+    put_lines(text, code, active, threads, records)
 }
 
-/// Adds the threads.
+/// Adds the threads, and tells how the run ended. Each event is looked at once. `active` is there for its memory.
 pub fn put_threads(
     text: &mut Vec<u8>,
     code: &Code,
     active: &mut Crossings,
     threads: &[Records],
-) -> Result<(), AllocError>
-    ensures { OnOk result (text.new.items ≡ text.old.items ++ threads_from code.now 0 threads.now) }
+) -> Result<Shown, AllocError>
+    ensures text { OnOk result (text.new.items ≡ text.old.items ++ threads_from code.now 0 threads.now) }
+    ensures shown { IfOk result (λ shown. shown ≡ ending_of threads.now) }
 {
+    let mut end = RunEnd::new();
     for (number, records) in threads.iter().enumerate() {
-        put_thread(text, code, active, number, records.as_slice())?;
+        let (fault, over) = put_thread(text, code, active, threads, number, records.as_slice())?;
+        end.pass(number, fault, over);
     }
-    Ok(())
+    Ok(end.shown(threads))
 }

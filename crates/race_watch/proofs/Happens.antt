@@ -66,6 +66,12 @@ learned_row past w t index top keys row0 row1 mid h lt lm long is0 isi ism is1 i
     v ∙ x)
     (cases_eq t u)
 
+-- the same of an event without keys
+pub alone_row : (past : List Told) (w : WatchState) (t index top : ℕ) (row : List ℕ) → Stands past w → t < length w.rows → t < length w.made → t < length row → row ≡ get_or w.rows t [] → index ≡ slice_index w.made t → top ≡ max (slice_index row t) (index + 1)
+    → (u : ℕ) → u < 32 → slice_index (set row t top) u ≡ learned (knows past) (place t past) (occurrence t []) u
+alone_row past w t index top row h lt lm long is isi ist =
+    learned_row past w t index top [] row row (λ q. row_at w.keys q) h lt lm long is isi (λ k u below. refl) (λ u below. omega arith) ist
+
 set_row : (rows : List (List ℕ)) (t j u : ℕ) (row : List ℕ) (n m : ℕ) → t < length rows → slice_index row u ≡ n → slice_index (get_or rows j []) u ≡ m → slice_index (get_or (set rows t row) j []) u ≡ cond (eqb t j) n m
 set_row rows t j u row n m lt e f =
     ⊎_elim

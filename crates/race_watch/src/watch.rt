@@ -114,12 +114,13 @@ impl Watch {
         if self.has(thread, range, write) {
             return Ok(());
         }
-        self.access_apart(thread, range, write)
+        self.access_unseen(thread, range, write)
     }
 
-    // An access that isn't seen at a glance to leave the watch as it is. Of constants nothing is kept: none races there.
+    /// The same of an access of which `has` doesn't say that the watch stays as it is. Any other takes longer.
+    // Of constants nothing is kept: none races there.
     #[inline(never)]
-    fn access_apart(&mut self, thread: u8, range: Range, write: bool) -> Result<(), WatchError>
+    pub fn access_unseen(&mut self, thread: u8, range: Range, write: bool) -> Result<(), WatchError>
         requires { thread < length self.old.rows }
         ensures answers { AnswersBy self.old thread range write result }
         ensures told { OnOk result (WasTold (Accessed thread range write) self.old self.new) }
@@ -239,7 +240,42 @@ impl Watch {
     /// Takes an event that the thread makes with these keys.
     ///
     /// `AllocError` where there is no memory; no event counts then.
+    #[inline(always)]
     pub fn event(&mut self, thread: u8, keys: &[Key]) -> Result<(), AllocError>
+        requires thread { thread < length self.old.rows }
+        requires few { self.old.events < 4000000000 }
+        ensures told { OnOk result (WasTold (Happened (occurrence thread keys.now)) self.old self.new) }
+        ensures unchanged { OnErr result (WasToldNoMore self.old self.new) }
+        ensures events { OnOk result (self.new.events ≡ self.old.events + 1) }
+        ensures no_more { OnErr result (self.new.events ≡ self.old.events) }
+        ensures threads { length self.new.rows ≡ length self.old.rows }
+    {
+        if keys.is_empty() {
+            self.event_alone(thread);
+            return Ok(());
+        }
+        self.event_with(thread, keys)
+    }
+
+    // Takes an event without keys: all that the thread learns is that event.
+    #[inline(always)]
+    fn event_alone(&mut self, thread: u8)
+        requires thread { thread < length self.old.rows }
+        requires few { self.old.events < 4000000000 }
+        ensures told { WasTold (Happened (occurrence thread [])) self.old self.new }
+        ensures events { self.new.events ≡ self.old.events + 1 }
+        ensures threads { length self.new.rows ≡ length self.old.rows }
+    {
+        let index = self.made[thread as usize];
+        let row = &mut self.rows[thread as usize];
+        row[thread as usize] = row[thread as usize].max(index + 1);
+        self.made[thread as usize] = index + 1;
+        self.events += 1;
+    }
+
+    // Takes an event with keys.
+    #[inline(never)]
+    fn event_with(&mut self, thread: u8, keys: &[Key]) -> Result<(), AllocError>
         requires thread { thread < length self.old.rows }
         requires few { self.old.events < 4000000000 }
         ensures told { OnOk result (WasTold (Happened (occurrence thread keys.now)) self.old self.new) }

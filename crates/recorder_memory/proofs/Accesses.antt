@@ -1,5 +1,6 @@
 -- Loads and stores below the cut.
-use Rattle.std.proofs.Common.{◌≡◌, ℕ, ◌^◌, ◌<◌, Bool, true, false, Option, refl, sym, subst}
+use Rattle.std.proofs.Common.{◌≡◌, ℕ, ◌^◌, ◌<◌, Bool, true, false, Option, Some, None, IfSome, refl, sym, subst}
+use Rattle.std.specs.Prelude.{IsSome}
 use Rattle.marks.specs.declared.side.Side.TheVariants.{System}
 use Rattle.marks.specs.Places.{thread_count}
 use Rattle.marks.specs.declared.range.Range.{Range}
@@ -68,3 +69,9 @@ module _ (old new : Memory) (t addr width : ℕ) (origin : Option ℕ) (lt : t <
       subst (λ n. IsFound (touch_checks w past t true (range addr n) Done) found) (sym (bytes_of width value).count)
       (subst (IsFound (touch_checks w past t true r Done)) (sym is)
       (as_found (touch_checks w past t true r Done) refused ((touches w past old.above.spaces t true r to.stands.whole lt small).of_refused refused p)))
+
+-- a load that a glance shows
+pub load_seen : (old : Memory) (t addr width : ℕ) (o : Option ℕ) → t < thread_count → addr < 2 ^ 64 → (IsSome o → IsAllowed old.above.spaces.bytes old.above.spaces.held.regions (access_below t false (record { addr = addr; len = width })))
+    → IfSome o (HasNumber old.above.spaces.bytes addr width) → IfSome o (λ value. (origin : Option ℕ) → Makes old t System (Loads origin addr width) (Load origin addr (bytes_of_number width value)) old)
+load_seen old t addr width None lt small ok has = tt
+load_seen old t addr width (Some v) lt small ok has = λ origin. load_made old old t addr width origin lt small v (ok refl) has

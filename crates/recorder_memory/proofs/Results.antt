@@ -1,5 +1,5 @@
 -- What follows of results that are given on.
-use Rattle.std.proofs.Common.{Result, Ok, Err}
+use Rattle.std.proofs.Common.{Result, Ok, Err, Option, Some, None, IfSome}
 use Rattle.std.specs.Prelude.{IfOk, IfErr, OnOk}
 
 pub both_ok : {A E : Type 0} (r : Result A E) (P Q R : A → Type 0) → ((a : A) → P a → Q a → R a) → IfOk r P → IfOk r Q → IfOk r R
@@ -17,3 +17,7 @@ any_ok (Err e) P Q go p = p
 pub all_ok : {A E : Type 0} (r : Result A E) (P : Type 0) → P → OnOk r P
 all_ok (Ok a) P p = p
 all_ok (Err e) P p = tt
+
+pub both_some : {A : Type 0} (o : Option A) (P Q R : A → Type 0) → ((a : A) → P a → Q a → R a) → IfSome o P → IfSome o Q → IfSome o R
+both_some (Some a) P Q R go p q = go a p q
+both_some None P Q R go p q = tt

@@ -1,6 +1,6 @@
 //! Loads and stores of code above the cut.
 
-ghost use Rattle.std.specs.Prelude.{◌≡◌, ◌^◌, ◌<◌, ◌≤◌, Option, ℕ, IfOk, IfErr, OnOk, OnErr};
+ghost use Rattle.std.specs.Prelude.{◌≡◌, ◌^◌, ◌<◌, ◌≤◌, Option, ℕ, IfOk, IfErr, IfSome, OnOk, OnErr};
 ghost use Rattle.marks.specs.declared.side.Side.TheVariants.{Replay};
 ghost use Rattle.marks.specs.Ranges.{bytes_of_number};
 ghost use Rattle.marks.specs.Marks.{Load, Store};
@@ -26,6 +26,18 @@ impl Memory {
         ensures unchanged { OnErr result (self.new ≡ self.old) }
     {
         self.above.load(thread, addr, width)
+    }
+
+    /// The same where a glance shows it, and nothing changes: `None` wherever more is to be looked at.
+    #[inline(always)]
+    pub fn glance_above(&self, thread: u8, addr: u64, width: u8) -> Option<u64>
+        requires in_range { thread < THREADS }
+        requires at_most_8 { width ≤ 8 }
+        ensures loaded { IfSome result (λ value. (origin : Option ℕ) → Makes self.now thread Replay
+            (Loads origin addr width) (Load origin addr (bytes_of_number width value)) self.now) }
+        ensures fits { IfSome result (λ value. value < 256 ^ width) }
+    {
+        self.above.glance(thread, addr, width)
     }
 
     /// Writes the low `width` bytes of the value, 1 to 8, from the address on, the lowest first, for the thread's code above

@@ -1,6 +1,8 @@
 //! Accesses and rounds above the cut.
 
-ghost use Rattle.std.specs.Prelude.{◌≡◌};
+ghost use Rattle.std.specs.Prelude.{◌≡◌, ◌≢◌, ◌^◌, ◌<◌, ◌≤◌, None, IfSome};
+ghost use Rattle.marks.specs.Wants.{Value};
+ghost use Rattle.c_machine.specs.declared.wants.Want.TheVariants.{Load as ShownLoad};
 ghost use Rattle.marks.specs.declared.side.Side.TheVariants.{Replay};
 ghost use Rattle.recorder_stretches.specs.Stretches.{IsOneMore};
 
@@ -26,13 +28,11 @@ impl Accesses for Above<'_> {
         if self.left == 0 {
             return None;
         }
-        match self.memory.load_above(FIRST, addr, width) {
-            Ok(value) => {
-                self.left -= 1;
-                Some(value)
-            }
-            Err(_) => None,
+        if let Some(value) = self.memory.glance_above(FIRST, addr, width) {
+            self.left -= 1;
+            return Some(value);
         }
+        self.load_apart(addr, width)
     }
 
     #[inline(never)]
@@ -56,5 +56,28 @@ impl Accesses for Above<'_> {
         }
         self.left -= 1;
         true
+    }
+}
+
+impl Above<'_> {
+    // A load that a glance doesn't show.
+    #[inline(never)]
+    fn load_apart(&mut self, addr: u64, width: u8) -> Option<u64>
+        requires some { 1 ≤ width }
+        requires few { width ≤ 8 }
+        requires left { self.old.left ≢ 0 }
+        ensures fits { IfSome result (λ value. value < 256 ^ width) }
+        ensures loaded { IfSome result (λ value. (self.old.memory.ghost_name ≡ self.new.memory.ghost_name) ×
+            IsOneMore Replay self.old.memory.now self.old.left (ShownLoad addr width) (Value value)
+            self.new.memory.now self.new.left) }
+        ensures refused { result ≡ None → self.new ≡ self.old }
+    {
+        match self.memory.load_above(FIRST, addr, width) {
+            Ok(value) => {
+                self.left -= 1;
+                Some(value)
+            }
+            Err(_) => None,
+        }
     }
 }

@@ -1,5 +1,5 @@
 // Loads and stores, and the tests of an access.
-ghost use Rattle.std.specs.Prelude.{◌≡◌, ◌+◌, ◌^◌, ◌<◌, ◌≤◌, ◌↔◌, true, false, IsTrue, Err, IsOk, IfOk, OnOk, OnErr};
+ghost use Rattle.std.specs.Prelude.{◌≡◌, ◌+◌, ◌^◌, ◌<◌, ◌≤◌, ◌↔◌, true, false, IsTrue, IsSome, Err, IsOk, IfOk, IfSome, OnOk, OnErr};
 ghost use Rattle.space_memory_bytes.specs.Areas.{extents, AllLive, LiesIn};
 ghost use Rattle.space_memory_bytes.specs.Numbers.{HasNumber, SameOutside};
 ghost use Rattle.space_memory_access.specs.declared.refusal.Refusal.{Refusal};
@@ -47,6 +47,30 @@ impl Spaces {
         match self.check(side, thread, range, false) {
             Ok(()) => Ok(self.bytes.read(addr, width)),
             Err(refusal) => Err(refusal),
+        }
+    }
+
+    /// The same where a glance shows it: `None` wherever more is to be looked at.
+    #[inline(always)]
+    pub fn glance(&self, side: Side, thread: u8, addr: u64, width: u8) -> Option<u64>
+        requires { width ≤ 8 }
+        ensures number { IfSome result (HasNumber self.now.bytes addr width) }
+        ensures fits { IfSome result (λ value. value < 256 ^ width) }
+        ensures allowed { IsSome result → IsAllowed self.now.bytes self.now.held.regions
+            (record {
+              side = side;
+              thread = thread;
+              range = record { addr = addr; len = width };
+              write =
+                  false;
+            }) }
+    {
+        let len = width as u64;
+        let range = Range { addr, len };
+        if self.is_open(side, thread, range, false) {
+            self.bytes.glance(addr, width)
+        } else {
+            None
         }
     }
 

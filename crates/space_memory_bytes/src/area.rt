@@ -104,6 +104,17 @@ impl Area {
         self.cells.number((addr - self.base) as usize, width)
     }
 
+    /// The same where it is read at a glance: `None` also where the width is an uncommon one.
+    #[inline(always)]
+    pub fn glance(&self, addr: u64, width: u8) -> Option<u64>
+        requires { IsTrue (holds self.now addr) }
+        ensures live { IsSome result → IsLiveRun self.now addr width }
+        ensures number { IfSome result (IsNumber self.now addr width) }
+        ensures fits { IfSome result (λ value. value < 256 ^ width) }
+    {
+        self.cells.glance((addr - self.base) as usize, width)
+    }
+
     /// Makes the `width` bytes from the address on those of the number, the lowest first, if all are the area's and live;
     /// whether they are.
     #[inline(always)]

@@ -98,6 +98,23 @@ impl LiveBytes {
         }
     }
 
+    /// The same where it is read at a glance: `None` also where the width is an uncommon one, or the address lies in another area
+    /// than is likely.
+    #[inline(always)]
+    pub fn glance(&self, addr: u64, width: u8) -> Option<u64>
+        ensures live { IsSome result → AllLive self.now addr width }
+        ensures number { IfSome result (HasNumber self.now addr width) }
+        ensures fits { IfSome result (λ value. value < 256 ^ width) }
+    {
+        match self.find_likely(addr) {
+            Some(at) => {
+                let area = &self.areas[at];
+                area.glance(addr, width)
+            }
+            None => None,
+        }
+    }
+
     /// Writes the low `width` bytes of the value from the address on, the lowest first, if all are live; whether they are.
     #[inline(always)]
     pub fn overwrite(&mut self, addr: u64, width: u8, value: u64) -> bool
@@ -222,11 +239,24 @@ impl LiveBytes {
         ensures none { IfNone result (All (λ a. holds a addr ≡ false) self.now) }
         ensures rising { RiseFrom 0 (extents self.now) }
     {
+        match self.find_likely(addr) {
+            Some(at) => Some(at),
+            None => self.find_first(addr),
+        }
+    }
+
+    // The likely place, if the area there has the address.
+    #[inline(always)]
+    fn find_likely(&self, addr: u64) -> Option<usize>
+        ensures found { IfSome result (IsHolder self.now addr) }
+        ensures rising { RiseFrom 0 (extents self.now) }
+    {
         let likely = likely_place(addr);
         if likely < self.areas.len() && self.areas[likely].has(addr) {
-            return Some(likely);
+            Some(likely)
+        } else {
+            None
         }
-        self.find_first(addr)
     }
 
     // The place of the first area that has the address.

@@ -122,13 +122,13 @@ impl MarkedBytes {
             4 => self.number_of(at, 4),
             8 => self.number_of(at, 8),
             1 => self.number_of(at, 1),
-            _ => self.number_of_few(at, width),
+            _ => self.number_of_any(at, width),
         }
     }
 
     // The same, of any width.
     #[inline(never)]
-    fn number_of_few(&self, at: usize, width: u8) -> Option<u64>
+    fn number_of_any(&self, at: usize, width: u8) -> Option<u64>
         requires in_cells { at < length self.now }
         requires some { 1 ≤ width }
         requires at_most_8 { width ≤ 8 }
@@ -139,6 +139,22 @@ impl MarkedBytes {
         match width {
             2 => self.number_of(at, 2),
             _ => self.number_of(at, width as usize),
+        }
+    }
+
+    /// The same where it is read at a glance: `None` also where the width is an uncommon one. It is inlined where it's used.
+    #[inline(always)]
+    pub fn glance(&self, at: usize, width: u8) -> Option<u64>
+        requires { at < length self.now }
+        ensures live { IsSome result → AreLive self.now at width }
+        ensures digits { IfSome result (HasDigits self.now at width) }
+        ensures fits { IfSome result (λ value. value < 256 ^ width) }
+    {
+        match width {
+            4 => self.number_of(at, 4),
+            8 => self.number_of(at, 8),
+            1 => self.number_of(at, 1),
+            _ => None,
         }
     }
 
@@ -157,13 +173,13 @@ impl MarkedBytes {
             4 => self.overwrite_with(at, 4, value),
             8 => self.overwrite_with(at, 8, value),
             1 => self.overwrite_with(at, 1, value),
-            _ => self.overwrite_few(at, width, value),
+            _ => self.overwrite_any(at, width, value),
         }
     }
 
     // The same, of any width.
     #[inline(never)]
-    fn overwrite_few(&mut self, at: usize, width: u8, value: u64) -> bool
+    fn overwrite_any(&mut self, at: usize, width: u8, value: u64) -> bool
         requires in_cells { at < length self.old }
         requires some { 1 ≤ width }
         requires at_most_8 { width ≤ 8 }

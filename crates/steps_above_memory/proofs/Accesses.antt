@@ -1,5 +1,6 @@
 -- A load and a store that memory allows and that don't race are made.
-use Rattle.std.proofs.Common.{◌≡◌, ℕ, ◌+◌, ◌^◌, ◌<◌, Bool, true, false, ◌&&◌, eqb, List, [], ◌∷◌, length, Option, Some, None, Ok, is_some, refl, sym, ap, subst, arith, eq-eqb}
+use Rattle.std.proofs.Common.{◌≡◌, ℕ, ◌+◌, ◌^◌, ◌<◌, Bool, true, false, ◌&&◌, eqb, List, [], ◌∷◌, length, Option, Some, None, IfSome, Ok, is_some, refl, sym, ap, subst, arith, eq-eqb}
+use Rattle.std.specs.Prelude.{IsSome}
 use Rattle.std.proofs.lemmas.Bool.{and_from}
 use Rattle.marks.specs.Places.{thread_count}
 use Rattle.marks.specs.declared.range.Range.{Range}
@@ -134,3 +135,10 @@ pub store_refused : (above : MemoryAbove) (t addr width value : ℕ) (refusal fo
 store_refused above t addr width value refusal found finds is origin program memory past h modes =
     subst (λ k. IsFound (range_checks (fresh memory) past t true [] (range addr k) Done) found) (sym (bytes_of width value).count)
     (subst (IsFound (range_checks (fresh memory) past t true [] (range addr width) Done)) (sym is) (finds program memory past h))
+
+-- a load that a glance shows, and that the watch knows, is made and changes nothing
+pub load_seen : (old : MemoryAbove) (t addr width : ℕ) (o : Option ℕ) → t < thread_count → addr < 2 ^ 64 → (IsSome o → IsAllowed old.spaces.bytes old.spaces.held.regions (access t addr width false)) → IfSome o (HasNumber old.spaces.bytes addr width)
+    → AnswersBy old.watch t (record { addr = addr; len = width }) false (Ok tt) → WasTold (Accessed t (record { addr = addr; len = width }) false) old.watch old.watch
+    → IfSome o (λ value. (origin : Option ℕ) → Makes old t (Loads origin addr width) (Load origin addr (bytes_of_number width value)) old)
+load_seen old t addr width None lt small ok has free one = tt
+load_seen old t addr width (Some v) lt small ok has free one = λ origin. load_made old old t addr width v origin lt small (ok refl) has refl free one

@@ -1,6 +1,6 @@
 //! How memory above the cut begins, loads, and what the tests find of an access that memory refuses.
 
-ghost use Rattle.std.specs.Prelude.{◌≡◌, ◌^◌, ◌<◌, ◌≤◌, Option, ℕ, [], length, IfOk, IfErr, OnErr};
+ghost use Rattle.std.specs.Prelude.{◌≡◌, ◌^◌, ◌<◌, ◌≤◌, Option, ℕ, [], length, IfOk, IfErr, IfSome, OnErr};
 ghost use Rattle.marks.specs.Ranges.{bytes_of_number};
 ghost use Rattle.marks.specs.Marks.{Load};
 ghost use Rattle.marks.specs.Wants.{Loads};
@@ -52,6 +52,24 @@ impl MemoryAbove {
                 Err(error) => Err(StepRefusal::by(error)),
             },
             Err(refusal) => Err(self.found(thread, range, false, refusal)),
+        }
+    }
+
+    /// The same where a glance shows it and the watch knows the load already: nothing changes. `None` wherever more is to be looked at.
+    #[inline(always)]
+    pub fn glance(&self, thread: u8, addr: u64, width: u8) -> Option<u64>
+        requires in_range { thread < THREADS }
+        requires at_most_8 { width ≤ 8 }
+        ensures loaded { IfSome result (λ value. (origin : Option ℕ) → Makes self.now thread
+            (Loads origin addr width) (Load origin addr (bytes_of_number width value)) self.now) }
+        ensures fits { IfSome result (λ value. value < 256 ^ width) }
+        ensures number { IfSome result (HasNumber self.now.spaces.bytes addr width) }
+    {
+        let len = width as u64;
+        if self.watch.has(thread, Range { addr, len }, false) {
+            self.spaces.glance(Side::Replay, thread, addr, width)
+        } else {
+            None
         }
     }
 

@@ -88,7 +88,7 @@ impl MemoryAbove {
         if let Err(refusal) = may_store(&self.spaces, thread, addr, width) {
             return Err(self.found(thread, range, true, refusal));
         }
-        if let Err(error) = self.watch.access(thread, range, true) {
+        if let Err(error) = self.watch.access_unseen(thread, range, true) {
             return Err(StepRefusal::by(error));
         }
         match self.spaces.store(Side::Replay, thread, addr, width, value) {
