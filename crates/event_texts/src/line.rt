@@ -7,7 +7,7 @@ ghost use Rattle.event_texts.specs.EventTexts.{name_text, key_text, event_line, 
 
 use crate::kind::kind_word;
 use crate::prepend::PrependBuffer;
-use run_events::{Class, EventName, KeyMark, Record};
+use run_events::{Class, EventName, KeyMark, Marks, Record};
 use std::alloc::AllocError;
 use std::marker::Model;
 
@@ -18,7 +18,7 @@ pub struct Line<'a> {
     name: EventName,
     kind: &'static str,
     steps: u32,
-    keys: &'a [KeyMark],
+    keys: &'a Marks,
 }
 
 impl<'a> Model for Line<'a> {
@@ -41,7 +41,7 @@ impl<'a> Line<'a> {
             name,
             kind: kind_word(&entry.event),
             steps: entry.steps,
-            keys: entry.keys.as_slice(),
+            keys: &entry.keys,
         }
     }
 }
@@ -91,7 +91,8 @@ fn put_line(text: &mut Vec<u8>, line: &Line<'_>) -> Result<(), AllocError>
     buffer.put_byte(b' ');
     buffer.put_number(u64::from(line.clock));
     text.extend_from_slice(buffer.as_slice())?;
-    put_keys(text, line.keys)?;
+    let keys = line.keys.unpacked();
+    put_keys(text, keys.as_slice())?;
     text.push(b'\n')?;
     Ok(())
 }

@@ -1,5 +1,5 @@
 -- What comes directly before an event of a log.
-use Rattle.std.specs.Prelude.{ℕ, ◌+◌, List}
+use Rattle.std.specs.Prelude.{◌+◌, List}
 use Rattle.causal_order.specs.Order as order
 use Rattle.run_events.specs.declared.key.KeyMark.{KeyMark}
 use Rattle.log_closure.specs.Events.{LogEvent, numbered}

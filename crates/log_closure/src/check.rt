@@ -71,7 +71,8 @@ pub fn check(
         if repeats_at(&clocks, at) {
             return Err(OrderError::Twice(place.name()));
         }
-        let marks = entry.keys.as_slice();
+        let keys = entry.keys.unpacked();
+        let marks = keys.as_slice();
         let (numbers, after) = left.split_at(marks.len());
         let thread = usize::from(entry.thread);
         check_clock(&clocks.table, whole, place, marks, numbers, last[thread])?;

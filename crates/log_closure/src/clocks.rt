@@ -61,7 +61,8 @@ pub fn clocks_of(
     let mut twice = None;
     let mut left = numbering.marks.as_slice();
     for (at, entry) in records.iter().enumerate() {
-        let marks = entry.keys.as_slice();
+        let keys = entry.keys.unpacked();
+        let marks = keys.as_slice();
         let (numbers, after) = left.split_at(marks.len());
         let repeats = add(&mut table, marks, numbers, entry.clock)?;
         twice = twice.or(if repeats { Some(at) } else { None });

@@ -91,7 +91,8 @@ pub fn grow(
     let mut part = Vec::new(alloc);
     for place in order {
         let entry = &records[place.at as usize];
-        if grown.join(place, entry.keys.as_slice())? {
+        let keys = entry.keys.unpacked();
+        if grown.join(place, keys.as_slice())? {
             part.push(*place)?;
         }
     }

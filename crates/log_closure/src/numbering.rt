@@ -76,7 +76,8 @@ pub fn numbering_of(alloc: Global, records: &[Record]) -> Result<Numbering, Allo
         marks: Vec::with_capacity(alloc, records.len())?,
     };
     for entry in records {
-        numbering.add(entry.keys.as_slice())?;
+        let keys = entry.keys.unpacked();
+        numbering.add(keys.as_slice())?;
     }
     Ok(numbering)
 }

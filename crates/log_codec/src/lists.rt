@@ -1,5 +1,4 @@
-//! The lists of a record. Each is made for the number that counts it, so it takes no more memory
-//! than its items do, and none where there are none.
+//! The lists of a record. Each is made for the number that counts it.
 
 ghost use Rattle.std.specs.Prelude.{◌≡◌};
 ghost use Rattle.std.specs.Int.{w64};
@@ -58,7 +57,8 @@ pub fn args_at(alloc: Global, bytes: &[u8]) -> Result<(Words, &[u8]), Stop>
 {
     let (count, rest) = count_at(bytes, 8)?;
     let (words, rest) = words_at(alloc, count, rest)?;
-    Ok((Words::from(words), rest))
+    let words = Words::from_slice(alloc, &words)?;
+    Ok((words, rest))
 }
 
 /// The keys of an event, at most 16.
@@ -68,7 +68,8 @@ pub fn keys_at(alloc: Global, bytes: &[u8]) -> Result<(Marks, &[u8]), Stop>
 {
     let (count, rest) = count_at(bytes, 16)?;
     let (marks, rest) = marks_at(alloc, count, rest)?;
-    Ok((Marks::from(marks), rest))
+    let marks = Marks::from_vec(alloc, marks)?;
+    Ok((marks, rest))
 }
 
 /// The bytes that came back from a call, at most 9 pieces.
@@ -78,5 +79,6 @@ pub fn outs_at(alloc: Global, bytes: &[u8]) -> Result<(Pieces, &[u8]), Stop>
 {
     let (count, rest) = count_at(bytes, 9)?;
     let (pieces, rest) = pieces_at(alloc, count, rest)?;
-    Ok((Pieces::from(pieces), rest))
+    let pieces = Pieces::from_vec(alloc, pieces)?;
+    Ok((pieces, rest))
 }

@@ -18,7 +18,7 @@ fn ret_at(alloc: Global, bytes: &[u8]) -> Result<(Event, &[u8]), Stop>
 {
     let (same, rest) = flag_at(bytes)?;
     if same {
-        let outs = Pieces::new(alloc);
+        let outs = Pieces::new();
         let event = Event::Ret {
             same,
             result: 0,

@@ -149,7 +149,7 @@ fn record_head(entry: &Record) -> [u8; 10]
     let kind = kind_number(&entry.event);
     let [a, b, c, d] = entry.steps.to_be_bytes();
     let [e, f, g, h] = entry.clock.to_be_bytes();
-    let keys = entry.keys.as_slice().len() as u8;
+    let keys = entry.keys.len() as u8;
     [kind, a, b, c, d, e, f, g, h, keys]
 }
 
@@ -159,7 +159,8 @@ fn put_record(out: &mut Tail, entry: &Record) -> Result<(), AllocError>
     ensures added { OnOk result (out.new.added ≡ out.old.added ++ record_text to_be_bytes entry.now) }
 {
     out.put(&record_head(entry))?;
-    put_keys(out, entry.keys.as_slice())?;
+    let keys = entry.keys.unpacked();
+    put_keys(out, keys.as_slice())?;
     put_body(out, &entry.event)
 }
 

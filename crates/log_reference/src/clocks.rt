@@ -53,7 +53,9 @@ fn leads(before: &[Record], earlier: &Record, name: EventName, entry: &Record) -
     if own.thread == name.thread && u64::from(own.index) + 1 == u64::from(name.index) {
         return true;
     }
-    leads_by_key(before, earlier.keys.as_slice(), entry.keys.as_slice())
+    let earlier_keys = earlier.keys.unpacked();
+    let keys = entry.keys.unpacked();
+    leads_by_key(before, earlier_keys.as_slice(), keys.as_slice())
 }
 
 /// The greatest clock of the event's direct predecessors in the file, and 0 where it has none.

@@ -35,7 +35,8 @@ pub fn any_has(records: &[Record], mark: &KeyMark) -> bool
     ensures none { OnFalse result (HasMark (events_of records.now) mark.now → ⊥) }
 {
     for entry in records {
-        if has(entry.keys.as_slice(), mark) {
+        let keys = entry.keys.unpacked();
+        if has(keys.as_slice(), mark) {
             return true;
         }
     }
@@ -60,7 +61,8 @@ pub fn is_twice(before: &[Record], entry: &Record) -> bool
     ensures there { OnTrue result (IsTwice (events_of before.now) (event_of before.now entry.now)) }
     ensures none { OnFalse result (IsTwice (events_of before.now) (event_of before.now entry.now) → ⊥) }
 {
-    let marks = entry.keys.as_slice();
+    let keys = entry.keys.unpacked();
+    let marks = keys.as_slice();
     shares(before, marks) || repeats(marks)
 }
 
@@ -131,5 +133,6 @@ pub fn holds_predecessors(records: &[Record], name: EventName, entry: &Record) -
     ensures none { OnFalse result (HoldsPredecessors (events_of records.now)
         (record { name = name; entry = entry.now }) → ⊥) }
 {
-    follows(records, name) && !lacks(records, entry.keys.as_slice())
+    let keys = entry.keys.unpacked();
+    follows(records, name) && !lacks(records, keys.as_slice())
 }

@@ -23,7 +23,8 @@ fn wrong(whole: bool, records: &[Record], before: &[Record], entry: &Record) -> 
     if is_twice(before, entry) {
         return Some(OrderError::Twice(name));
     }
-    if whole && lacks(records, entry.keys.as_slice()) {
+    let keys = entry.keys.unpacked();
+    if whole && lacks(records, keys.as_slice()) {
         return Some(OrderError::Missing(name));
     }
     if is_clock_wrong(records, name, entry) {

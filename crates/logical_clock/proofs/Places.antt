@@ -55,6 +55,16 @@ greatest_next f ks i d most now new all lt is up h = subst (λ j. max new (great
     go (k ∷ ks) zero lt is h = omega (arith, is, h, up)
     go (k ∷ ks) (suc i) lt is h = go ks i (omega (arith, lt)) is h
 
+-- what a function gives of the first keys, and of one more
+
+pub mapped_more : (f : Key → ℕ) (ks : List Key) (i : ℕ) (d : Key) (xs more : List ℕ) (n : ℕ) → i < length ks → n ≡ f (get_or ks i d) → xs ≡ map f (take i ks) → more ≡ xs ++ n ∷ [] → more ≡ map f (take (i + 1) ks)
+mapped_more f ks i d xs more n lt is h up = up ∙ ap (λ ys. ys ++ n ∷ []) h ∙ go ks i lt is ∙ ap (λ j. map f (take j ks)) (sym (add-one i))
+  where
+    go : (ks : List Key) (i : ℕ) → i < length ks → n ≡ f (get_or ks i d) → map f (take i ks) ++ n ∷ [] ≡ map f (take (suc i) ks)
+    go [] i lt is = absurd (omega (arith, lt))
+    go (k ∷ ks) zero lt is = ap (λ m. m ∷ []) is
+    go (k ∷ ks) (suc i) lt is = ap (λ ys. f k ∷ ys) (go ks i (omega (arith, lt)) is)
+
 pub greatest_same : (f g : Key → ℕ) (ks : List Key) → ((k : Key) → f k ≡ g k) → greatest_of f ks ≡ greatest_of g ks
 greatest_same f g [] h = refl
 greatest_same f g (k ∷ ks) h = omega (arith, h k, greatest_same f g ks h)

@@ -1,7 +1,7 @@
 -- What is kept of each key that was seen, and its number: its place among them.
 use Rattle.std.specs.Prelude.{◌≡◌, ℕ, suc, ◌+◌, Bool, if◌then◌else◌, List, [], ◌∷◌, Option, Some, None, slice_get}
 use Rattle.std.specs.List.{AllZip}
-use Rattle.std.specs.Map.{lookup, keys_of, values_of}
+use Rattle.std.specs.Map.{lookup, values_of}
 use Rattle.std.specs.Option.{option_map, unwrap_or}
 use Rattle.run_events.specs.declared.key.Key.{Key}
 use Rattle.logical_clock.specs.Names.{name, same_name, is_named}

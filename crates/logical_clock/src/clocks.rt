@@ -6,6 +6,7 @@ ghost use Rattle.logical_clock.specs.Counts.{Counts, CountsNoMore, CountsOneMore
 
 use crate::keys::Keys;
 use run_events::{Key, Stamp, Words};
+use smallvec::SmallVec;
 use std::alloc::{AllocError, Global};
 use std::marker::Model;
 
@@ -54,6 +55,48 @@ impl Clocks {
         })
     }
 
+    /// The stamp of the next event of the thread, where it has no keys.
+    fn event_alone(&mut self, thread: u8) -> Stamp
+        requires thread { thread < length self.old.threads }
+        requires few { self.old.events < 4000000000 }
+        ensures stamp { StampsAfter self.old (occurrence thread []) result }
+        ensures counts { CountsOneMore (occurrence thread []) self.old self.new }
+        ensures events { self.new.events ≡ self.old.events + 1 }
+        ensures threads { length self.new.threads ≡ length self.old.threads }
+    {
+        let own = self.threads[thread as usize];
+        let next = own + 1;
+        self.threads[thread as usize] = next;
+        self.events += 1;
+        Stamp {
+            clock: next,
+            tickets: Words::new(),
+        }
+    }
+
+    /// The stamp of the next event of the thread, which has these keys.
+    fn event_with(&mut self, alloc: Global, thread: u8, keys: &[Key]) -> Result<Stamp, AllocError>
+        requires thread { thread < length self.old.threads }
+        requires few { self.old.events < 4000000000 }
+        requires distinct { AreDistinct keys.now }
+        ensures stamp { IfOk result (StampsAfter self.old (occurrence thread keys.now)) }
+        ensures counts { OnOk result (CountsOneMore (occurrence thread keys.now) self.old self.new) }
+        ensures unchanged { OnErr result (CountsNoMore self.old self.new) }
+        ensures events { OnOk result (self.new.events ≡ self.old.events + 1) }
+        ensures no_more { OnErr result (self.new.events ≡ self.old.events) }
+        ensures threads { length self.new.threads ≡ length self.old.threads }
+    {
+        let own = self.threads[thread as usize];
+        let mut numbers = SmallVec::new(alloc);
+        let mut tickets = SmallVec::new(alloc);
+        let clock = self.keys.find(own, keys, &mut numbers, &mut tickets)? + 1;
+        let tickets = Words::from_slice(alloc, tickets.as_slice())?;
+        self.keys.count_all(keys, clock, numbers.as_slice());
+        self.threads[thread as usize] = clock;
+        self.events += 1;
+        Ok(Stamp { clock, tickets })
+    }
+
     /// The logical clock (Lamport 1978) and the tickets of the next event, which the thread makes with these keys.
     ///
     /// `AllocError` where there is no memory; no event counts then.
@@ -68,15 +111,9 @@ impl Clocks {
         ensures no_more { OnErr result (self.new.events ≡ self.old.events) }
         ensures threads { length self.new.threads ≡ length self.old.threads }
     {
-        let own = self.threads[thread as usize];
-        let mut tickets = Vec::with_capacity(alloc, keys.len())?;
-        let clock = self.keys.find(own, keys, &mut tickets)? + 1;
-        self.keys.count_all(keys, clock, &mut tickets);
-        self.threads[thread as usize] = clock;
-        self.events += 1;
-        Ok(Stamp {
-            clock,
-            tickets: Words::from(tickets),
-        })
+        match keys {
+            [] => Ok(self.event_alone(thread)),
+            _ => self.event_with(alloc, thread, keys),
+        }
     }
 }

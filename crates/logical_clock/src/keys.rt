@@ -10,6 +10,7 @@ ghost use Rattle.logical_clock.specs.Kept.{AreCounted, HaveNumbers, Keeps, Keeps
 use crate::name::{KeyName, name_of};
 use indexmap::IndexMap;
 use run_events::Key;
+use smallvec::SmallVec;
 use std::alloc::{AllocError, Global};
 
 /// How many events have a key, and the clock of the last of them, 0 where there is none.
@@ -55,51 +56,56 @@ impl Keys {
         Ok(number)
     }
 
-    /// Puts the number of each of the keys into `numbers`. Gives the greatest of a clock and of those of the last events
-    /// with each of the keys.
-    pub fn find(&mut self, own: u32, of: &[Key], numbers: &mut Vec<u64>) -> Result<u32, AllocError>
-        requires { numbers.old.items ≡ [] }
+    /// Puts the number of each of the keys into `numbers`, and how many events have it into `tickets`. Gives the greatest of a
+    /// clock and of those of the last events with each of the keys.
+    pub fn find(
+        &mut self,
+        own: u32,
+        of: &[Key],
+        numbers: &mut SmallVec<u64, 2>,
+        tickets: &mut SmallVec<u64, 2>,
+    ) -> Result<u32, AllocError>
+        requires numbers { numbers.old.items ≡ [] }
+        requires tickets { tickets.old.items ≡ [] }
         ensures found { OnOk result (HaveNumbers (number_in self.new) of.now numbers.new.items) }
+        ensures tickets { OnOk result (tickets.new.items ≡ map (events_of self.old) of.now) }
         ensures clock { IfOk result (λ n. n ≡ max own (greatest_of (clock_of self.old) of.now)) }
         ensures same { KeepsSame self.old self.new }
     {
         let mut latest = own;
         for key in of {
             let number = self.number(name_of(*key))?;
-            latest = latest.max(self.rows[number as usize].clock);
+            let row = self.rows[number as usize];
+            latest = latest.max(row.clock);
             numbers.push(number)?;
+            tickets.push(u64::from(row.events))?;
         }
         Ok(latest)
     }
 
-    /// The number of events with the key that has this number. An event with this clock is one more.
-    fn count(&mut self, number: u64, clock: u32) -> u32
+    /// An event with this clock is one more of those with the key that has this number.
+    fn count(&mut self, number: u64, clock: u32)
         requires below { number < index_map_len self.old.rows }
         requires few { (row self.old number).events < 4000000000 }
-        ensures ticket { result ≡ (row self.old number).events }
-        ensures rows { self.new.rows.entries ≡ set_value_at self.old.rows.entries number
+        ensures { self.new.rows.entries ≡ set_value_at self.old.rows.entries number
             (one_more clock (row self.old number)) }
     {
         let row = &mut self.rows[number as usize];
-        let ticket = row.events;
         *row = Counted {
-            events: ticket + 1,
+            events: row.events + 1,
             clock,
         };
-        ticket
     }
 
-    /// Puts, for the number of each of the keys, how many events have the key. An event with all of them and this clock is
-    /// one more.
-    pub fn count_all(&mut self, of: &[Key], clock: u32, tickets: &mut [u64])
-        requires numbers { HaveNumbers (number_in self.old) of.now tickets.old }
+    /// An event with all of the keys, which have these numbers, and with this clock is one more.
+    pub fn count_all(&mut self, of: &[Key], clock: u32, numbers: &[u64])
+        requires numbers { HaveNumbers (number_in self.old) of.now numbers.now }
         requires distinct { AreDistinct of.now }
         requires few { (k : Key) → events_of self.old k < 4000000000 }
-        ensures tickets { tickets.new ≡ map (events_of self.old) of.now }
-        ensures counts { AreCounted self.old self.new of.now clock }
+        ensures { AreCounted self.old self.new of.now clock }
     {
         for i in 0..of.len() {
-            tickets[i] = u64::from(self.count(tickets[i], clock));
+            self.count(numbers[i], clock);
         }
     }
 }

@@ -15,7 +15,7 @@ pub fn record_size(entry: &Record) -> u64
     ensures size { result ≡ full_size entry.now }
     ensures small { result < 2 ^ 40 }
 {
-    event_size(&entry.event, entry.keys.as_slice().len())
+    event_size(&entry.event, entry.keys.len())
 }
 
 /// How many bytes the record of an event has that has so many keys, whatever its thread, steps and clock.

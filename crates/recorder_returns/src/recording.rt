@@ -48,10 +48,13 @@ pub fn record_ret(
     let Brought { pieces, ranges } = brought;
     let cached = returning.done.is_cached();
     let same = repeats(state, cached, thread, func, value, &pieces);
+    let Ok(outs) = Pieces::from_vec(alloc, pieces) else {
+        return Err(Stop::Memory);
+    };
     let event = Event::Ret {
         same,
         result: value,
-        outs: Pieces::from(pieces),
+        outs,
     };
     make(
         state, inputs, alloc, returning, thread, func, &ranges, event,

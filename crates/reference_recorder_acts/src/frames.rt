@@ -40,7 +40,7 @@ pub fn enter(
     };
     let act = Act::Enter {
         func,
-        args: Words::from(Vec::from_slice(alloc, args)?),
+        args: Words::from_slice(alloc, args)?,
         at,
         bytes: Bytes::from(bytes),
     };

@@ -74,12 +74,12 @@ fn call_kind(
 {
     let sizes = sizes(alloc, done.ins())?;
     let ins = pieces(alloc, memory, done.ins(), &sizes)?;
-    let args = Vec::from_slice(alloc, args)?;
+    let args = Words::from_slice(alloc, args)?;
     let outs = Vec::from_slice(alloc, done.outs())?;
     let prepared = Vec::from_slice(alloc, done.prepares())?;
     Ok(EventKind::Call {
         func,
-        args: Words::from(args),
+        args,
         ins: PieceList::from(ins),
         outs: RangeList::from(outs),
         prepared: PreparedList::from(prepared),

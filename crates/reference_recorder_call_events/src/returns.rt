@@ -171,10 +171,10 @@ fn return_kind(
         ended.value,
         &logged,
     )?;
-    let args = Vec::from_slice(alloc, ended.args)?;
+    let args = Words::from_slice(alloc, ended.args)?;
     Ok(EventKind::Ret {
         func: ended.func,
-        args: Words::from(args),
+        args,
         result: ended.value,
         same: done.is_cached() && repeats,
         outs,

@@ -47,10 +47,11 @@ fn ret_return(
     }) else before) ≡ option_or gave before) }
 {
     if of == func {
-        let bytes = logged_pieces(alloc, outs, commit)?;
+        let logged = logged_pieces(alloc, outs, commit)?;
+        let bytes = Pieces::from_vec(alloc, logged)?;
         return Ok(Some(Returned {
             result: value,
-            bytes: Pieces::from(bytes),
+            bytes,
         }));
     }
     Ok(None)

@@ -11,10 +11,9 @@ use marks::Side;
 use reference_recorder_marks::{Act, Event, EventKind, Mark};
 use reference_recorder_stamps::{Link, count, last_clock, steps_since};
 use run_events::Marks;
-use std::alloc::Global;
 
 /// The Stop of the thread after these marks: it tells the fault that the thread met, if it met one.
-pub fn stop_of(alloc: Global, marks: &[Mark], thread: u8) -> Mark
+pub fn stop_of(marks: &[Mark], thread: u8) -> Mark
     requires few { length marks.now + 1 < 2 ^ 32 }
     requires clock { last_clock (new_events (OfThread thread) (past marks.now)) < 4294967295 }
     ensures { (w : World) → mark_of result ≡ stop_of w (past marks.now) thread }
@@ -27,7 +26,7 @@ pub fn stop_of(alloc: Global, marks: &[Mark], thread: u8) -> Mark
     let event = Event {
         kind: EventKind::Stop { fault },
         steps,
-        keys: Marks::new(alloc),
+        keys: Marks::new(),
         clock,
     };
     Mark {

@@ -22,7 +22,7 @@ pub fn stops_of(
 {
     let mut stops = Vec::new(alloc);
     for thread in 0..threads.count() {
-        add_stop(&mut stops, alloc, inputs, threads, run, thread as u8)?;
+        add_stop(&mut stops, inputs, threads, run, thread as u8)?;
     }
     Ok(stops)
 }
@@ -30,7 +30,6 @@ pub fn stops_of(
 // Adds the Stop of the thread to those of the threads before it, if it stands in replay mode.
 fn add_stop(
     stops: &mut Vec<Mark>,
-    alloc: Global,
     inputs: Inputs<'_>,
     threads: &Threads,
     run: &[Mark],
@@ -43,7 +42,7 @@ fn add_stop(
         stops.new.items) }
 {
     if threads.in_replay_mode(inputs.code, inputs.placed, thread) {
-        stops.push(stop_of(alloc, run, thread))?;
+        stops.push(stop_of(run, thread))?;
     }
     Ok(())
 }

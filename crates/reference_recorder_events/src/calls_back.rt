@@ -41,7 +41,7 @@ pub fn up(
     ensures { (u : IsUpNext (world_of inputs.entry) marks.now thread func args.now) →
         IfOk result (IsMadeAs (world_of inputs.entry) u.next.at.past.run u.next.at.step) }
 {
-    let args = Words::from(Vec::from_slice(alloc, args)?);
+    let args = Words::from_slice(alloc, args)?;
     let no_call = Done::new(alloc);
     next_event(
         alloc,

@@ -10,7 +10,7 @@ ghost use Rattle.reference_recorder_marks.specs.Marks.{act_of};
 
 use crate::mark::{Act, Mark};
 use marks::Side;
-use run_events::{Key, KeyMark};
+use run_events::{Key, KeyMark, UnpackedMarks};
 
 /// Whether the mark stands above the cut, where a replay sees it.
 pub fn is_above(mark: &Mark) -> bool
@@ -81,18 +81,18 @@ pub fn counts(act: &Act) -> u32
 }
 
 /// The keys of the event, each with its ticket; none of any other mark.
-pub fn keys_of(act: &Act) -> &[KeyMark]
-    ensures { result.now ≡ keys_of (act_of act.now) }
+pub fn keys_of(act: &Act) -> UnpackedMarks<'_>
+    ensures { result ≡ keys_of (act_of act.now) }
 {
     match act {
-        Act::Turn => &[],
-        Act::Load { .. } => &[],
-        Act::Store { .. } => &[],
-        Act::Enter { .. } => &[],
-        Act::Leave { .. } => &[],
-        Act::Step { .. } => &[],
-        Act::Fault { .. } => &[],
-        Act::Made(event) => event.keys.as_slice(),
+        Act::Turn => UnpackedMarks::none(),
+        Act::Load { .. } => UnpackedMarks::none(),
+        Act::Store { .. } => UnpackedMarks::none(),
+        Act::Enter { .. } => UnpackedMarks::none(),
+        Act::Leave { .. } => UnpackedMarks::none(),
+        Act::Step { .. } => UnpackedMarks::none(),
+        Act::Fault { .. } => UnpackedMarks::none(),
+        Act::Made(event) => event.keys.unpacked(),
     }
 }
 
@@ -100,7 +100,7 @@ pub fn keys_of(act: &Act) -> &[KeyMark]
 pub fn has_key(act: &Act, key: Key) -> bool
     ensures { result ≡ is_listed (keys_of (act_of act.now)) key }
 {
-    is_listed(keys_of(act), key)
+    is_listed(keys_of(act).as_slice(), key)
 }
 
 /// Whether two keys are the same.
@@ -126,7 +126,7 @@ fn is_listed(keys: &[KeyMark], key: Key) -> bool
 pub fn ticket_of(act: &Act, key: Key) -> u32
     ensures { result ≡ ticket_in (keys_of (act_of act.now)) key }
 {
-    ticket_in(keys_of(act), key)
+    ticket_in(keys_of(act).as_slice(), key)
 }
 
 // The ticket of the first one of the keys that is this one.

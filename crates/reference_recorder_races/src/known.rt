@@ -47,7 +47,8 @@ fn learned(mark: &Mark, before: &[Mark], told: &[u64], thread: u8) -> u64
     ensures { AreTold thread before.now told.now →
         result ≡ learned (known (seen (past before.now))) (mark_of mark.now) thread }
 {
-    let keys = keys_of(&mark.act);
+    let unpacked = keys_of(&mark.act);
+    let keys = unpacked.as_slice();
     let own = known_by(before, told, Link::Thread(mark.thread));
     let mut known = own;
     for key in keys {

@@ -11,8 +11,7 @@ use std::alloc::{AllocError, Global};
 pub fn copy_words(alloc: Global, words: &Words) -> Result<Words, AllocError>
     ensures { IfOk result (λ copy. copy ≡ words.now) }
 {
-    let items = Vec::from_slice(alloc, words.as_slice())?;
-    Ok(Words::from(items))
+    Words::from_slice(alloc, words.as_slice())
 }
 
 /// A copy of bytes.
@@ -27,8 +26,9 @@ pub fn copy_bytes(alloc: Global, bytes: &Bytes) -> Result<Bytes, AllocError>
 pub fn copy_marks(alloc: Global, marks: &Marks) -> Result<Marks, AllocError>
     ensures { IfOk result (λ copy. copy ≡ marks.now) }
 {
-    let items = Vec::from_slice(alloc, marks.as_slice())?;
-    Ok(Marks::from(items))
+    let keys = marks.unpacked();
+    let items = Vec::from_slice(alloc, keys.as_slice())?;
+    Marks::from_vec(alloc, items)
 }
 
 fn copy_piece(alloc: Global, piece: &Piece) -> Result<Bytes, AllocError>

@@ -73,7 +73,7 @@ fn full_event(alloc: Global, kind: &EventKind) -> Result<Event, AllocError>
         } => Ok(Event::Ret {
             same: *same,
             result: *result,
-            outs: Pieces::from(logged_pieces(alloc, outs, commit)?),
+            outs: Pieces::from_vec(alloc, logged_pieces(alloc, outs, commit)?)?,
         }),
         EventKind::Up { func, args } => Ok(Event::Up {
             func: *func,
@@ -92,14 +92,14 @@ fn full_event(alloc: Global, kind: &EventKind) -> Result<Event, AllocError>
 }
 
 /// The record of no event.
-fn no_record(alloc: Global, thread: u8) -> Record
+fn no_record(thread: u8) -> Record
     ensures { result ≡ no_record thread }
 {
     Record {
         thread,
         steps: 0,
         clock: 0,
-        keys: Marks::new(alloc),
+        keys: Marks::new(),
         event: Event::Stop {
             reason: Reason::Halted,
         },
@@ -129,13 +129,13 @@ pub fn full_record(alloc: Global, mark: &Mark) -> Result<Record, AllocError>
     ensures { IfOk result (λ r. r ≡ full_record (mark_of mark.now)) }
 {
     match &mark.act {
-        Act::Turn => Ok(no_record(alloc, mark.thread)),
-        Act::Load { .. } => Ok(no_record(alloc, mark.thread)),
-        Act::Store { .. } => Ok(no_record(alloc, mark.thread)),
-        Act::Enter { .. } => Ok(no_record(alloc, mark.thread)),
-        Act::Leave { .. } => Ok(no_record(alloc, mark.thread)),
-        Act::Step { .. } => Ok(no_record(alloc, mark.thread)),
-        Act::Fault { .. } => Ok(no_record(alloc, mark.thread)),
+        Act::Turn => Ok(no_record(mark.thread)),
+        Act::Load { .. } => Ok(no_record(mark.thread)),
+        Act::Store { .. } => Ok(no_record(mark.thread)),
+        Act::Enter { .. } => Ok(no_record(mark.thread)),
+        Act::Leave { .. } => Ok(no_record(mark.thread)),
+        Act::Step { .. } => Ok(no_record(mark.thread)),
+        Act::Fault { .. } => Ok(no_record(mark.thread)),
         Act::Made(made) => made_record(alloc, mark.thread, made),
     }
 }

@@ -11,7 +11,7 @@ use Rattle.replay_runs.specs.Laws.{fresh}
 use Rattle.replay_runs.proofs.Keys.{same_key_true, same_key_refl}
 use Rattle.marks.proofs.Touched.{or_true_left, or_true_right}
 use Rattle.std.proofs.lemmas.List.{drop_all, drop_more, map-append, take_more}
-use Rattle.steps_above_stamps.specs.Tickets.{with_ticket}
+use Rattle.run_events.specs.Tickets.{with_ticket}
 use Rattle.steps_above_stamps.specs.Stamps.{IsStamped}
 use Rattle.steps_above_stamps.specs.declared.stamps.EventStamp.{EventStamp}
 use Rattle.whole_runs.specs.Sides.{seen}

@@ -6,7 +6,7 @@ use Rattle.marks.specs.Marks.{Mark}
 use Rattle.marks.specs.Bytes.{Byte}
 use Rattle.replay_runs.specs.Runs.{Link, OfThread, OfKey, last_clock, new_events, marks_of, steps_since}
 use Rattle.replay_runs.specs.Laws.{fresh}
-use Rattle.steps_above_stamps.specs.Tickets.{with_ticket}
+use Rattle.run_events.specs.Tickets.{with_ticket}
 use Rattle.steps_above_stamps.specs.Stamps.{IsNextEvent, IsStamped}
 use Rattle.steps_above_stamps.specs.declared.stamps.EventStamp.{EventStamp}
 use Rattle.whole_runs.specs.Sides.{seen}

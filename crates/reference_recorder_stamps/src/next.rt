@@ -57,9 +57,6 @@ pub fn stamp(
     let before = latest(marks, thread, keys);
     let steps = steps_since(marks, thread);
     let clock = before + 1;
-    Ok(EventStamp {
-        steps,
-        clock,
-        keys: Marks::from(tickets),
-    })
+    let keys = Marks::from_vec(alloc, tickets)?;
+    Ok(EventStamp { steps, clock, keys })
 }

@@ -85,10 +85,10 @@ fn carried_by(
 fn act_with(alloc: Global, func: u16, args: &[u64], carried: Carried) -> Result<Act, AllocError>
     ensures { IfOk result (λ a. a ≡ act_with (step_of func args.now carried)) }
 {
-    let args = Vec::from_slice(alloc, args)?;
+    let args = Words::from_slice(alloc, args)?;
     Ok(Act::Step {
         func,
-        args: Words::from(args),
+        args,
         result: carried.result,
         ins: carried.ins,
         pieces: carried.pieces,

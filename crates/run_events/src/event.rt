@@ -1,6 +1,8 @@
 //! Events of simulated threads, and what a log says of each.
 
-use crate::lists::{Marks, Pieces, Words};
+use crate::marks::Marks;
+use crate::pieces::Pieces;
+use crate::words::Words;
 
 /// How many threads a log can name: their numbers are below it.
 pub const LOG_THREADS: u8 = 32;

@@ -3,8 +3,13 @@
 
 mod event;
 mod key;
-mod lists;
+mod marks;
+mod pieces;
+mod tickets;
+mod words;
 
 pub use event::{Event, EventName, LOG_THREADS, Reason, Record, Stamp};
 pub use key::{Class, Key, KeyMark};
-pub use lists::{Bytes, Marks, Pieces, Words};
+pub use marks::{Marks, UnpackedMarks};
+pub use pieces::{Bytes, Pieces};
+pub use words::Words;

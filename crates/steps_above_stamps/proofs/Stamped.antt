@@ -21,7 +21,7 @@ use Rattle.replay_runs.specs.Runs.{Link, OfThread, OfKey, same_key, is_listed, t
 use Rattle.replay_runs.specs.Laws.{fresh}
 use Rattle.replay_runs.proofs.Keys.{same_key_true}
 use Rattle.steps_above_stamps.specs.State.{StampsState}
-use Rattle.steps_above_stamps.specs.Tickets.{with_ticket, with_tickets}
+use Rattle.run_events.specs.Tickets.{with_ticket, with_tickets}
 use Rattle.steps_above_stamps.specs.Stamps.{occurrences, AreStampsOf, IsStamped, IsNextEvent}
 use Rattle.steps_above_stamps.specs.declared.stamps.EventStamp.{EventStamp}
 use Rattle.steps_above_stamps.proofs.Counted.{has_is, has_event, events_counted}

@@ -12,7 +12,8 @@ use Rattle.logical_clock.specs.Counts as clocks
 use Rattle.replay_runs.specs.Runs.{Link, OfThread, Start, has, ticket, clock_of, steps_of, counts, marks_of, events_with, steps_since, last_clock}
 use Rattle.replay_runs.specs.Laws.{fresh}
 use Rattle.steps_above_stamps.specs.State.{StampsState}
-use Rattle.steps_above_stamps.specs.Tickets.{IsInRange, with_tickets}
+use Rattle.run_events.specs.Tickets.{with_tickets}
+use Rattle.steps_above_stamps.specs.Tickets.{IsInRange}
 use Rattle.steps_above_stamps.specs.declared.stamps.EventStamp.{EventStamp}
 
 -- ---- the events of a run

@@ -3,7 +3,6 @@
 
 mod laws;
 mod stamps;
-mod tickets;
 
 pub use laws::{
     faults_leave_the_stamps, keyless_events_follow_their_thread, keys_of_events_are_distinct,

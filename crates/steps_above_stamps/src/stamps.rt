@@ -5,12 +5,11 @@ ghost use Rattle.std.specs.List.{AllByRecursion};
 ghost use Rattle.run_events.specs.declared.key.KeyMark.{KeyMark};
 ghost use Rattle.marks.specs.Places.{thread_count};
 ghost use Rattle.logical_clock.specs.Events.{AreDistinct};
-ghost use Rattle.steps_above_stamps.specs.Tickets.{HasWord};
+ghost use Rattle.run_events.specs.Tickets.{HasWord};
 ghost use Rattle.steps_above_stamps.specs.Stamps.{Begins, CountsStep, CountsSteps, CountsEvent, CountsNoMore, CanBeRecorded, IsStampAfter, stamp_of};
 
-use crate::tickets::{blank_marks, write_tickets};
 use logical_clock::Clocks;
-use run_events::{Key, KeyMark, Marks, Stamp};
+use run_events::{Key, Marks, Stamp};
 use std::alloc::{AllocError, Global};
 use std::marker::Model;
 
@@ -35,16 +34,16 @@ fn stamp_with(steps: u32, clock: u32, keys: Marks) -> EventStamp
 }
 
 /// The stamp with the marks of its keys, to which it gives their tickets.
-fn with_marks(steps: u32, stamp: Stamp, marks: Vec<KeyMark>) -> EventStamp
-    requires count { length stamp.tickets ≡ length marks.items }
+fn with_marks(steps: u32, stamp: Stamp, marks: Marks) -> EventStamp
+    requires count { length stamp.tickets ≡ length marks }
     requires small { All (λ n. n < 2 ^ 32) stamp.tickets }
-    requires words { AllByRecursion HasWord marks.items }
-    ensures stamp { result ≡ stamp_of steps stamp marks.items }
+    requires words { AllByRecursion HasWord marks }
+    ensures stamp { result ≡ stamp_of steps stamp marks }
     ensures ranges { CanBeRecorded result }
 {
     let mut marks = marks;
-    write_tickets(&mut marks, stamp.tickets.as_slice());
-    stamp_with(steps, stamp.clock, Marks::from(marks))
+    marks.set_tickets(stamp.tickets.as_slice());
+    stamp_with(steps, stamp.clock, marks)
 }
 
 /// The clocks of a run's events, and by thread how many steps it made since its last event.
@@ -59,7 +58,7 @@ impl Model for Stamps {
 
     ghost Value = { StampsState };
 
-    ghost use Rattle.steps_above_stamps.specs.Tickets.{HasWord};
+    ghost use Rattle.run_events.specs.Tickets.{HasWord};
     ghost use Rattle.steps_above_stamps.specs.Stamps.{IsSound};
 
     ghost view = { λ s. record { clocks = s.clocks; steps = s.steps.items } };
@@ -113,7 +112,7 @@ impl Stamps {
         ensures counts { IfOk result (λ s. CountsEvent thread s self.old self.new) }
         ensures unchanged { OnErr result (CountsNoMore self.old self.new) }
     {
-        let marks = blank_marks(alloc, keys)?;
+        let marks = Marks::from_keys(alloc, keys)?;
         let stamp = self.clocks.event(alloc, thread, keys)?;
         let steps = self.steps[thread as usize];
         self.steps[thread as usize] = 0;

@@ -20,30 +20,22 @@ const TWO_EVENTS: [u8; 72] = [
 ];
 
 /// An event of thread 0 with one key, whose ticket is 0.
-fn event_record(
-    alloc: Global,
-    steps: u32,
-    clock: u32,
-    key: Key,
-    event: Event,
-) -> Result<Record, AllocError>
-    ensures { IfOk result (λ r. r ≡ (record {
+fn event_record(steps: u32, clock: u32, key: Key, event: Event) -> Record
+    ensures { result ≡ (record {
       thread = 0;
       steps = steps;
       clock = clock;
       keys = (record { key = key; ticket = 0 }) ∷ [];
       event = event;
-    })) }
+    }) }
 {
-    let mut keys = Vec::new(alloc);
-    keys.push(KeyMark { key, ticket: 0 })?;
-    Ok(Record {
+    Record {
         thread: 0,
         steps,
         clock,
-        keys: Marks::from(keys),
+        keys: Marks::one(KeyMark { key, ticket: 0 }),
         event,
-    })
+    }
 }
 
 /// The two events.
@@ -58,9 +50,9 @@ fn two_events(alloc: Global) -> Result<Vec<Record>, AllocError>
         class: Class::Thread,
         value: 0,
     };
-    let args = Words::new(alloc);
-    let begins = event_record(alloc, 0, 1, main, Event::Up { func: 16, args })?;
-    let returns = event_record(alloc, 4, 2, ended, Event::UpRet { result: 5 })?;
+    let args = Words::new();
+    let begins = event_record(0, 1, main, Event::Up { func: 16, args });
+    let returns = event_record(4, 2, ended, Event::UpRet { result: 5 });
     let mut records = Vec::new(alloc);
     records.push(begins)?;
     records.push(returns)?;

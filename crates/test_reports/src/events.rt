@@ -40,7 +40,8 @@ fn call_of(alloc: Global, code: &Code, words: &[&str]) -> Result<Option<(u16, Wo
     let Some(args) = numbers_of(alloc, args)? else {
         return Ok(None);
     };
-    Ok(Some((func, Words::from(args))))
+    let args = Words::from_slice(alloc, &args)?;
+    Ok(Some((func, args)))
 }
 
 /// The pieces of a return.
@@ -52,7 +53,8 @@ fn pieces_of(alloc: Global, words: &[&str]) -> Result<Option<Pieces>, AllocError
         };
         pieces.push(Bytes::from(bytes))?;
     }
-    Ok(Some(Pieces::from(pieces)))
+    let pieces = Pieces::from_vec(alloc, pieces)?;
+    Ok(Some(pieces))
 }
 
 /// A return: whether it repeats the one before, its result, and its pieces.
@@ -174,7 +176,7 @@ impl Events {
             thread: self.thread,
             steps,
             clock,
-            keys: Marks::new(alloc),
+            keys: Marks::new(),
             event,
         };
         self.add(alloc, record)?;

@@ -31,7 +31,7 @@ bounds-places-at c =
 
 pub split_at-requires : goal.split_at-requires
 split_at-requires c =
-    next_fits c.loop-at.invariant.left.0 c.args.records.now c.loop-at.at c.index-records-at.result c.as_slice-marks.result.now c.loop-at.left.now c.loop-at-test.true c.index-records-at.is c.as_slice-marks.ensures c.loop-at.invariant.left.2
+    next_fits c.loop-at.invariant.left.0 c.args.records.now c.loop-at.at c.index-records-at.result c.as_slice-marks.result.now c.loop-at.left.now c.loop-at-test.true c.index-records-at.is (c.as_slice-marks.ensures ∙ c.unpacked-keys.ensures) c.loop-at.invariant.left.2
 
 pub loop-at-init : goal.loop-at-init
 loop-at-init c =
@@ -68,8 +68,8 @@ loop-at-preserved c =
     let ms = c.as_slice-marks.result.now in
     let number = c.loop-at.invariant.left.0 in
     let have : HaveNumbers number ms c.split_at.result.0.now = subst (HaveNumbers number ms) (sym c.split_at.ensures.front)
-    (next_first number rs i r ms c.loop-at.left.now lt is c.as_slice-marks.ensures c.loop-at.invariant.left.2) in
-    let here = wrong_here rs c.args.whole (clock_in number c.in_ok-clocks.clocks.table) i r p ms (get_or c.loop-at.last c.from-thread.result 0) place c.as_slice-marks.ensures c.loop-at.invariant.left.1 own apart in
+    (next_first number rs i r ms c.loop-at.left.now lt is (c.as_slice-marks.ensures ∙ c.unpacked-keys.ensures) c.loop-at.invariant.left.2) in
+    let here = wrong_here rs c.args.whole (clock_in number c.in_ok-clocks.clocks.table) i r p ms (get_or c.loop-at.last c.from-thread.result 0) place (c.as_slice-marks.ensures ∙ c.unpacked-keys.ensures) c.loop-at.invariant.left.1 own apart in
     let right = subst (Answers c.check_clock.result) here (c.check_clock.ensures number have) in
     record {
       wide = length-set c.loop-at.last c.from-thread.result r.clock ∙ c.loop-at.invariant.wide;
@@ -79,7 +79,7 @@ loop-at-preserved c =
         number,
         c.loop-at.invariant.left.1,
         subst (HaveNumbers number (marks_of (drop (i + 1) rs))) (sym c.split_at.ensures.back)
-            (next_left number rs i r ms c.loop-at.left.now lt is c.as_slice-marks.ensures c.loop-at.invariant.left.2),
+            (next_left number rs i r ms c.loop-at.left.now lt is (c.as_slice-marks.ensures ∙ c.unpacked-keys.ensures) c.loop-at.invariant.left.2),
       );
       same = c.loop-at.invariant.same ∙ first_next c.args.whole all i e c.check_clock.result c.in_ok-check_clock.field-0 (omega (arith, length-events [] rs, lt)) (event_here rs i r lt is) c.in_ok-check_clock.was right;
     }
@@ -122,8 +122,8 @@ returns-in_err-check_clock c =
     let ms = c.as_slice-marks.result.now in
     let number = c.loop-at.invariant.left.0 in
     let have : HaveNumbers number ms c.split_at.result.0.now = subst (HaveNumbers number ms) (sym c.split_at.ensures.front)
-    (next_first number rs i r ms c.loop-at.left.now lt is c.as_slice-marks.ensures c.loop-at.invariant.left.2) in
-    let here = wrong_here rs c.args.whole (clock_in number c.in_ok-clocks.clocks.table) i r p ms (get_or c.loop-at.last c.from-thread.result 0) place c.as_slice-marks.ensures c.loop-at.invariant.left.1 own apart in
+    (next_first number rs i r ms c.loop-at.left.now lt is (c.as_slice-marks.ensures ∙ c.unpacked-keys.ensures) c.loop-at.invariant.left.2) in
+    let here = wrong_here rs c.args.whole (clock_in number c.in_ok-clocks.clocks.table) i r p ms (get_or c.loop-at.last c.from-thread.result 0) place (c.as_slice-marks.ensures ∙ c.unpacked-keys.ensures) c.loop-at.invariant.left.1 own apart in
     let wrong_is = subst (Answers {X = Unit {0}} (Err x)) here (c.in_err-check_clock.ensures number have) in
     let q = err_from_is_err_and c.from_residual-in_err-check_clock.result c.from_residual-in_err-check_clock.ensures.1 in
     rw (q.1, q.2) (first_found c.args.whole all i e (Err x) x (first_wrong c.args.whole all [] all) (omega (arith, length-events [] rs, lt)) (event_here rs i r lt is) refl wrong_is c.loop-at.invariant.same)

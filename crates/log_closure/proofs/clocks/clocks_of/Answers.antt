@@ -11,7 +11,7 @@ use Rattle.log_closure.proofs.clocks.clocks_of.Goals.{then-repeats, else-repeats
 
 pub split_at-requires : goal.split_at-requires
 split_at-requires c =
-    next_fits (number_in c.args.numbering.now) c.args.records.now c.loop-at.at c.index-records-at.result c.as_slice-marks.result.now c.loop-at.left.now c.loop-at-test.true c.index-records-at.is c.as_slice-marks.ensures c.loop-at.invariant.left
+    next_fits (number_in c.args.numbering.now) c.args.records.now c.loop-at.at c.index-records-at.result c.as_slice-marks.result.now c.loop-at.left.now c.loop-at-test.true c.index-records-at.is (c.as_slice-marks.ensures ∙ c.unpacked-keys.ensures) c.loop-at.invariant.left
 
 pub loop-at-init : goal.loop-at-init
 loop-at-init c =
@@ -33,7 +33,7 @@ loop-at-preserved c =
     let number = number_in c.args.numbering.now in
     let apart = c.requires.numbers.apart in
     let have : HaveNumbers number ms c.split_at.result.0.now = subst (HaveNumbers number ms) (sym c.split_at.ensures.front)
-    (next_first number rs i r ms c.loop-at.left.now lt is c.as_slice-marks.ensures c.loop-at.invariant.left) in
+    (next_first number rs i r ms c.loop-at.left.now lt is (c.as_slice-marks.ensures ∙ c.unpacked-keys.ensures) c.loop-at.invariant.left) in
     let again : c.in_ok-repeats.repeats ≡ repeats (keys_of (events_of (take i rs))) (map key_tie ms) =
     c.in_ok-repeats.ensures.repeats number apart have (keys_of (events_of (take i rs))) (owns_listed (clock_in number c.loop-at.table) (events_of (take i rs)) c.loop-at.invariant.owns) in
     let other : c.if-repeats.or ≡ cond c.in_ok-repeats.repeats (Some i) None =
@@ -42,9 +42,9 @@ loop-at-preserved c =
       | else-repeats w ↦ w.or-is ∙ ap (λ (b : Bool). cond b (Some i) None) (sym w.if-repeats.false)
     ] in
     record {
-      owns = owns_more (clock_in number c.loop-at.table) (clock_in number c.add.new.table) rs i r ms lt is c.as_slice-marks.ensures c.loop-at.invariant.owns (c.in_ok-repeats.ensures.clocks number apart have);
-      twice = twice_step rs i r ms c.loop-at.twice c.or-twice.result c.in_ok-repeats.repeats lt is c.as_slice-marks.ensures c.loop-at.invariant.twice again
+      owns = owns_more (clock_in number c.loop-at.table) (clock_in number c.add.new.table) rs i r ms lt is (c.as_slice-marks.ensures ∙ c.unpacked-keys.ensures) c.loop-at.invariant.owns (c.in_ok-repeats.ensures.clocks number apart have);
+      twice = twice_step rs i r ms c.loop-at.twice c.or-twice.result c.in_ok-repeats.repeats lt is (c.as_slice-marks.ensures ∙ c.unpacked-keys.ensures) c.loop-at.invariant.twice again
           (c.or-twice.ensures ∙ or_is c.loop-at.twice c.if-repeats.or ∙ ap (or_else c.loop-at.twice) other);
       left = subst (HaveNumbers number (marks_of (drop (i + 1) rs))) (sym c.split_at.ensures.back)
-          (next_left number rs i r ms c.loop-at.left.now lt is c.as_slice-marks.ensures c.loop-at.invariant.left);
+          (next_left number rs i r ms c.loop-at.left.now lt is (c.as_slice-marks.ensures ∙ c.unpacked-keys.ensures) c.loop-at.invariant.left);
     }

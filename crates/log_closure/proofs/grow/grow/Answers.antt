@@ -40,7 +40,7 @@ loop-place-preserved c =
       | else-branch w ↦ ap (λ (v : Vec LogPlace Global). v.items) w.part-is ∙ ap (λ (b : Bool). cond b (part ++ p ∷ []) part) (sym w.if-branch.false)
     ] in
     let within : p.at < length rs = c.requires c.loop-place.place-index no_place c.loop-place-test.true in
-    let keys_are = c.as_slice.ensures ∙ ap (λ (x : Record). x.keys) (c.index-records-place.is ∙ at_any rs p.at c.index-records-place.result no_record within) in
+    let keys_are = c.as_slice.ensures ∙ c.unpacked-keys.ensures ∙ ap (λ (x : Record). x.keys) (c.index-records-place.is ∙ at_any rs p.at c.index-records-place.result no_record within) in
     let did = c.in_ok-join.ensures (events_at rs part) (event_at rs p) c.loop-place.invariant.done refl refl keys_are in
     record {
       done = subst (IsGrown c.join.new.self) (joined rs part c.if-branch.part.items p r next) did.1;

@@ -1,4 +1,4 @@
-use Rattle.std.proofs.Common.{[], List, take, sym, subst}
+use Rattle.std.proofs.Common.{[], List, take, sym, subst, ◌∙◌}
 use Rattle.run_events.specs.declared.key.KeyMark.{KeyMark}
 use Rattle.log_closure.specs.Tables.{Numbers, key_cmp}
 use Rattle.std.specs.BTreeMap.{get}
@@ -18,7 +18,7 @@ pub loop-entry-preserved : goal.loop-entry-preserved
 loop-entry-preserved c =
     let rs = c.args.records.now in
     let i = c.loop-entry.entry-index in
-    let more = marks_seen rs i c.entry-item.result c.as_slice.result.now c.loop-entry-test.true c.entry-item.is c.as_slice.ensures in
+    let more = marks_seen rs i c.entry-item.result c.as_slice.result.now c.loop-entry-test.true c.entry-item.is (c.as_slice.ensures ∙ c.unpacked-keys.ensures) in
     let now = c.add.new.self in
     record {
       numbers = c.in_ok-add.ensures.numbers;

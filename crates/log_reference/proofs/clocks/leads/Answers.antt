@@ -18,6 +18,6 @@ returns-clause-none c =
     if_false c.leads_by_key.result
     (λ none how. ⊎_elim
     (λ (t, n). other (th ∙ t) (n ∙ ap (λ (k : ℕ). k + 1) (sym ix)))
-    (λ (m, i, free, own). none m (subst (In (next m)) (sym c.as_slice-2.ensures) i) free (subst (In m) (sym c.as_slice.ensures) own))
+    (λ (m, i, free, own). none m (subst (In (next m)) (sym (c.as_slice-2.ensures ∙ c.unpacked-keys.ensures)) i) free (subst (In m) (sym (c.as_slice.ensures ∙ c.unpacked-earlier_keys.ensures)) own))
     how)
     c.leads_by_key.ensures.none

@@ -1,4 +1,4 @@
-use Rattle.std.proofs.Common.{⊎_elim, sym, subst}
+use Rattle.std.proofs.Common.{⊎_elim, sym, subst, ◌∙◌}
 use Rattle.run_events.specs.declared.key.KeyMark.{KeyMark}
 use Rattle.std.proofs.Common.{List}
 use Rattle.log_closure.specs.Events.{In}
@@ -8,7 +8,7 @@ use Rattle.log_reference.proofs.events.is_twice.Goals as goal
 
 pub returns-else-shares-clause-none : goal.returns-else-shares-clause-none
 returns-else-shares-clause-none c =
-    let keys = sym c.as_slice-marks.ensures in
+    let keys = sym (c.as_slice-marks.ensures ∙ c.unpacked-keys.ensures) in
     if_false c.repeats.result
     (λ none (m, how). ⊎_elim
     (λ (i, h). c.if-shares.ensures.none m (subst (In m) keys i) h)

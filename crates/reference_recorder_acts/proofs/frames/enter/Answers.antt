@@ -41,5 +41,5 @@ returns c = λ next.
     entered w c.args.marks.now c.args.thread c.args.side c.args.func c.args.args.now next bytes (c.in_ok-bytes.ensures w.laid refl) c.in-Some.at
     (subst (λ (n : ℕ). HasRoomOn w c.args.side c.args.thread (past c.args.marks.now) n) size room.0) room.1 c.next_mark.result
     (c.next_mark.ensures
-    ∙ ap (λ (args : List ℕ). next_after c.args.marks.now c.args.thread c.args.side (act.Enter c.args.func args c.in-Some.at c.from-2.result)) (c.from.ensures ∙ c.in_ok-from_slice.ensures.items)
-    ∙ ap (λ (bs : List ℕ). next_after c.args.marks.now c.args.thread c.args.side (act.Enter c.args.func c.args.args.now c.in-Some.at bs)) c.from-2.ensures)
+    ∙ ap (λ (args : List ℕ). next_after c.args.marks.now c.args.thread c.args.side (act.Enter c.args.func args c.in-Some.at c.from.result)) c.in_ok-from_slice.ensures
+    ∙ ap (λ (bs : List ℕ). next_after c.args.marks.now c.args.thread c.args.side (act.Enter c.args.func c.args.args.now c.in-Some.at bs)) c.from.ensures)

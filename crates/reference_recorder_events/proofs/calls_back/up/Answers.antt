@@ -12,5 +12,5 @@ returns c = λ u.
     let t = c.args.thread in
     IfOk-weaker c.next_event.result _ _
     (λ m n. event_made_as w marks u.next.at.past u.next.at.step t u.next.at.of_thread _ _ m n
-    (can_be_up_with w marks t c.args.func c.args.args.now u c.from-args.result (c.from-args.ensures ∙ c.in_ok-from_slice.ensures.items)) tt)
+    (can_be_up_with w marks t c.args.func c.args.args.now u c.in_ok-args.args c.in_ok-args.ensures) tt)
     c.next_event.ensures

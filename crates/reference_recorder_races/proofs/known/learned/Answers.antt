@@ -14,19 +14,19 @@ no_mark = record { key = some_key; ticket = 0 }
 
 pub loop-key-preserved : goal.loop-key-preserved
 loop-key-preserved c = λ told.
-    let qs = c.keys_of-keys.result.now in
+    let qs = c.as_slice-keys.result.now in
     let i = c.loop-key.key-index in
     ap (λ n. max (learned_keys (known (seen (past c.args.before.now))) (drop (i + 1) qs) c.args.thread) n) c.max-known.ensures
     ∙ learned_more (known (seen (past c.args.before.now))) qs c.args.thread i c.loop-key.known c.known_by-own.result c.known_by-more.result (get_or qs i no_mark) c.loop-key-test.true (get_or_default qs i no_mark _ c.loop-key-test.true) (c.loop-key.invariant told) (c.known_by-more.ensures c.args.thread told)
 
 pub returns-then-other-thread : goal.returns-then-other-thread
 returns-then-other-thread c = λ told.
-    let e = learned_all (known (seen (past c.args.before.now))) c.keys_of-keys.result.now c.args.thread c.loop-key.key-index c.loop-key.known c.known_by-own.result c.loop-key-test.false (c.loop-key.invariant told)
-    ∙ (λ j. max (c.known_by-own.ensures c.args.thread told j) (learned_keys (known (seen (past c.args.before.now))) (c.keys_of-keys.ensures j) c.args.thread)) in
+    let e = learned_all (known (seen (past c.args.before.now))) c.as_slice-keys.result.now c.args.thread c.loop-key.key-index c.loop-key.known c.known_by-own.result c.loop-key-test.false (c.loop-key.invariant told)
+    ∙ (λ j. max (c.known_by-own.ensures c.args.thread told j) (learned_keys (known (seen (past c.args.before.now))) ((c.as_slice-keys.ensures ∙ c.keys_of-unpacked.ensures) j) c.args.thread)) in
     learned_own (known (seen (past c.args.before.now))) (mark_of c.args.mark.now) c.args.thread c.loop-key.known c.max.result (eq-eqb c.args.mark.now.thread c.args.thread c.if-other-thread.true) e c.max.ensures
 
 pub returns : goal.returns
 returns c = λ told.
-    let e = learned_all (known (seen (past c.args.before.now))) c.keys_of-keys.result.now c.args.thread c.loop-key.key-index c.loop-key.known c.known_by-own.result c.loop-key-test.false (c.loop-key.invariant told)
-    ∙ (λ j. max (c.known_by-own.ensures c.args.thread told j) (learned_keys (known (seen (past c.args.before.now))) (c.keys_of-keys.ensures j) c.args.thread)) in
+    let e = learned_all (known (seen (past c.args.before.now))) c.as_slice-keys.result.now c.args.thread c.loop-key.key-index c.loop-key.known c.known_by-own.result c.loop-key-test.false (c.loop-key.invariant told)
+    ∙ (λ j. max (c.known_by-own.ensures c.args.thread told j) (learned_keys (known (seen (past c.args.before.now))) ((c.as_slice-keys.ensures ∙ c.keys_of-unpacked.ensures) j) c.args.thread)) in
     learned_other (known (seen (past c.args.before.now))) (mark_of c.args.mark.now) c.args.thread c.loop-key.known (ne_eqb c.args.mark.now.thread c.args.thread c.if-other-thread.false) e

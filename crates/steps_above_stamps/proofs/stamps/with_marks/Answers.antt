@@ -1,18 +1,15 @@
-use Rattle.std.proofs.Common.{◌≡◌, List, sym, ap, ◌∙◌, subst, arith}
-use Rattle.std.proofs.lemmas.List.{take_at}
+use Rattle.std.proofs.Common.{◌≡◌, List, sym, ap, ◌∙◌, subst}
 use Rattle.run_events.specs.declared.key.KeyMark.{KeyMark}
-use Rattle.steps_above_stamps.specs.Tickets.{with_tickets}
+use Rattle.run_events.specs.Tickets.{with_tickets}
 use Rattle.steps_above_stamps.specs.Stamps.{CanBeRecorded}
 use Rattle.steps_above_stamps.proofs.Written.{in_range}
 use Rattle.steps_above_stamps.proofs.stamps.with_marks.Goals as goal
 
 pub returns : goal.returns
 returns c =
-    let marks = c.args.marks.items in
+    let marks = c.args.marks in
     let tickets = c.args.stamp.tickets in
-    let put : c.from.result ≡ with_tickets marks tickets = c.from.ensures
-    ∙ take_at c.write_tickets.new.marks _ c.args.marks.len (omega (arith, c.write_tickets.auto.marks, c.deref_mut.ensures.len))
-    ∙ c.write_tickets.ensures ∙ (λ i. with_tickets (c.deref_mut.ensures.value i) (c.as_slice.ensures i)) in
+    let put : c.set_tickets.new.self ≡ with_tickets marks tickets = c.set_tickets.ensures ∙ (λ i. with_tickets marks (c.as_slice.ensures i)) in
     let made : c.stamp_with.result ≡ record { steps = c.args.steps; clock = c.args.stamp.clock; keys = with_tickets marks tickets } = c.stamp_with.ensures.stamp ∙ ap (λ (qs : List KeyMark). record { steps = c.args.steps; clock = c.args.stamp.clock; keys = qs }) put in
     record {
       stamp = made;

@@ -1,4 +1,4 @@
-use Rattle.std.proofs.Common.{◌≡◌, ◌∙◌, ◌++◌, ◌∷◌, [], Some, None, ap, sym}
+use Rattle.std.proofs.Common.{◌≡◌, ◌∙◌, Some, None, ap, sym}
 use Rattle.logical_clock.specs.Kept.{nothing, number_at, counted_at}
 use Rattle.logical_clock.proofs.Rows.{number_is_place, appended, next_keeps, next_number, next_same}
 use Rattle.logical_clock.proofs.keys.Keys.number.Goals as goal

@@ -19,7 +19,7 @@ with_marks-requires c =
     let few : c.self.inside.clocks.events < 4000000000 = subst (λ (s : StampsState). s.clocks.events < 4000000000) (sym c.self.view_is) c.requires.few in
     let tickets : c.in_ok-stamp.stamp.tickets ≡ map (λ k. count (OfKey k) past) c.args.keys.now = (c.in_ok-stamp.ensures.stamp past h).tickets in
     record {
-      count = as_many c.args.keys.now (λ k. count (OfKey k) past) c.in_ok-marks.marks.items c.in_ok-stamp.stamp.tickets c.in_ok-marks.ensures.keys tickets;
+      count = as_many c.args.keys.now (λ k. count (OfKey k) past) c.in_ok-marks.marks c.in_ok-stamp.stamp.tickets c.in_ok-marks.ensures.keys tickets;
       small =
           subst (λ (ns : List ℕ). (k d : ℕ) → k < length ns → get_or ns k d < 2 ^ 32) (sym tickets)
           (tickets_small (λ k. count (OfKey k) past) (length past) (λ k. count_le past (OfKey k)) (omega (arith, few, h.events)) c.args.keys.now);
@@ -31,7 +31,7 @@ returns-clause-keys c =
     let past = c.self.invariant.reached.0 in
     let h : Counts past c.self.inside.clocks = c.self.invariant.reached.1 in
     ap (λ (s : EventStamp). map (λ (q : KeyMark). q.key) s.keys) c.with_marks.ensures.stamp
-    ∙ ap (map (λ (q : KeyMark). q.key)) (tickets_are c.args.keys.now (λ k. count (OfKey k) past) c.in_ok-marks.marks.items c.in_ok-stamp.stamp.tickets c.in_ok-marks.ensures.keys (c.in_ok-stamp.ensures.stamp past h).tickets)
+    ∙ ap (map (λ (q : KeyMark). q.key)) (tickets_are c.args.keys.now (λ k. count (OfKey k) past) c.in_ok-marks.marks c.in_ok-stamp.stamp.tickets c.in_ok-marks.ensures.keys (c.in_ok-stamp.ensures.stamp past h).tickets)
     ∙ keys_ticketed (λ k. count (OfKey k) past) c.args.keys.now
 
 pub returns-clause-stamp : goal.returns-clause-stamp
@@ -41,7 +41,7 @@ returns-clause-stamp c = λ memory past m k n.
     let of : IsOfClocks old c.args.thread c.args.keys.now c.with_marks.result = subst (IsOfClocks old c.args.thread c.args.keys.now) (sym c.with_marks.ensures.stamp) (record {
       thread = c.requires.thread;
       steps = get_or_read old.steps _ _ lt c.index-steps.ensures 0;
-      keys = λ past h. tickets_are c.args.keys.now (λ k. count (OfKey k) past) c.in_ok-marks.marks.items c.in_ok-stamp.stamp.tickets c.in_ok-marks.ensures.keys (c.in_ok-stamp.ensures.stamp past h).tickets;
+      keys = λ past h. tickets_are c.args.keys.now (λ k. count (OfKey k) past) c.in_ok-marks.marks c.in_ok-stamp.stamp.tickets c.in_ok-marks.ensures.keys (c.in_ok-stamp.ensures.stamp past h).tickets;
       clock = λ past h. (c.in_ok-stamp.ensures.stamp past h).clock;
     }) in
     stamp_is memory past old c.args.thread c.args.keys.now c.with_marks.result m of (subst (AreStampsOf memory past) (sym c.self.view_is) k) n
@@ -53,7 +53,7 @@ returns-clause-counts c = λ memory past m k n.
     let of : IsOfClocks old c.args.thread c.args.keys.now c.with_marks.result = subst (IsOfClocks old c.args.thread c.args.keys.now) (sym c.with_marks.ensures.stamp) (record {
       thread = c.requires.thread;
       steps = get_or_read old.steps _ _ lt c.index-steps.ensures 0;
-      keys = λ past h. tickets_are c.args.keys.now (λ k. count (OfKey k) past) c.in_ok-marks.marks.items c.in_ok-stamp.stamp.tickets c.in_ok-marks.ensures.keys (c.in_ok-stamp.ensures.stamp past h).tickets;
+      keys = λ past h. tickets_are c.args.keys.now (λ k. count (OfKey k) past) c.in_ok-marks.marks c.in_ok-stamp.stamp.tickets c.in_ok-marks.ensures.keys (c.in_ok-stamp.ensures.stamp past h).tickets;
       clock = λ past h. (c.in_ok-stamp.ensures.stamp past h).clock;
     }) in
     stamps_then memory past old c.args.thread c.args.keys.now c.with_marks.result m c.event.new.self (set old.steps c.args.thread 0) of (subst (AreStampsOf memory past) (sym c.self.view_is) k) n c.self.invariant.steps c.in_ok-stamp.ensures.counts refl

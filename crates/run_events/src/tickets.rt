@@ -2,12 +2,13 @@
 
 ghost use Rattle.std.specs.Prelude.{◌≡◌, ◌<◌, ◌^◌, length, map, All, IfOk};
 ghost use Rattle.std.specs.List.{AllByRecursion};
-ghost use Rattle.steps_above_stamps.specs.Tickets.{HasWord, with_ticket, with_tickets};
+ghost use Rattle.run_events.specs.Tickets.{HasWord, with_ticket, with_tickets};
 
-use run_events::{Class, Key, KeyMark};
+use crate::key::{Class, Key, KeyMark};
 use std::alloc::{AllocError, Global};
 
-fn blank_mark(class: Class, value: u64) -> KeyMark
+/// The key with the ticket 0.
+pub fn blank_mark(class: Class, value: u64) -> KeyMark
     ensures mark { result ≡ with_ticket 0 (record { class = class; value = value }) }
     ensures word { HasWord result }
 {

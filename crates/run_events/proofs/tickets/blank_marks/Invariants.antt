@@ -1,7 +1,7 @@
 use Rattle.std.proofs.Common.{◌≡◌, map, take}
 use Rattle.std.specs.List.{AllByRecursion}
-use Rattle.steps_above_stamps.specs.Tickets.{HasWord, with_ticket}
-use Rattle.steps_above_stamps.proofs.tickets.blank_marks.Given as goal
+use Rattle.run_events.specs.Tickets.{HasWord, with_ticket}
+use Rattle.run_events.proofs.tickets.blank_marks.Given as goal
 
 abbrev pub invariant-loop-key : goal.invariant-loop-key
 invariant-loop-key l = record {

@@ -1,6 +1,6 @@
 use Rattle.std.proofs.Common.{◌≡◌}
-use Rattle.steps_above_stamps.proofs.Written.{written}
-use Rattle.steps_above_stamps.proofs.tickets.write_tickets.Given as goal
+use Rattle.run_events.proofs.Written.{written}
+use Rattle.run_events.proofs.tickets.write_tickets.Given as goal
 
 abbrev pub invariant-loop-i : goal.invariant-loop-i
 invariant-loop-i l = l.marks ≡ written l.i l.fn.marks l.tickets

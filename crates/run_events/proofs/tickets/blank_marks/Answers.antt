@@ -1,7 +1,7 @@
 use Rattle.std.proofs.Common.{arith}
 use Rattle.std.proofs.lemmas.Grind.{common_steps}
-use Rattle.steps_above_stamps.proofs.Written.{words_more}
-use Rattle.steps_above_stamps.proofs.tickets.blank_marks.Goals as goal
+use Rattle.run_events.proofs.Written.{words_more}
+use Rattle.run_events.proofs.tickets.blank_marks.Goals as goal
 
 pub loop-key-preserved : goal.loop-key-preserved
 loop-key-preserved c = record {

@@ -1,0 +1,10 @@
+-- The values that a list stands for, by how they lie in memory.
+use Rattle.std.specs.Prelude.{ℕ, List, [], ◌∷◌}
+use Rattle.run_events.specs.declared.words.PackedWords.{PackedWords}
+use Rattle.run_events.specs.declared.words.PackedWords.TheVariants.{None, One, Two, More}
+
+abbrev pub words_of : PackedWords → List ℕ
+words_of None = []
+words_of (One word) = word ∷ []
+words_of (Two both) = both
+words_of (More many) = many.value.items
