@@ -28,12 +28,26 @@ EMPTY = """[cut(top)] int x(void);
 int main(void) { return 0; }
 """
 
-# Runs at the limits of a recording, with the status that each ends with: a million events; records of 48 MiB, of returns that are
-# written once but counted in full; a report of 1 MiB of live memory; the steps of the greatest budget.
+# Runs at the limits of a recording, with the status that each ends with: a million events, of calls alone, of blocks (each has a key), and of
+# calls with a region; records of 48 MiB, of returns that are written once but counted in full; a report of 1 MiB of live memory; the steps of
+# the greatest budget.
 LARGE = [
     (
         "events",
         "[cut(top)] void low(void);\nvoid low(void) { }\nint main(void) { while (1) low(); return 0; }\n",
+        "budget 100000000\n",
+        7,
+    ),
+    (
+        "keys",
+        "[cut(top)] int x(void);\nint main(void) { while (1) r2_free(r2_malloc(8)); return 0; }\n",
+        "budget 100000000\n",
+        7,
+    ),
+    (
+        "regions",
+        "[cut(top)] int get([out, bsize(n)] char *p, int n);\nint get(char *p, int n) { p[0] = 1; return n; }\n"
+        "char b[8];\nint main(void) { while (1) get(b, 8); return 0; }\n",
         "budget 100000000\n",
         7,
     ),
@@ -143,8 +157,8 @@ def measure_large(program, name, source, system, wanted, scratch):
         sys.exit(f"{name}: record ended with {status}")
     sizes = sum(os.path.getsize(path) for path in paths[2:])
     print(
-        f"{name:8} {seconds:6.3f} s  memory {memory / 2**20:6.1f} MiB"
-        f"  {sizes / 2**20:6.1f} MiB of log and report",
+        f"{name:8} {seconds:6.3f} s  memory {(memory - sizes) / 2**20:6.1f} MiB"
+        f" beside {sizes / 2**20:5.1f} MiB of log and report",
         flush=True,
     )
 
