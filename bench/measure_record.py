@@ -1,8 +1,8 @@
 #!/usr/bin/env python3
 """Runs `PROGRAM record` on a loop of arithmetic and accesses, one of calls across the cut, one of blocks, and four threads that sum
 under a mutex (`gen`), and the same built by `gcc -O0`, natively and under Helgrind. Prints marks and events a second of processor time,
-that time over those of the others, each the best of a few runs, and the peak memory without the sizes of log and report. What a program
-takes to start is part of each; the first line says how much that is."""
+that time over those of the others, each the best of a few runs that are made in turn, so that a noisy hour meets all of them, and the peak
+memory without the sizes of log and report. What a program takes to start is part of each; the first line says how much that is."""
 import os
 import re
 import subprocess
@@ -10,7 +10,7 @@ import sys
 
 from timing import measured
 
-RUNS = 3
+RUNS = 9
 HERE = os.path.dirname(os.path.abspath(__file__))
 
 # What a program declares of r2's builtins.
@@ -28,8 +28,8 @@ EMPTY = """[cut(top)] int x(void);
 int main(void) { return 0; }
 """
 
-# Runs at the limits of a recording, with the status that each ends with: a million events, of calls alone, of blocks (each has a key), and of
-# calls with a region; records of 48 MiB, of returns that are written once but counted in full; a report of 1 MiB of live memory; the steps of
+# Runs at the limits of a recording, with the status that each ends with: a million events, of calls alone, of blocks (each has a key), of
+# calls with a region, and of calls with three arguments and with eight, the most; records of 48 MiB, of returns that are written once but counted in full; a report of 1 MiB of live memory; the steps of
 # the greatest budget.
 LARGE = [
     (
@@ -48,6 +48,21 @@ LARGE = [
         "regions",
         "[cut(top)] int get([out, bsize(n)] char *p, int n);\nint get(char *p, int n) { p[0] = 1; return n; }\n"
         "char b[8];\nint main(void) { while (1) get(b, 8); return 0; }\n",
+        "budget 100000000\n",
+        7,
+    ),
+    (
+        "three",
+        "[cut(top)] int low(int a, int b, int c);\nint low(int a, int b, int c) { return a; }\n"
+        "int main(void) { while (1) low(1, 2, 3); return 0; }\n",
+        "budget 100000000\n",
+        7,
+    ),
+    (
+        "eight",
+        "[cut(top)] int low(int a, int b, int c, int d, int e, int f, int g, int h);\n"
+        "int low(int a, int b, int c, int d, int e, int f, int g, int h) { return a; }\n"
+        "int main(void) { while (1) low(1, 2, 3, 4, 5, 6, 7, 8); return 0; }\n",
         "budget 100000000\n",
         7,
     ),
@@ -83,13 +98,14 @@ def plain(source):
     return PROTOTYPES + re.sub(r"(?m)^(\[[a-z_]+\(\w+\)\] )+", "", source)
 
 
-def best(words, printed):
-    """The shortest of a few runs: its time, and the greatest peak of memory."""
-    seconds, memory = float("inf"), 0
+def best(programs, printed):
+    """Of each program the shortest of a few runs, all in turn: its time, its status, and the greatest peak of memory."""
+    found = [(float("inf"), 0, 0)] * len(programs)
     for _ in range(RUNS):
-        took, status, peak = spent(words, printed)
-        seconds, memory = min(seconds, took), max(memory, peak)
-    return seconds, status, memory
+        for at, words in enumerate(programs):
+            seconds, status, memory = spent(words, printed)
+            found[at] = (min(found[at][0], seconds), status, max(found[at][2], memory))
+    return found
 
 
 def said(report):
@@ -110,20 +126,17 @@ def said(report):
     return steps + events, events, result
 
 
+def told_memory(peak, sizes):
+    """The peak of memory, and what of it isn't log or report. A report is written as it is made, so it isn't in memory as a whole."""
+    return f"memory {peak / 2**20:6.1f} MiB, {(peak - sizes) / 2**20:6.1f} without {sizes / 2**20:5.1f} MiB of log and report"
+
+
 def measure(program, name, source, system, scratch):
     """One line for a program and its system file."""
     paths = [os.path.join(scratch, end) for end in ("a.c", "a.sys", "a.log", "a.rep")]
     for path, text in zip(paths, (source, system)):
         with open(path, "w") as file:
             file.write(text)
-    printed = os.path.join(scratch, "printed")
-    words = [program, "record", paths[0], "top", *paths[1:]]
-    seconds, status, memory = best(words, printed)
-    if status != 0:
-        sys.exit(f"{name}: record ended with {status}")
-    marks, events, result = said(paths[3])
-    sizes = sum(os.path.getsize(path) for path in paths[2:])
-
     bare = os.path.join(scratch, "plain.c")
     with open(bare, "w") as file:
         file.write(plain(source))
@@ -131,16 +144,26 @@ def measure(program, name, source, system, scratch):
     subprocess.run(
         ["gcc", "-O0", "-g", "-w", "-pthread", "-o", native, bare, os.path.join(HERE, "native.c")], check=True
     )
-    native_seconds, native_status, _ = best([native], printed)
+    programs = [
+        [program, "record", paths[0], "top", *paths[1:]],
+        [native],
+        ["valgrind", "--tool=helgrind", "-q", native],
+    ]
+    recorded, alone, races = best(programs, os.path.join(scratch, "printed"))
+    seconds, status, memory = recorded
+    native_seconds, native_status, _ = alone
+    helgrind_seconds, _, _ = races
+    if status != 0:
+        sys.exit(f"{name}: record ended with {status}")
+    marks, events, result = said(paths[3])
     if native_status != result:
         sys.exit(f"{name}: main gives {result}, natively {native_status}")
-    races = ["valgrind", "--tool=helgrind", "-q", native]
-    helgrind_seconds, _, _ = best(races, printed)
+    sizes = sum(os.path.getsize(path) for path in paths[2:])
     print(
         f"{name:8} {seconds:6.3f} s  {marks / seconds / 1e6:6.2f} M marks/s  {events / seconds / 1e6:5.2f} M events/s"
         f"  native {native_seconds:6.3f} s, ratio {seconds / native_seconds:6.1f}"
         f"  helgrind {helgrind_seconds:6.3f} s, ratio {seconds / helgrind_seconds:5.2f}"
-        f"  memory {(memory - sizes) / 2**20:6.1f} MiB beside {sizes / 2**20:5.1f} MiB of log and report",
+        f"  {told_memory(memory, sizes)}",
         flush=True,
     )
 
@@ -157,8 +180,7 @@ def measure_large(program, name, source, system, wanted, scratch):
         sys.exit(f"{name}: record ended with {status}")
     sizes = sum(os.path.getsize(path) for path in paths[2:])
     print(
-        f"{name:8} {seconds:6.3f} s  memory {(memory - sizes) / 2**20:6.1f} MiB"
-        f" beside {sizes / 2**20:5.1f} MiB of log and report",
+        f"{name:8} {seconds:6.3f} s  {told_memory(memory, sizes)}",
         flush=True,
     )
 

@@ -1,5 +1,5 @@
 pub mod RowSteps
 pub mod LineSteps
 pub mod DropSteps
-pub mod EndSteps
 pub mod LiveRows
+pub mod PartSteps

@@ -1,9 +1,11 @@
 -- Rows without a live byte add nothing.
-use Rattle.std.proofs.Common.{◌≡◌, ◌≤◌, ◌+◌, ◌-◌, ◌*◌, ◌/◌, ◌%◌, ℕ, zero, suc, false, cond, List, [], ◌++◌, codes, refl, sym, ap, ◌∙◌, append_assoc, arith}
+use Rattle.std.proofs.Common.{◌≡◌, ◌≤◌, ◌+◌, ◌-◌, ◌*◌, ◌/◌, ◌%◌, ℕ, zero, suc, false, cond, List, [], ◌++◌, codes, Some, refl, sym, ap, ◌∙◌, append_assoc, arith, inl, inr}
+use Rattle.std.proofs.lemmas.Bool.{cases_lt}
 use Rattle.space_memory.specs.declared.cell.Cell.{Cell}
 use Rattle.space_memory.specs.Spaces.{SpaceState}
 use Rattle.call_inspector.specs.MemoryText.{row_of, row_text, is_live_row, rows_text, rows_end, rows_from}
 use Rattle.call_inspector.specs.Rows.{NoneLive, IsRow}
+use Rattle.call_inspector.specs.Parts.{PutsRow, row_at}
 
 module _ (memory : SpaceState) where
   -- what one row adds
@@ -64,3 +66,20 @@ module _ (memory : SpaceState) where
       ∙ ap (λ (cs : List Cell). t1 ++ (row_text row cs ++ (break ++ rest))) same
       ∙ ap (λ (w : List ℕ). t1 ++ w) (sym (append_assoc (row_text row (row_of memory row)) break rest) ∙ sym (next_line from row aligned is))
       ∙ before
+
+  -- the same from a row on, counted from the first
+  pub none_from : (row at : ℕ) → at ≡ row_at row → NoneLive memory at rows_end → rows_from memory (row_at row) ≡ []
+  none_from row at is none = elim (cases_lt rows_end at) [
+    | inl beyond ↦ ap (rows_text memory (row_at row)) {x = (rows_end - row_at row) / 16} {y = 0} (omega (arith, is, beyond)) ∙ no_rows (row_at row)
+    | inr le ↦ ap (rows_from memory) (sym is) ∙ no_more_lines at (omega (arith, is)) (omega (arith, le)) none
+  ]
+
+  pub line_from : (row at addr next : ℕ) (t0 t1 t2 : List ℕ) (cells : List Cell) → at ≡ row_at row → IsRow memory at addr → next ≡ (addr - row_at 0) / 16 + 1 → cells ≡ row_of memory addr → t1 ≡ t0 ++ row_text addr cells → t2 ≡ t1 ++ codes "\n"
+      → PutsRow memory t0 row t2 (Some next)
+  line_from row at addr next t0 t1 t2 cells at_is is next_is same line end = (
+    ap (λ (n : ℕ). t2 ++ rows_from memory n) {x = row_at next} {y = addr + 16} (let a = is.aligned in let b = is.not_before in omega (arith, a, b, at_is, next_is))
+        ∙ next_rows at addr (t0 ++ rows_from memory at) t0 t1 t2 cells (omega (arith, at_is)) is same refl line end
+        ∙ ap (λ (n : ℕ). t0 ++ rows_from memory n) at_is,
+    (let b = is.not_before in omega (arith, b, at_is, next_is)),
+    (let a = is.aligned in let w = is.within in let b = is.not_before in omega (arith, a, b, w, at_is, next_is)),
+  )

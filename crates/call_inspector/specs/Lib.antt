@@ -5,3 +5,4 @@ pub mod Ending
 pub mod MemoryText
 pub mod Rows
 pub mod ReportText
+pub mod Parts

@@ -1,7 +1,7 @@
 -- The text of a report.
 use Rattle.std.specs.Prelude.{List, ℕ, ◌++◌, codes}
 use Rattle.c_code.specs.Machine.{Flat}
-use Rattle.call_inspector.specs.declared.run.Run.{Run}
+use Rattle.call_inspector_run.specs.declared.run.Run.{Run}
 use Rattle.call_inspector.specs.ThreadText.{threads_from}
 use Rattle.call_inspector.specs.MemoryText.{memory_text}
 use Rattle.call_inspector.specs.Ending.{ending_of, ending_text}

@@ -7,8 +7,8 @@ ghost use Rattle.call_inspector.specs.Ending.{fault_of_reason, fault_of, fault_i
 
 use crate::crossings::Crossings;
 use crate::events::fault_word;
-use crate::run::Records;
 use c_builtins::Builtin;
+use call_inspector_run::Records;
 use r2_base::put_dec;
 use run_events::{Event, Reason, Record};
 use std::alloc::AllocError;

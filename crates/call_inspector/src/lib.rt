@@ -4,12 +4,13 @@
 mod crossings;
 mod ends;
 mod events;
+mod lines;
 mod memory;
+mod parts;
 mod reporting;
-mod run;
-mod threads;
 mod values;
 
+pub use call_inspector_run::{Records, Run, Threads};
 pub use ends::Shown;
+pub use parts::ReportParts;
 pub use reporting::report;
-pub use run::{Records, Run, Threads};

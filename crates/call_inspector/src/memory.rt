@@ -1,8 +1,9 @@
 //! The rows of memory.
 
-ghost use Rattle.std.specs.Prelude.{◌≡◌, ◌++◌, ◌<◌, ◌%◌, ◌^◌, OnOk, flat_map};
+ghost use Rattle.std.specs.Prelude.{◌≡◌, ◌++◌, ◌<◌, ◌%◌, ◌^◌, IfOk, OnOk, flat_map};
 ghost use Rattle.memory_map.specs.declared.areas.TheConstants.{REPLAY_MEMORY};
-ghost use Rattle.call_inspector.specs.MemoryText.{cell_text, row_text, memory_text};
+ghost use Rattle.call_inspector.specs.MemoryText.{cell_text, row_text};
+ghost use Rattle.call_inspector.specs.Parts.{PutsRow};
 ghost use Rattle.call_inspector.specs.Rows.{IsNextRow};
 
 use crate::values::{hex_pair, put_bytes};
@@ -56,15 +57,21 @@ fn next_row(memory: &Spaces, from: u64) -> Option<u64>
     }
 }
 
-/// Adds a line for each row above the cut that has a live byte.
-pub fn put_memory(text: &mut Vec<u8>, memory: &Spaces) -> Result<(), AllocError>
-    ensures { OnOk result (text.new.items ≡ text.old.items ++ memory_text memory.now) }
+/// Adds the line of the first row above the cut, from this one on, that has a live byte, and tells which row comes after it; `None`
+/// where none has. Rows are counted from the first above the cut.
+pub fn put_row_from(
+    text: &mut Vec<u8>,
+    memory: &Spaces,
+    row: u32,
+) -> Result<Option<u32>, AllocError>
+    ensures { IfOk result (PutsRow memory.now text.old.items row text.new.items) }
 {
-    let mut from = REPLAY_MEMORY.addr;
-    while let Some(addr) = next_row(memory, from) {
-        put_row(text, addr, &memory.cells(addr))?;
-        text.push(b'\n')?;
-        from = addr + 16;
-    }
-    Ok(())
+    let from = REPLAY_MEMORY.addr + 16 * u64::from(row);
+    let Some(addr) = next_row(memory, from) else {
+        return Ok(None);
+    };
+    put_row(text, addr, &memory.cells(addr))?;
+    text.push(b'\n')?;
+    let next = (addr - REPLAY_MEMORY.addr) / 16 + 1;
+    Ok(Some(next as u32))
 }

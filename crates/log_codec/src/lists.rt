@@ -1,4 +1,4 @@
-//! The lists of a record. Each is made for the number that counts it.
+//! Reads the lists of a record, each after the byte that counts its items: arguments, keys, and what came back.
 
 ghost use Rattle.std.specs.Prelude.{◌≡◌};
 ghost use Rattle.std.specs.Int.{w64};

@@ -1,5 +1,5 @@
 -- What the clocks keep, one event further.
-use Rattle.std.proofs.Common.{◌≡◌, ℕ, suc, zero, ◌++◌, take, ◌+◌, ◌<◌, ◌≤◌, max, Bool, true, false, cond, eqb, List, [], ◌∷◌, length, map, ⊎_elim, refl, sym, ap, ◌∙◌, subst, arith, eq-eqb, add-one}
+use Rattle.std.proofs.Common.{◌≡◌, ℕ, suc, ◌+◌, ◌<◌, ◌≤◌, max, Bool, true, false, cond, eqb, List, [], ◌∷◌, length, map, ⊎_elim, refl, sym, ap, ◌∙◌, subst, arith, eq-eqb, add-one}
 use Rattle.std.specs.Prelude.{slice_index}
 use Rattle.std.proofs.Math.ListN.{set}
 use Rattle.std.proofs.lemmas.Bool.{cases_eq}
@@ -64,17 +64,6 @@ key_after past c t keys k clock now new h e is up = up ∙ go (is_named keys (na
     go true false f = absurd cc
     go false true f = absurd cc
     go false false f = was
-
--- a whole list written over another one
-pub take_prefix : (xs ys : List ℕ) (n : ℕ) → length xs ≡ n → take n (xs ++ ys) ≡ xs
-take_prefix [] ys zero e = take_none ys
-  where
-    take_none : (ys : List ℕ) → take 0 ys ≡ []
-    take_none [] = refl
-    take_none (y ∷ ys) = refl
-take_prefix [] ys (suc n) e = absurd (omega (arith, e))
-take_prefix (x ∷ xs) ys zero e = absurd (omega (arith, e))
-take_prefix (x ∷ xs) ys (suc n) e = ap (λ l. x ∷ l) (take_prefix xs ys n (omega (arith, e)))
 
 pub counts_after : (past : List Occurrence) (c : ClockState) (t : ℕ) (keys : List Key) (clock : ℕ) (mid : KeyName → Counted) (new : Keys) → Counts past c → t < length c.threads → clock ≡ latest (last_clock past) (occurrence t keys)
     → ((q : KeyName) → mid q ≡ counted_at c.keys q) → ((q : KeyName) → counted_in new q ≡ after (is_named keys q) (clock + 1) (mid q)) → Counts (occurrence t keys ∷ past) (record { events = c.events + 1; threads = set c.threads t (clock + 1); keys = new.rows.entries })

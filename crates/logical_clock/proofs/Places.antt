@@ -1,6 +1,5 @@
 -- Names of keys, and numbers of keys in a list.
 use Rattle.std.proofs.Common.{◌≡◌, ℕ, suc, zero, ◌+◌, ◌<◌, max, Bool, true, false, ◌&&◌, ◌||◌, eqb, List, [], ◌∷◌, ◌++◌, length, take, drop, map, get_or, refl, sym, ap, ◌∙◌, subst, arith, eq-eqb, eqb-true, add-one}
-use Rattle.std.proofs.Math.ListN.{set}
 use Rattle.std.proofs.lemmas.Bool.{and_parts}
 use Rattle.std.proofs.lemmas.Bool.Decides.{nat_tests}
 use Rattle.std.specs.BTreeMap.{is_at}
@@ -108,16 +107,3 @@ not_before (k ∷ ks) (suc i) d h lt =
     let g = get_or ks i d in
     let e : is_at (key_cmp (name k)) (name g) ≡ false = at_name (name k) (name g) ∙ (same_swaps k g ∙ apart_at ks k d i h.0 (omega (arith, lt))) in
     ap (λ b. b || is_named (take i ks) (name g)) e ∙ not_before ks i d h.1 (omega (arith, lt))
-
--- numbers of keys in a list, one key more
-pub set_more : (f : Key → ℕ) (ks : List Key) (xs : List ℕ) (i v : ℕ) (d : Key) → i < length ks → length xs ≡ length ks → v ≡ f (get_or ks i d) → take i xs ≡ map f (take i ks) → take (i + 1) (set xs i v) ≡ map f (take (i + 1) ks)
-set_more f ks xs i v d lt le is h = subst (λ j. take j (set xs i v) ≡ map f (take j ks)) (sym (add-one i)) (go ks xs i lt le is h)
-  where
-    go : (ks : List Key) (xs : List ℕ) (i : ℕ) → i < length ks → length xs ≡ length ks → v ≡ f (get_or ks i d) → take i xs ≡ map f (take i ks) → take (suc i) (set xs i v) ≡ map f (take (suc i) ks)
-    go [] xs i lt le is h = absurd (omega (arith, lt))
-    go (k ∷ ks) [] i lt le is h = absurd (omega (arith, le))
-    go (k ∷ ks) (x ∷ xs) zero lt le is h = ap (λ y. y ∷ []) is
-    go (k ∷ ks) (x ∷ xs) (suc i) lt le is h =
-        let e : x ≡ f k = cc in
-        let t : take i xs ≡ map f (take i ks) = cc in
-        (λ j. e j ∷ go ks xs i (omega (arith, lt)) (omega (arith, le)) is t j)

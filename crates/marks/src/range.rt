@@ -4,7 +4,7 @@ ghost use Rattle.std.specs.Prelude.{◌≡◌};
 ghost use Rattle.marks.specs.Ranges.{IsInRange, IsFirstIn, covers};
 
 /// The bytes from `addr` on, `len` of them, as far as addresses go: the last address is 2^64 - 1.
-#[derive(Clone, Copy, Debug, PartialEq, Eq)]
+#[derive(Clone, Copy, Debug, Default, PartialEq, Eq)]
 pub struct Range {
     pub addr: u64,
     pub len: u64,

@@ -1,5 +1,5 @@
 -- What files and sinks are after some writes, and after more of them.
-use Rattle.std.proofs.Common.{◌≡◌, ◌≢◌, ◌≤◌, ◌++◌, ◌∷◌, [], ℕ, List, Bool, true, false, Option, Some, None, Ok, Err, length, take, IsTrue, sym, ◌∙◌, ap, refl, arith, subst, cond, append_assoc, append-nil, bytes_eq}
+use Rattle.std.proofs.Common.{◌≡◌, ◌≢◌, ◌≤◌, ◌++◌, ◌∷◌, [], ℕ, List, Bool, true, false, Option, Some, None, Ok, Err, length, take, sym, ◌∙◌, ap, refl, arith, subst, cond, append_assoc, append-nil, bytes_eq}
 use Rattle.std.specs.List.{flat_map}
 use Rattle.std.proofs.lemmas.List.Concat.{flat_map-append}
 use Rattle.std.proofs.lemmas.Slice.Eq.{bytes_eq-Decides}

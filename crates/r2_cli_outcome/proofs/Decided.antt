@@ -1,5 +1,5 @@
 -- Stages decide one answer, and what outcomes they end with.
-use Rattle.std.proofs.Common.{◌≡◌, ◌<◌, ◌≤◌, ℕ, List, Option, Some, None, length, sym, ◌∙◌, ap, arith, subst}
+use Rattle.std.proofs.Common.{◌≡◌, ℕ, List, length, sym, ◌∙◌, ap, arith, subst}
 use Rattle.r2_base.specs.Seen.{Contents}
 use Rattle.r2_cli_outcome.specs.Outcome.{Outcome}
 use Rattle.r2_cli_outcome.specs.Reading.{Of}

@@ -1,5 +1,5 @@
 -- What the last part of a call leaves.
-use Rattle.std.proofs.Common.{◌≡◌, ◌≤◌, ◌<◌, ◌+◌, ◌++◌, ◌∷◌, [], ℕ, List, Option, Some, None, Result, Ok, Err, length, take, map, codes, sym, ◌∙◌, ap, refl, arith, subst, append-nil}
+use Rattle.std.proofs.Common.{◌≡◌, ◌≤◌, ◌∷◌, [], ℕ, List, Result, Ok, Err, length, take, map, codes, sym, ◌∙◌, refl, arith, subst, append-nil}
 use Rattle.r2_base.specs.Causes.{Rose, IsWriteCause}
 use Rattle.r2_base.specs.Seen.{Store, Stream}
 use Rattle.r2_base.specs.Sinks.{TellsGrowth}

@@ -1,5 +1,5 @@
 -- What reading an input file comes to.
-use Rattle.std.proofs.Common.{◌≡◌, ◌≤◌, ◌<◌, ◌++◌, ◌∷◌, [], zero, suc, ℕ, List, Bool, true, false, Option, Some, None, length, codes, IsTrue, sym, ◌∙◌, ap, refl, arith}
+use Rattle.std.proofs.Common.{◌≡◌, ◌≤◌, ◌<◌, ◌++◌, ◌∷◌, [], zero, suc, ℕ, List, Bool, true, false, Some, None, length, codes, IsTrue, sym, ◌∙◌, ap, refl, arith}
 use Rattle.r2_base.specs.Seen.{Store}
 use Rattle.r2_cli_outcome.specs.declared.plan.End.{End}
 use Rattle.r2_cli_outcome.specs.declared.status.Status.TheVariants.{ReadFault, Limit}

@@ -1,5 +1,5 @@
 -- What a call leaves, from what its first part came to and what its last part leaves.
-use Rattle.std.proofs.Common.{◌≡◌, ◌≤◌, ◌++◌, ◌∷◌, [], ℕ, List, Result, Ok, Err, take, codes, sym, refl, arith, subst}
+use Rattle.std.proofs.Common.{◌≡◌, ◌≤◌, ◌++◌, ◌∷◌, [], ℕ, List, Result, Ok, Err, take, codes, sym, arith, subst}
 use Rattle.r2_base.specs.Causes.{Rose}
 use Rattle.r2_base.specs.Seen.{Store, Stream, OnlyReads}
 use Rattle.r2_cli_outcome.specs.declared.plan.Plan.{Plan}

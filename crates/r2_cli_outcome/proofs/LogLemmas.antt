@@ -1,5 +1,5 @@
 -- What reading a log comes to.
-use Rattle.std.proofs.Common.{◌≡◌, ◌≢◌, ◌↔◌, IsTrue, IsErrOf, IfErr, ◌++◌, ℕ, List, Result, Ok, Err, refl, sym, subst, codes}
+use Rattle.std.proofs.Common.{◌≡◌, ◌≢◌, ◌↔◌, IsTrue, IsErrOf, ◌++◌, ℕ, List, Err, refl, sym, subst, codes}
 use Rattle.std.specs.Prelude.{decimal}
 use Rattle.log_codec.specs.LogText.{BeginsLog, IsLog}
 use Rattle.log_codec.specs.Kept.{KeptLog, StandInFull, IsFirstWrong}
@@ -12,9 +12,9 @@ use Rattle.r2_cli_outcome.specs.declared.plan.End.{End}
 use Rattle.r2_cli_outcome.specs.declared.plan.End.TheVariants.{NoMemory}
 use Rattle.r2_cli_outcome.specs.declared.status.Status.TheVariants.{BadLog}
 use Rattle.r2_cli_outcome.specs.Outcome.{refusal}
-use Rattle.r2_cli_outcome.specs.Plans.{Answers, gives, ends, EndsAs, IsEnd}
+use Rattle.r2_cli_outcome.specs.Plans.{EndsAs, IsEnd}
 use Rattle.r2_cli_outcome.specs.Stages.{passed}
-use Rattle.r2_cli_outcome.specs.Log.{IsKept, IsLogPart, LogOf, wrong, right, bad_byte, bad_event, order_words}
+use Rattle.r2_cli_outcome.specs.Log.{IsKept, LogOf, wrong, right, bad_byte, bad_event, order_words}
 use Rattle.r2_cli_outcome.proofs.StageLemmas.{is_refused}
 
 -- what is kept, of the same bytes

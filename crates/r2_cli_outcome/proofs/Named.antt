@@ -1,5 +1,5 @@
 -- The names that stages read decide what they come to, and an answer over any files is one for some contents.
-use Rattle.std.proofs.Common.{◌≡◌, ◌∷◌, [], ◌||◌, ◌++◌, ℕ, List, Bool, true, false, Option, Some, None, IsTrue, cond, bytes_eq, sym, ◌∙◌, ap, refl, subst}
+use Rattle.std.proofs.Common.{◌≡◌, ◌∷◌, [], ◌||◌, ◌++◌, ℕ, List, Bool, true, false, Option, Some, None, cond, bytes_eq, sym, ◌∙◌, ap, refl, subst}
 use Rattle.std.proofs.lemmas.Slice.Eq.{bytes_eq-Decides}
 use Rattle.r2_base.specs.Seen.{Contents, Store}
 use Rattle.r2_cli_outcome.specs.Outcome.{Outcome}

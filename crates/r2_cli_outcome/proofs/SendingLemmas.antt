@@ -1,8 +1,8 @@
 -- Text that is added to a target, piece by piece.
-use Rattle.std.proofs.Common.{◌≡◌, ◌≢◌, ◌≤◌, ◌<◌, ◌+◌, ◌++◌, ◌∷◌, [], zero, suc, add-one, ℕ, List, Bool, true, false, Option, Some, None, Result, Ok, Err, IsTrue, IfErr, OnOk, OnErr, length, take, drop, get_or, sym, ◌∙◌, ap, arith, refl, inl, inr, subst, cond, bytes_eq, append_assoc, append-nil, length-append}
+use Rattle.std.proofs.Common.{◌≡◌, ◌≢◌, ◌≤◌, ◌<◌, ◌+◌, ◌++◌, ◌∷◌, [], zero, suc, add-one, ℕ, List, Bool, true, false, Option, Some, None, Result, Ok, Err, IsTrue, IfErr, OnOk, OnErr, length, take, drop, get_or, sym, ◌∙◌, ap, arith, refl, subst, cond, bytes_eq, append_assoc, append-nil, length-append}
 use Rattle.std.specs.Result.{IsErrAnd}
 use Rattle.std.specs.List.{flat_map}
-use Rattle.std.proofs.Math.Seq.{take-append-add, take-length}
+use Rattle.std.proofs.Math.Seq.{take-append-add}
 use Rattle.std.proofs.Math.ListN.{drop_of_length-le}
 use Rattle.std.proofs.lemmas.List.{take-append-le, take-append-drop}
 use Rattle.std.proofs.lemmas.Grind.{flat_map-append}
@@ -11,7 +11,7 @@ use Rattle.run_events.specs.declared.event.EventName.{EventName}
 use Rattle.run_events.specs.declared.event.Record.{Record}
 use Rattle.log_closure.specs.Events.{LogEvent}
 use Rattle.event_texts.specs.EventTexts.{event_line, lines_text, end_line, order_text}
-use Rattle.r2_base.specs.Causes.{Rose, IsWriteCause}
+use Rattle.r2_base.specs.Causes.{IsWriteCause}
 use Rattle.r2_base.specs.Names.{GrowsFile, content}
 use Rattle.r2_base.specs.Seen.{Store, Stream, OnlyWrites}
 use Rattle.r2_base.specs.Sinks.{TellsGrowth}
@@ -21,7 +21,7 @@ use Rattle.r2_cli_outcome.specs.World.{World, Later, world}
 use Rattle.r2_cli_outcome.specs.Outcome.{Target, Write, file, out, err}
 use Rattle.r2_cli_outcome.specs.After.{After, Adds}
 use Rattle.r2_cli_outcome.specs.Left.{IsPart, untouched, prefix, faults_at}
-use Rattle.r2_cli_outcome.specs.Sending.{one, AddsAt, Puts, Begins, IsSending, Sends, Stops, failed, memory, Does}
+use Rattle.r2_cli_outcome.specs.Sending.{one, AddsAt, Puts, Begins, IsPartly, IsSending, Sends, Stops, failed, memory, Does}
 use Rattle.r2_cli_outcome.proofs.StageLemmas.{rose_from}
 use Rattle.r2_cli_outcome.proofs.AfterLemmas.{adds_none, adds_then, adds_all, adds_prefix, differ, holds_one}
 use Rattle.r2_cli_outcome.proofs.WriteLemmas.{faults_later, that_err}
@@ -212,6 +212,39 @@ last_put t a b c (Err fault) waiting whole later s ((n, le, added), cause) = (
   part_of t s.sent waiting [] whole n a b c le (s.parts ∙ ap (λ (w : List ℕ). s.sent ++ w) (sym (append-nil waiting))) s.added added,
   cause_from (faults_at t a) (faults_at t b) (faults_at t c) fault (faults_later t a b later) cause,
 )
+
+-- ---- a text of which more is made as it is sent
+
+pub more_made : (t : Target) (a b : World) (w1 l1 w2 l2 whole : List ℕ) → IsPartly t a b w1 l1 whole → w2 ++ l2 ≡ w1 ++ l1 → IsPartly t a b w2 l2 whole
+more_made t a b w1 l1 w2 l2 whole s is = record { sent = s.sent; added = s.added; parts = s.parts ∙ ap (λ (w : List ℕ). s.sent ++ w) (sym is) }
+
+pub more_sent : (t : Target) (a b c : World) (w1 w2 left whole : List ℕ) → IsPartly t a b w1 left whole → Sends t w1 w2 b c (Ok tt) → IsPartly t a c w2 left whole
+more_sent t a b c w1 w2 left whole s (more, is, added) = record {
+  sent = s.sent ++ more;
+  added = adds_both t s.sent more a b c s.added added;
+  parts = s.parts ∙ ap (λ (w : List ℕ). s.sent ++ w) (ap (λ (w : List ℕ). w ++ left) is ∙ append_assoc more w2 left) ∙ sym (append_assoc s.sent more (w2 ++ left));
+}
+
+-- a stop before the next part, when out of memory
+pub stops_partly : (t : Target) (a b : World) (waiting left whole : List ℕ) (result : Result (Unit {0}) Fault) → IsErrAnd result (λ x. x ≡ Memory) → IsPartly t a b waiting left whole → Puts t whole a b result
+stops_partly t a b waiting left whole result is s =
+    subst (λ (r : Result (Unit {0}) Fault). Puts t whole a b r) (sym (that_err result Memory is))
+    (part_of t s.sent waiting left whole 0 a b b (omega arith) s.parts s.added (adds_nothing t b), tt)
+
+-- a piece that is refused
+pub refused_partly : (t : Target) (a b c : World) (fault : Fault) (waiting left whole : List ℕ) (result : Result (Unit {0}) Fault) → IsErrAnd result (λ x. x ≡ fault) → Later a b → IsPartly t a b waiting left whole → Puts t waiting b c (Err fault)
+    → Puts t whole a c result
+refused_partly t a b c fault waiting left whole result is later s ((n, le, added), cause) =
+    subst (λ (r : Result (Unit {0}) Fault). Puts t whole a c r) (sym (that_err result fault is)) (
+      part_of t s.sent waiting left whole n a b c le s.parts s.added added,
+      cause_from (faults_at t a) (faults_at t b) (faults_at t c) fault (faults_later t a b later) cause,
+    )
+
+-- nothing more is made, and the rest is sent
+pub rest_sent : (t : Target) (a b c : World) (waiting left whole piece : List ℕ) (result : Result (Unit {0}) Fault) → left ≡ [] → Later a b → IsPartly t a b waiting left whole → piece ≡ waiting → Puts t piece b c result → Puts t whole a c result
+rest_sent t a b c waiting left whole piece result none later s same put =
+    last_put t a b c result piece whole later
+    (record { sent = s.sent; added = s.added; parts = s.parts ∙ ap (λ (w : List ℕ). s.sent ++ w) (ap (λ (l : List ℕ). waiting ++ l) none ∙ append-nil waiting ∙ sym same) }) put
 
 -- ---- the events, one after the other
 

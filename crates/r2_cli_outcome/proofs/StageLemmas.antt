@@ -1,5 +1,5 @@
 -- What the code of stages answers, one stage after the other.
-use Rattle.std.proofs.Common.{◌≡◌, ◌≤◌, ℕ, List, Option, Result, Ok, Err, IsTrue, sym, ◌∙◌, arith, inl, inr, subst}
+use Rattle.std.proofs.Common.{◌≡◌, ◌≤◌, ℕ, List, Option, Result, Ok, Err, sym, ◌∙◌, arith, inl, inr, subst}
 use Rattle.std.specs.Result.{IsErrAnd}
 use Rattle.r2_base.specs.Causes.{Rose}
 use Rattle.r2_base.specs.Seen.{Store, OnlyReads}

@@ -1,7 +1,6 @@
 -- What writes one after the other leave.
 use Rattle.std.proofs.Common.{◌≡◌, ◌≤◌, ◌<◌, ◌+◌, ◌++◌, ◌∷◌, [], zero, suc, ℕ, List, Result, Ok, Err, length, take, drop, map, get_or, sym, ◌∙◌, ap, arith, add-one, subst, append_assoc}
 use Rattle.std.specs.Result.{IsErrAnd}
-use Rattle.r2_base.specs.Causes.{Rose}
 use Rattle.r2_base.specs.declared.fault.Fault.{Fault}
 use Rattle.r2_cli_outcome.specs.World.{World, Later}
 use Rattle.r2_cli_outcome.specs.Outcome.{Target, Write, file, out, err}

@@ -2,7 +2,6 @@
 use Rattle.std.specs.Prelude.{◌≡◌, ◌++◌, [], ◌∷◌}
 use Rattle.r2_base.specs.Causes.{Rose}
 use Rattle.r2_cli_outcome.specs.declared.status.Status.{Status}
-use Rattle.r2_cli_outcome.specs.declared.status.Status.TheVariants.{ReadFault, WriteFault, NoMemory}
 use Rattle.r2_cli_outcome.specs.World.{World}
 use Rattle.r2_cli_outcome.specs.Outcome.{Target, Outcome, err}
 use Rattle.r2_cli_outcome.specs.After.{After}

@@ -2,10 +2,11 @@
 use Rattle.std.specs.Prelude.{◌≡◌, ℕ, List, map, string_bytes, Result, Ok, Err}
 use Rattle.r2_base.specs.Causes.{Rose}
 use Rattle.event_texts.specs.EventTexts.{order_text}
+use Rattle.call_inspector.specs.ReportText.{report_text}
 use Rattle.r2_cli_outcome.specs.declared.plan.Target.{Target}
 use Rattle.r2_cli_outcome.specs.declared.plan.Target.TheVariants as target
 use Rattle.r2_cli_outcome.specs.declared.plan.Text.{Text}
-use Rattle.r2_cli_outcome.specs.declared.plan.Text.TheVariants.{Bytes, Order}
+use Rattle.r2_cli_outcome.specs.declared.plan.Text.TheVariants.{Bytes, Order, Report}
 use Rattle.r2_cli_outcome.specs.declared.plan.Write.{Write}
 use Rattle.r2_cli_outcome.specs.declared.plan.Plan.{Plan}
 use Rattle.r2_cli_outcome.specs.declared.plan.End.{End}
@@ -23,6 +24,7 @@ target_of target.Errors = outcome.err
 abbrev pub bytes_of : Text → List ℕ
 bytes_of (Bytes bytes) = bytes.items
 bytes_of (Order part) = order_text part.events
+bytes_of (Report ran) = report_text ran.run ran.code
 
 abbrev pub write_of : Write → outcome.Write
 write_of w = record { to = target_of w.to; text = bytes_of w.text }

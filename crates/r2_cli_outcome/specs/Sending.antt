@@ -34,6 +34,12 @@ pub record IsSending (t : Target) (old now : World) (waiting whole : List ℕ) :
   pub added : AddsAt t sent old now
   pub parts : whole ≡ sent ++ waiting
 
+-- the same where more is left, which isn't made yet
+pub record IsPartly (t : Target) (old now : World) (waiting left whole : List ℕ) : Type 0 where
+  pub sent : List ℕ
+  pub added : AddsAt t sent old now
+  pub parts : whole ≡ sent ++ (waiting ++ left)
+
 -- text that waited was added where it was long enough, and the rest waits; or after a refusal a prefix of
 -- it was added
 abbrev pub Sends : Target → List ℕ → List ℕ → World → World → Result (Unit {0}) Fault → Type 0

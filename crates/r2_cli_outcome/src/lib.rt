@@ -13,5 +13,5 @@ mod writing;
 pub use finishing::finish;
 pub use inputs::{exceeded, input};
 pub use logs::log;
-pub use plan::{End, Plan, Target, Text, Write, line, print, print_and_end, refused};
+pub use plan::{End, Plan, Ran, Target, Text, Write, line, print, print_and_end, refused};
 pub use status::Status;

@@ -5,6 +5,8 @@ ghost use Rattle.r2_cli_outcome.specs.Outcome.{refusal, line_of, printed};
 ghost use Rattle.r2_cli_outcome.specs.Plans.{IsEnd, bytes_of, outcome_of};
 
 use crate::status::Status;
+use c_code_fused::FusedCode;
+use call_inspector::Run;
 use log_closure::Closed;
 use std::alloc::{AllocError, AllocFailed, Global};
 
@@ -17,12 +19,21 @@ pub enum Target {
     Errors,
 }
 
+/// A run, and the code that ran.
+#[derive(Drop)]
+pub struct Ran {
+    pub run: Run,
+    pub code: FusedCode,
+}
+
 /// A text to be written.
 #[derive(Drop)]
 pub enum Text {
     Bytes(Vec<u8>),
     /// What `order` prints of these events, which is made piece by piece as it is written.
     Order(Closed),
+    /// The report of this run, which is made piece by piece as it is written.
+    Report(Ran),
 }
 
 /// A text, and where it goes.

@@ -3,11 +3,13 @@
 ghost use Rattle.std.specs.Prelude.{◌≡◌, ◌≤◌, ◌++◌, length, take, OnOk};
 ghost use Rattle.std.specs.List.{flat_map};
 ghost use Rattle.event_texts.specs.EventTexts.{event_line, lines_text, order_text};
+ghost use Rattle.call_inspector.specs.ReportText.{report_text};
 ghost use Rattle.r2_cli_outcome.specs.World.{world, Later};
 ghost use Rattle.r2_cli_outcome.specs.Plans.{target_of};
 ghost use Rattle.r2_cli_outcome.specs.Sending.{Puts, Sends};
 
-use crate::plan::Target;
+use crate::plan::{Ran, Target};
+use call_inspector::ReportParts;
 use event_texts::{Line, put_end, put_lines};
 use log_closure::Closed;
 use r2_base::{Fault, Files, Sink};
@@ -115,5 +117,30 @@ pub fn put_order<F: Files, S: Sink, E: Sink>(
         from = next;
     }
     put_end(&mut text, count)?;
+    put_piece(to, &text, files, out, err)
+}
+
+/// Adds the report of the run. No more of it is in memory at once than some more than `PIECE` bytes.
+pub fn put_report<F: Files, S: Sink, E: Sink>(
+    alloc: Global,
+    ran: &Ran,
+    to: &Target,
+    files: &mut F,
+    out: &mut S,
+    err: &mut E,
+) -> Result<(), Fault>
+    ensures later { Later
+        (world (F.seen files.old) (S.seen out.old) (E.seen err.old))
+        (world (F.seen files.new) (S.seen out.new) (E.seen err.new)) }
+    ensures puts { Puts (target_of to.now) (report_text ran.now.run ran.now.code)
+        (world (F.seen files.old) (S.seen out.old) (E.seen err.old))
+        (world (F.seen files.new) (S.seen out.new) (E.seen err.new))
+        result }
+{
+    let mut text = Vec::new(alloc);
+    let mut parts = ReportParts::new(alloc, &ran.run, ran.code.code());
+    while parts.put_next(&mut text)? {
+        put_long(to, &mut text, files, out, err)?;
+    }
     put_piece(to, &text, files, out, err)
 }

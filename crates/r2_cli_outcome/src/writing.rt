@@ -7,7 +7,7 @@ ghost use Rattle.r2_cli_outcome.specs.Plans.{write_of, target_of, bytes_of};
 ghost use Rattle.r2_cli_outcome.specs.Sending.{Begins, Does, Puts};
 
 use crate::plan::{Target, Text, Write};
-use crate::sending::{put_order, put_piece};
+use crate::sending::{put_order, put_piece, put_report};
 use r2_base::{Fault, Files, Sink};
 use std::alloc::Global;
 
@@ -44,6 +44,7 @@ fn put_text<F: Files, S: Sink, E: Sink>(
     match text {
         Text::Bytes(bytes) => put_piece(to, bytes, files, out, err),
         Text::Order(part) => put_order(alloc, part, to, files, out, err),
+        Text::Report(ran) => put_report(alloc, ran, to, files, out, err),
     }
 }
 

@@ -1,7 +1,7 @@
 -- What a recording leaves.
 use Rattle.std.specs.Prelude.{◌≡◌, ℕ, List, [], ◌∷◌}
 use Rattle.c_code.specs.Machine.{Flat}
-use Rattle.call_inspector.specs.declared.run.Run.{Run}
+use Rattle.call_inspector_run.specs.declared.run.Run.{Run}
 use Rattle.call_inspector.specs.ReportText.{report_text}
 use Rattle.whole_runs.specs.World.{World}
 use Rattle.whole_runs.specs.Recorded.{IsRecording, Told}

@@ -3,117 +3,96 @@
 ghost use Rattle.std.specs.Prelude.{◌≡◌, ◌∷◌, [], IfOk, map};
 ghost use Rattle.r2_cli_outcome.specs.Outcome.{file as to_file};
 ghost use Rattle.r2_cli_outcome.specs.Plans.{outcome_of, write_of};
+ghost use Rattle.call_inspector.specs.ReportText.{report_text};
 ghost use Rattle.recorder.specs.Recordings.{told};
 ghost use Rattle.recorded_outcome.specs.Recorded.{recorded, writes_with};
 
-use c_code::Code;
-use call_inspector::{Run, report};
-use r2_cli_outcome::{Plan, Target, Text, Write};
+use c_code_fused::FusedCode;
+use call_inspector::Run;
+use r2_cli_outcome::{Plan, Ran, Target, Text, Write};
 use recorder::Recorded;
 use recording_texts::{ending_line, status_of};
+use run_events::Bytes;
 use std::alloc::{AllocError, Global};
-
-/// The bytes that a recording has, beside its report.
-#[derive(Drop)]
-struct Parts {
-    log: Vec<u8>,
-    output: Vec<u8>,
-    system_output: Vec<u8>,
-}
-
-fn parts_of(recorded: Recorded) -> Parts
-    ensures log { result.log.items ≡ recorded.log }
-    ensures output { result.output.items ≡ recorded.run.output }
-    ensures system_output { result.system_output.items ≡ recorded.system_output }
-{
-    let Recorded {
-        log,
-        run,
-        system_output,
-        ending: _,
-    } = recorded;
-    let Run {
-        threads,
-        memory,
-        output,
-    } = run;
-    drop(threads);
-    drop(memory);
-    Parts {
-        log: log.into_vec(),
-        output: output.into_vec(),
-        system_output: system_output.into_vec(),
-    }
-}
 
 /// A text for each of the two files.
 fn file_writes(
     alloc: Global,
     log: &str,
     rep: &str,
-    bytes: Vec<u8>,
-    report: Vec<u8>,
+    bytes: Bytes,
+    ran: Ran,
 ) -> Result<Vec<Write>, AllocError>
     ensures { IfOk result (λ ws. map write_of ws.items
-        ≡ record { to = to_file log.now; text = bytes.items } ∷
-        record { to = to_file rep.now; text = report.items } ∷ []) }
+        ≡ record { to = to_file log.now; text = bytes } ∷
+        record { to = to_file rep.now; text = report_text ran.run ran.code } ∷ []) }
 {
     let log = Target::File(String::from_str(alloc, log)?);
     let rep = Target::File(String::from_str(alloc, rep)?);
     let mut writes = Vec::new(alloc);
     writes.push(Write {
         to: log,
-        text: Text::Bytes(bytes),
+        text: Text::Bytes(bytes.into_vec()),
     })?;
     writes.push(Write {
         to: rep,
-        text: Text::Bytes(report),
+        text: Text::Report(ran),
     })?;
     Ok(writes)
 }
 
-/// The writes of a recording with this report, in their order.
+/// The writes of a recording, in their order.
 fn writes(
     alloc: Global,
     log: &str,
     rep: &str,
-    report: Vec<u8>,
-    parts: Parts,
+    code: FusedCode,
+    made: Recorded,
 ) -> Result<Vec<Write>, AllocError>
-    ensures { IfOk result (λ ws. map write_of ws.items ≡ writes_with log.now rep.now parts.log.items
-        report.items parts.output.items parts.system_output.items) }
+    ensures { IfOk result (λ ws. map write_of ws.items ≡ writes_with log.now rep.now made.log
+        (report_text made.run code) made.run.output made.system_output) }
 {
-    let Parts {
+    let Recorded {
         log: bytes,
-        output,
+        run,
         system_output,
-    } = parts;
-    let mut writes = file_writes(alloc, log, rep, bytes, report)?;
+        ending: _,
+    } = made;
+    let Run {
+        threads,
+        memory,
+        output,
+    } = run;
+    let run = Run {
+        threads,
+        memory,
+        output: Bytes::new(alloc),
+    };
+    let mut writes = file_writes(alloc, log, rep, bytes, Ran { run, code })?;
     writes.push(Write {
         to: Target::Output,
-        text: Text::Bytes(output),
+        text: Text::Bytes(output.into_vec()),
     })?;
     writes.push(Write {
         to: Target::Errors,
-        text: Text::Bytes(system_output),
+        text: Text::Bytes(system_output.into_vec()),
     })?;
     Ok(writes)
 }
 
-/// The plan that leaves a recording of a run of the code.
+/// The plan that leaves a recording of a run of the code. The report is made as it is written.
 pub fn plan(
     alloc: Global,
     log: &str,
     rep: &str,
-    code: &Code,
+    code: FusedCode,
     made: Recorded,
 ) -> Result<Plan, AllocError>
-    ensures { IfOk result (λ plan. outcome_of plan ≡ recorded log.now rep.now code.now (told made)) }
+    ensures { IfOk result (λ plan. outcome_of plan ≡ recorded log.now rep.now code (told made)) }
 {
-    let report = report(alloc, &made.run, code)?;
-    let line = ending_line(alloc, code, made.ending)?;
+    let line = ending_line(alloc, code.code(), made.ending)?;
     let status = status_of(made.ending);
-    let writes = writes(alloc, log, rep, report, parts_of(made))?;
+    let writes = writes(alloc, log, rep, code, made)?;
     Ok(Plan {
         status,
         writes,

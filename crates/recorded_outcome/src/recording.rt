@@ -78,5 +78,5 @@ pub fn recorded_plan(
         RecordingOf log.now rep.now cut bytes script (passed (outcome_of plan))) }
 {
     let (fused, recorded) = recorded(alloc, source, file)?;
-    plan(alloc, log, rep, fused.code(), recorded)
+    plan(alloc, log, rep, fused, recorded)
 }

@@ -9,7 +9,7 @@ ghost use Rattle.recorder_book.specs.Book.{Adds, Begins, GivesLog, GivesRecords,
 use crate::chunks::{add_record, put_rests};
 use crate::room::Room;
 use crate::sizes::record_size;
-use call_inspector::{Records, Threads};
+use call_inspector_run::{Records, Threads};
 use log_codec::{put_end, put_head};
 use run_events::{Bytes, Record};
 use std::alloc::{AllocError, Global};

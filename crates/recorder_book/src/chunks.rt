@@ -8,7 +8,7 @@ ghost use Rattle.log_codec.specs.LogText.{IsChunk};
 ghost use Rattle.log_codec.specs.Putting.{log_chunk};
 ghost use Rattle.recorder_book.specs.Chunks.{AreKept, IsRecordOf, chunks_text, filled, last_of, rest, rests};
 
-use call_inspector::Records;
+use call_inspector_run::Records;
 use log_codec::put_chunk;
 use run_events::Record;
 use std::alloc::AllocError;

@@ -10,7 +10,7 @@ ghost use Rattle.recorder_end.specs.Recorded.{told};
 
 use crate::recorded::Recorded;
 use crate::stops::stop_threads;
-use call_inspector::Run;
+use call_inspector_run::Run;
 use recorder_book::Finished;
 use recorder_memory::Memory;
 use recorder_state::{Inputs, RunState};

@@ -1,6 +1,6 @@
 //! What is told of a recorded run.
 
-use call_inspector::Run;
+use call_inspector_run::Run;
 use run_events::Bytes;
 use whole_runs::Ending;
 

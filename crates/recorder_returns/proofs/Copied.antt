@@ -88,7 +88,7 @@ module _ (bytes : List AreaState) where
   }
 
 -- all of it
-pub brought : (memory : SpaceState) (said : Returning) (pieces : List (List ℕ)) (b : Brought) → AreCopies memory.bytes said.ranges.items said.done.used pieces → AddsCommit memory (first_of said.done.commits) pieces said.ranges.items b.pieces.items b.ranges.items → IsBrought memory said b
+pub brought : (memory : SpaceState) (said : Returning) (pieces : List (List ℕ)) (b : Brought) → AreCopies memory.bytes said.ranges.items said.done.used pieces → AddsCommit memory (first_of said.done.commits) pieces said.ranges.items b.pieces b.ranges.items → IsBrought memory said b
 brought memory said pieces b h c = record {
   up = h.up;
   commit = c.commit;

@@ -58,7 +58,7 @@ module _ (w : World) (s : RunState) (t f v : ℕ) (x : Answer) (r : IsReturning 
     bytes = k.have;
   }
 
-  pub next_so : v < 2 ^ 64 → (b : Brought) → IsBrought s.memory.above.spaces said b → (cached same : Bool) (told outs : List (List ℕ)) (ranges : List Range) → cached ≡ said.done.is_cached → told ≡ b.pieces.items → outs ≡ b.pieces.items → ranges ≡ b.ranges.items
+  pub next_so : v < 2 ^ 64 → (b : Brought) → IsBrought s.memory.above.spaces said b → (cached same : Bool) (told outs : List (List ℕ)) (ranges : List Range) → cached ≡ said.done.is_cached → told ≡ b.pieces → outs ≡ b.pieces → ranges ≡ b.ranges.items
       → RepeatsLast s cached t f v told same → IsRetNext w s t f v x said ranges (logs.Ret same v outs)
   next_so small b k cached same told outs ranges cached_is told_is outs_is ranges_is repeats = record {
     next = r;

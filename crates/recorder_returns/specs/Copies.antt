@@ -73,7 +73,7 @@ pub record IsBrought (memory : SpaceState) (said : Returning) (b : Brought) : Ty
   pub commit : Commit
   pub regions : piece_ranges up ≡ said.ranges.items
   pub is : IsCommitOf memory.held.regions (first_of said.done.commits) commit
-  pub pieces : b.pieces.items ≡ piece_bytes up ++ logged commit
+  pub pieces : b.pieces ≡ piece_bytes up ++ logged commit
   pub ranges : b.ranges.items ≡ piece_ranges (up ++ released commit)
   pub shows : ShowUsed memory.bytes (up ++ released commit)
       (said.done.used ++ committed_size (committing_of (first_of said.done.commits)))

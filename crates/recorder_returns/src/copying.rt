@@ -8,7 +8,8 @@ ghost use Rattle.recorder_returns.specs.Copies.{AddsCommit, AreCopies, IsBrought
 
 use crate::returning::Returning;
 use marks::{Range, Side};
-use run_events::Bytes;
+use run_events::{Bytes, Pieces};
+use smallvec::SmallVec;
 use space_memory::{HoldError, Spaces};
 use std::alloc::{AllocError, Global};
 use stub_calls::Committing;
@@ -18,9 +19,9 @@ use stub_calls::Committing;
 pub struct Brought {
     /// The used bytes of each region that the call held to be written, and then of the one that is committed; no bytes, where that
     /// is withheld.
-    pub pieces: Vec<Bytes>,
+    pub pieces: Pieces,
     /// The regions that are given back, in the same order.
-    pub ranges: Vec<Range>,
+    pub ranges: SmallVec<Range, 4>,
 }
 
 /// Copies what comes up with the Ret of the thread's innermost call, of which this is said.
@@ -39,7 +40,7 @@ pub fn bring(
 {
     let regions = returning.ranges.as_slice();
     let mut pieces = copy_all(spaces, alloc, thread, regions, returning.done.used())?;
-    let mut ranges = Vec::from_slice(alloc, regions)?;
+    let mut ranges = SmallVec::from_slice(alloc, regions)?;
     let commit = returning.done.commit();
     add_commit(spaces, alloc, thread, commit, &mut pieces, &mut ranges)?;
     Ok(Brought { pieces, ranges })
@@ -52,15 +53,15 @@ fn copy_all(
     thread: u8,
     regions: &[Range],
     used: &[u64],
-) -> Result<Vec<Bytes>, AllocError>
+) -> Result<Pieces, AllocError>
     requires sizes { length used.now ≡ length regions.now }
     requires allowed { MayBeCopied spaces.now thread regions.now used.now }
-    ensures { IfOk result (λ pieces. AreCopies spaces.now.bytes regions.now used.now pieces.items) }
+    ensures { IfOk result (λ pieces. AreCopies spaces.now.bytes regions.now used.now pieces) }
 {
-    let mut pieces = Vec::new(alloc);
+    let mut pieces = Pieces::new();
     for (i, region) in regions.iter().enumerate() {
         let piece = copy(spaces, alloc, thread, *region, used[i])?;
-        pieces.push(piece)?;
+        pieces.push(alloc, piece)?;
     }
     Ok(pieces)
 }
@@ -71,25 +72,25 @@ fn add_commit(
     alloc: Global,
     thread: u8,
     commit: Option<Committing>,
-    pieces: &mut Vec<Bytes>,
-    ranges: &mut Vec<Range>,
+    pieces: &mut Pieces,
+    ranges: &mut SmallVec<Range, 4>,
 ) -> Result<(), AllocError>
     requires { MayBeCommitted spaces.now thread commit }
-    ensures { OnOk result (AddsCommit spaces.now commit pieces.old.items ranges.old.items
-        pieces.new.items ranges.new.items) }
+    ensures { OnOk result (AddsCommit spaces.now commit pieces.old ranges.old.items
+        pieces.new ranges.new.items) }
 {
     let Some(committing) = commit else {
         return Ok(());
     };
     let Some(used) = committing.used else {
-        pieces.push(Bytes::new(alloc))?;
+        pieces.push(alloc, Bytes::new(alloc))?;
         return Ok(());
     };
     let Some(region) = spaces.prepared(committing.key) else {
         unreachable!("a key that is committed is in use");
     };
     let piece = copy(spaces, alloc, thread, region, used)?;
-    pieces.push(piece)?;
+    pieces.push(alloc, piece)?;
     ranges.push(region)?;
     Ok(())
 }

@@ -19,7 +19,7 @@ use marks::Range;
 use recorder_book::Book;
 use recorder_events::{full, make_event};
 use recorder_state::{Inputs, RunState, Stop};
-use run_events::{Event, Pieces};
+use run_events::Event;
 use std::alloc::{AllocError, Global};
 use steps_above_interface::InterfaceState;
 use steps_above_memory::StepRefusal;
@@ -47,18 +47,14 @@ pub fn record_ret(
     };
     let Brought { pieces, ranges } = brought;
     let cached = returning.done.is_cached();
-    let same = repeats(state, cached, thread, func, value, &pieces);
-    let Ok(outs) = Pieces::from_vec(alloc, pieces) else {
-        return Err(Stop::Memory);
-    };
+    let same = repeats(state, cached, thread, func, value, pieces.as_slice());
     let event = Event::Ret {
         same,
         result: value,
-        outs,
+        outs: pieces,
     };
-    make(
-        state, inputs, alloc, returning, thread, func, &ranges, event,
-    )
+    let ranges = ranges.as_slice();
+    make(state, inputs, alloc, returning, thread, func, ranges, event)
 }
 
 // Records a Ret with these regions and this record, if there is room for it.

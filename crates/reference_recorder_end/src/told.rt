@@ -6,7 +6,7 @@ ghost use Rattle.whole_runs.specs.Recorded.{IsRecording};
 ghost use Rattle.recorder_end.specs.Recorded.{told};
 ghost use Rattle.reference_recorder_end.specs.Ends.{IsWhole};
 
-use call_inspector::Run;
+use call_inspector_run::Run;
 use recorder_end::Recorded;
 use reference_recorder_log::{all_records, log_of, replay_output, system_output};
 use reference_recorder_marks::Mark;

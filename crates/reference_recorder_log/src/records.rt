@@ -6,7 +6,7 @@ ghost use Rattle.whole_runs.specs.Records.{full_record};
 ghost use Rattle.reference_recorder_marks.specs.Marks.{mark_of, past};
 ghost use Rattle.reference_recorder_log.specs.Records.{AreRecordsOf, records_of};
 
-use call_inspector::{Records, Threads};
+use call_inspector_run::{Records, Threads};
 use reference_recorder_marks::Mark;
 use reference_recorder_records::full_record;
 use reference_recorder_stamps::{Link, has};

@@ -7,7 +7,7 @@ use Rattle.run_events.specs.declared.marks.Unpacked.{Unpacked}
 use Rattle.run_events.specs.declared.marks.Unpacked.TheVariants as unpacked
 
 abbrev pub marks_of : PackedMarks → List KeyMark
-marks_of packed.None = []
+marks_of packed.Empty = []
 marks_of (packed.One class ticket value) = (record { key = record { class = class; value = value }; ticket = ticket }) ∷ []
 marks_of (packed.More many) = many.value.items
 

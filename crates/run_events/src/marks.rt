@@ -12,7 +12,7 @@ use std::marker::Model;
 /// How keys lie in 16 bytes: one in the value itself, more in a vector in a block.
 #[derive(Drop)]
 enum PackedMarks {
-    None,
+    Empty,
     One {
         class: Class,
         ticket: u32,
@@ -44,7 +44,7 @@ impl Marks {
         ensures { result ≡ [] }
     {
         Marks {
-            items: PackedMarks::None,
+            items: PackedMarks::Empty,
         }
     }
 
@@ -99,7 +99,7 @@ impl Marks {
         ensures { self.new ≡ with_tickets self.old tickets.now }
     {
         match &mut self.items {
-            PackedMarks::None => {}
+            PackedMarks::Empty => {}
             PackedMarks::One { ticket, .. } => *ticket = tickets[0] as u32,
             PackedMarks::More(many) => write_tickets(many, tickets),
         }
@@ -110,7 +110,7 @@ impl Marks {
         ensures { result ≡ length self.now }
     {
         match &self.items {
-            PackedMarks::None => 0,
+            PackedMarks::Empty => 0,
             PackedMarks::One { .. } => 1,
             PackedMarks::More(many) => many.len(),
         }
@@ -122,7 +122,7 @@ impl Marks {
         ensures { result ≡ self.now }
     {
         let items = match &self.items {
-            PackedMarks::None => Unpacked::More(&[]),
+            PackedMarks::Empty => Unpacked::More(&[]),
             PackedMarks::One {
                 class,
                 ticket,

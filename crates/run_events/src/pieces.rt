@@ -1,10 +1,10 @@
 //! Bytes, and runs of them.
 
-ghost use Rattle.std.specs.Prelude.{◌≡◌, [], ℕ, List, IfOk};
+ghost use Rattle.std.specs.Prelude.{◌≡◌, ◌++◌, ◌∷◌, [], ℕ, List, IfOk, OnErr, OnOk};
 
 use std::alloc::{AllocError, Global};
 use std::marker::Model;
-use std::slice;
+use std::{mem, slice};
 
 /// Bytes, as those of one region. It is made from a vector without taking memory.
 #[derive(Drop)]
@@ -57,7 +57,7 @@ impl From<Vec<u8>> for Bytes {
 /// How runs lie in 16 bytes: one in a block, more in a vector in a block.
 #[derive(Drop)]
 enum PackedPieces {
-    None,
+    Empty,
     One(Box<Bytes>),
     More(Box<Vec<Bytes>>),
 }
@@ -84,7 +84,7 @@ impl Pieces {
         ensures { result ≡ [] }
     {
         Pieces {
-            items: PackedPieces::None,
+            items: PackedPieces::Empty,
         }
     }
 
@@ -94,7 +94,7 @@ impl Pieces {
     {
         let mut runs = runs;
         let items = match runs.len() {
-            0 => PackedPieces::None,
+            0 => PackedPieces::Empty,
             1 => {
                 let only = runs.remove(0);
                 PackedPieces::One(Box::new(alloc, only)?)
@@ -104,12 +104,30 @@ impl Pieces {
         Ok(Pieces { items })
     }
 
+    /// Adds a run at the end. Without memory nothing is added.
+    pub fn push(&mut self, alloc: Global, run: Bytes) -> Result<(), AllocError>
+        ensures ok { OnOk result (self.new ≡ self.old ++ run ∷ []) }
+        ensures err { OnErr result (self.new ≡ self.old) }
+    {
+        match &mut self.items {
+            PackedPieces::Empty => self.items = PackedPieces::One(Box::new(alloc, run)?),
+            PackedPieces::One(only) => {
+                let mut many = Box::new(alloc, Vec::with_capacity(alloc, 2)?)?;
+                many.push_reserved(mem::replace(only.as_mut(), Bytes::new(alloc)));
+                many.push_reserved(run);
+                self.items = PackedPieces::More(many);
+            }
+            PackedPieces::More(many) => many.push(run)?,
+        }
+        Ok(())
+    }
+
     /// The runs, in order.
     pub fn as_slice(&self) -> &[Bytes]
         ensures { result.now ≡ self.now }
     {
         match &self.items {
-            PackedPieces::None => &[],
+            PackedPieces::Empty => &[],
             PackedPieces::One(only) => slice::from_ref(only.as_ref()),
             PackedPieces::More(many) => many.as_slice(),
         }

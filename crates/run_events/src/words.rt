@@ -7,13 +7,15 @@ use std::alloc::{AllocError, Global};
 use std::marker::Model;
 use std::slice;
 
-/// How values lie in 24 bytes: up to two of them in the value itself, more in one block, and more than four in a second one.
+/// How values lie in 24 bytes: up to two of them in the value itself, more in one block, and more than eight in a second one.
 #[derive(Drop)]
 enum PackedWords {
-    None,
+    Empty,
     One(u64),
     Two([u64; 2]),
-    More(Box<SmallVec<u64, 4>>),
+    Three(Box<[u64; 3]>),
+    Four(Box<[u64; 4]>),
+    More(Box<SmallVec<u64, 8>>),
 }
 
 /// Values of 64 bits, as the arguments of a call. Up to two take no memory besides the list itself.
@@ -38,7 +40,7 @@ impl Words {
         ensures { result ≡ [] }
     {
         Words {
-            items: PackedWords::None,
+            items: PackedWords::Empty,
         }
     }
 
@@ -47,9 +49,11 @@ impl Words {
         ensures { IfOk result (λ copy. copy ≡ values.now) }
     {
         let items = match *values {
-            [] => PackedWords::None,
-            [only] => PackedWords::One(only),
-            [first, second] => PackedWords::Two([first, second]),
+            [] => PackedWords::Empty,
+            [a] => PackedWords::One(a),
+            [a, b] => PackedWords::Two([a, b]),
+            [a, b, c] => PackedWords::Three(Box::new(alloc, [a, b, c])?),
+            [a, b, c, d] => PackedWords::Four(Box::new(alloc, [a, b, c, d])?),
             _ => PackedWords::More(Box::new(alloc, SmallVec::from_slice(alloc, values)?)?),
         };
         Ok(Words { items })
@@ -61,9 +65,11 @@ impl Words {
         ensures { result.now ≡ self.now }
     {
         match &self.items {
-            PackedWords::None => &[],
+            PackedWords::Empty => &[],
             PackedWords::One(only) => slice::from_ref(only),
             PackedWords::Two(both) => both,
+            PackedWords::Three(three) => three.as_slice(),
+            PackedWords::Four(four) => four.as_slice(),
             PackedWords::More(many) => many.as_slice(),
         }
     }

@@ -1,7 +1,7 @@
 pub mod Counted
 pub mod Latest
 pub mod Stamped
-pub mod Written
+pub mod Ranges
 pub mod Plain
 pub mod Few
 pub mod Distinct

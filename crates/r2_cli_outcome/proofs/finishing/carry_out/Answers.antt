@@ -1,7 +1,4 @@
-use Rattle.std.proofs.Common.{map, sym}
-use Rattle.r2_cli_outcome.specs.After.{After}
-use Rattle.r2_cli_outcome.specs.Plans.{outcome_of, write_of}
-use Rattle.r2_cli_outcome.proofs.FinishLemmas.{whole_slice, refused_slice, later_said}
+use Rattle.r2_cli_outcome.proofs.FinishLemmas.{whole_slice, refused_slice}
 use Rattle.r2_cli_outcome.proofs.finishing.carry_out.Goals as goal
 
 pub returns-in-Ok-clause-leaves : goal.returns-in-Ok-clause-leaves

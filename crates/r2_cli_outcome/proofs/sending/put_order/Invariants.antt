@@ -1,4 +1,4 @@
-use Rattle.std.proofs.Common.{◌≤◌, ◌-◌, take}
+use Rattle.std.proofs.Common.{◌-◌, take}
 use Rattle.std.specs.List.{flat_map}
 use Rattle.event_texts.specs.EventTexts.{event_line}
 use Rattle.r2_cli_outcome.specs.World.{World, Later, world}

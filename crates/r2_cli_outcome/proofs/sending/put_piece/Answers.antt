@@ -1,7 +1,7 @@
 use Rattle.std.proofs.Common.{ap, ◌∙◌, sym, refl, ℕ, List}
 use Rattle.r2_cli_outcome.specs.Outcome.{file}
 use Rattle.r2_cli_outcome.specs.Plans.{target_of}
-use Rattle.r2_cli_outcome.proofs.SendingLemmas.{puts_there, file_puts, out_puts, err_puts, later_writes, later_out, later_err}
+use Rattle.r2_cli_outcome.proofs.SendingLemmas.{puts_there, file_puts, out_puts, err_puts, later_writes}
 use Rattle.r2_cli_outcome.proofs.sending.put_piece.Goals as goal
 
 pub returns-in-File-clause-later : goal.returns-in-File-clause-later

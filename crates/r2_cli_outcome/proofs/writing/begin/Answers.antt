@@ -1,4 +1,4 @@
-use Rattle.std.proofs.Common.{ap, sym}
+use Rattle.std.proofs.Common.{ap}
 use Rattle.r2_cli_outcome.specs.Outcome.{out, err}
 use Rattle.r2_cli_outcome.specs.Plans.{target_of}
 use Rattle.r2_cli_outcome.proofs.SendingLemmas.{begins_there, nothing_begun, out_begun, err_begun, later_writes, later_same}

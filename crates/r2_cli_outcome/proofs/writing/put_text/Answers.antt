@@ -8,3 +8,6 @@ returns-in-Bytes-clause-puts g c = puts_there _ _ _ _ _ _ _ refl (c.deref.ensure
 
 pub returns-in-Order-clause-puts : goal.returns-in-Order-clause-puts
 returns-in-Order-clause-puts g c = puts_there _ _ _ _ _ _ _ refl (sym (ap bytes_of c.in-Order.is)) c.put_order.ensures.puts
+
+pub returns-in-Report-clause-puts : goal.returns-in-Report-clause-puts
+returns-in-Report-clause-puts g c = puts_there _ _ _ _ _ _ _ refl (sym (ap bytes_of c.in-Report.is)) c.put_report.ensures.puts

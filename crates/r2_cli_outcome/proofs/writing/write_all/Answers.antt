@@ -1,7 +1,7 @@
-use Rattle.std.proofs.Common.{map, take, drop, ◌∷◌, [], suc, arith}
+use Rattle.std.proofs.Common.{arith}
 use Rattle.r2_cli_outcome.specs.Plans.{write_of}
-use Rattle.r2_cli_outcome.proofs.AfterLemmas.{later_then, after_none}
-use Rattle.r2_cli_outcome.proofs.WriteLemmas.{refused_more, done_more, all_done, taken_more, split_at}
+use Rattle.r2_cli_outcome.proofs.AfterLemmas.{later_then}
+use Rattle.r2_cli_outcome.proofs.WriteLemmas.{refused_more, done_more, taken_more, split_at}
 use Rattle.r2_cli_outcome.proofs.writing.write_all.Goals as goal
 
 pub returns-in_err-write_one-clause-later : goal.returns-in_err-write_one-clause-later

@@ -1,3 +1,4 @@
+use Rattle.std.proofs.Common.{refl}
 use Rattle.std.proofs.Math.Facts.{Fits-lt-pow}
 use Rattle.recorder_returns.proofs.Allowed.{may_commit, may_copy, sizes}
 use Rattle.recorder_returns.proofs.Recorded.{next_so}
@@ -17,11 +18,11 @@ make-requires c = (
   c.args.value,
   c.requires.next.0,
   next_so _ c.args.state.now c.args.thread c.args.func c.args.value _ c.requires.next.1 c.args.returning.now c.requires.said
-      (Fits-lt-pow c.ranges.value) c.in-Ok.brought c.in-Ok.ensures c.is_cached-cached.result c.repeats-same.result c.deref.result.now c.in-Ok-from_vec.outs c.deref-2.result.now
-      c.is_cached-cached.ensures c.deref.ensures.value c.in-Ok-from_vec.ensures c.deref-2.ensures.value c.repeats-same.ensures,
+      (Fits-lt-pow c.ranges.value) c.in-Ok.brought c.in-Ok.ensures c.is_cached-cached.result c.repeats-same.result c.as_slice.result.now c.in-Ok.brought.pieces c.as_slice-ranges.result.now
+      c.is_cached-cached.ensures c.as_slice.ensures refl c.as_slice-ranges.ensures c.repeats-same.ensures,
 )
 
 pub returns-clause-made : goal.returns-clause-made
 returns-clause-made c = λ x r. c.make.ensures.made c.args.value x (next_so _ c.args.state.now c.args.thread c.args.func c.args.value x r c.args.returning.now c.requires.said
-    (Fits-lt-pow c.ranges.value) c.in-Ok.brought c.in-Ok.ensures c.is_cached-cached.result c.repeats-same.result c.deref.result.now c.in-Ok-from_vec.outs c.deref-2.result.now
-    c.is_cached-cached.ensures c.deref.ensures.value c.in-Ok-from_vec.ensures c.deref-2.ensures.value c.repeats-same.ensures)
+    (Fits-lt-pow c.ranges.value) c.in-Ok.brought c.in-Ok.ensures c.is_cached-cached.result c.repeats-same.result c.as_slice.result.now c.in-Ok.brought.pieces c.as_slice-ranges.result.now
+    c.is_cached-cached.ensures c.as_slice.ensures refl c.as_slice-ranges.ensures c.repeats-same.ensures)

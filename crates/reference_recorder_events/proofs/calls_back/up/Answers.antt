@@ -1,4 +1,3 @@
-use Rattle.std.proofs.Common.{◌∙◌}
 use Rattle.std.proofs.lemmas.Result.{IfOk-weaker}
 use Rattle.recorder_state.specs.Inputs.{world_of}
 use Rattle.reference_recorder_events.proofs.Numbered.{event_made_as}

@@ -2,7 +2,7 @@ use Rattle.std.proofs.Common.{◌≡◌, List, sym, ap, ◌∙◌, subst}
 use Rattle.run_events.specs.declared.key.KeyMark.{KeyMark}
 use Rattle.run_events.specs.Tickets.{with_tickets}
 use Rattle.steps_above_stamps.specs.Stamps.{CanBeRecorded}
-use Rattle.steps_above_stamps.proofs.Written.{in_range}
+use Rattle.steps_above_stamps.proofs.Ranges.{in_range}
 use Rattle.steps_above_stamps.proofs.stamps.with_marks.Goals as goal
 
 pub returns : goal.returns
