@@ -29,8 +29,9 @@ int main(void) { return 0; }
 """
 
 # Runs at the limits of a recording, with the status that each ends with: a million events, of calls alone, of blocks (each has a key), of
-# calls with a region, and of calls with three arguments and with eight, the most; records of 48 MiB, of returns that are written once but counted in full; a report of 1 MiB of live memory; the steps of
-# the greatest budget.
+# calls with a region, of calls with three arguments, with five and with eight, the most, of calls with eight that don't all fit into fewer
+# bits, with arguments and a region, and with two regions; records of 48 MiB, of returns that are written once but counted in full; a
+# report of 1 MiB of live memory; the steps of the greatest budget.
 LARGE = [
     (
         "events",
@@ -59,10 +60,40 @@ LARGE = [
         7,
     ),
     (
+        "five",
+        "[cut(top)] int low(int a, int b, int c, int d, int e);\nint low(int a, int b, int c, int d, int e) { return a; }\n"
+        "int main(void) { while (1) low(1, 2, 3, 4, -5); return 0; }\n",
+        "budget 100000000\n",
+        7,
+    ),
+    (
         "eight",
         "[cut(top)] int low(int a, int b, int c, int d, int e, int f, int g, int h);\n"
         "int low(int a, int b, int c, int d, int e, int f, int g, int h) { return a; }\n"
         "int main(void) { while (1) low(1, 2, 3, 4, 5, 6, 7, 8); return 0; }\n",
+        "budget 100000000\n",
+        7,
+    ),
+    (
+        "wide",
+        "[cut(top)] int low(int a, int b, int c, int d, int e, int f, int g, int h);\n"
+        "int low(int a, int b, int c, int d, int e, int f, int g, int h) { return a; }\n"
+        "int main(void) { while (1) low(1, 2, 3, 4, 5, 6, 7, 32768); return 0; }\n",
+        "budget 100000000\n",
+        7,
+    ),
+    (
+        "both",
+        "[cut(top)] int get([out, bsize(n)] char *p, int n, int k);\nint get(char *p, int n, int k) { p[0] = 1; return n; }\n"
+        "char b[8];\nint main(void) { while (1) get(b, 8, 1); return 0; }\n",
+        "budget 100000000\n",
+        7,
+    ),
+    (
+        "two",
+        "[cut(top)] int get([out, bsize(n)] char *p, [out, bsize(n)] char *q, int n);\n"
+        "int get(char *p, char *q, int n) { p[0] = 1; q[0] = 2; return n; }\n"
+        "char b[8];\nchar c[8];\nint main(void) { while (1) get(b, c, 8); return 0; }\n",
         "budget 100000000\n",
         7,
     ),

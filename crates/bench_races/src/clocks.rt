@@ -33,7 +33,8 @@ pub fn keys(round: u32, different: u64) -> [Key; 2]
 /// A sum, with the tickets of an event added.
 fn with_tickets(sum: u64, stamp: &Stamp) -> u64 {
     let mut all = sum;
-    for ticket in stamp.tickets.as_slice() {
+    let tickets = stamp.tickets.unpacked();
+    for ticket in tickets.as_slice() {
         all = all.wrapping_add(*ticket);
     }
     all

@@ -115,6 +115,7 @@ pub fn put_detail(
 {
     match event {
         Event::Call { func, args } | Event::Up { func, args } => {
+            let args = args.unpacked();
             put_call(text, code.func(*func), args.as_slice())
         }
         Event::Ret { result, outs, .. } => {

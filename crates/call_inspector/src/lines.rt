@@ -1,6 +1,6 @@
 //! The lines of a thread's events.
 
-ghost use Rattle.std.specs.Prelude.{◌≡◌, ◌≤◌, ◌+◌, ◌++◌, OnOk, codes, decimal, length};
+ghost use Rattle.std.specs.Prelude.{◌≡◌, ◌<◌, ◌≤◌, ◌+◌, ◌++◌, IfOk, OnOk, codes, decimal, length};
 ghost use Rattle.event_texts.specs.EventTexts.{kind_word};
 ghost use Rattle.call_inspector.specs.Parts.{PutsLines};
 ghost use Rattle.call_inspector.specs.ThreadText.{event_line};
@@ -75,7 +75,11 @@ pub struct Passed {
     pub end: ThreadEnd,
 }
 
-/// Adds the lines of the thread's events from one on up to another. Each event is looked at once.
+/// With so many bytes a text gets no further line.
+const BYTES: usize = 65_536;
+
+/// Adds the lines of the thread's events from one on, up to another or until the text has `BYTES`, and answers which event comes next.
+/// Each event is looked at once.
 pub fn put_lines(
     text: &mut Vec<u8>,
     code: &Code,
@@ -84,17 +88,22 @@ pub fn put_lines(
     records: &[Record],
     from: usize,
     to: usize,
-) -> Result<(), AllocError>
-    requires order { from ≤ to }
+) -> Result<usize, AllocError>
+    requires some { from < to }
     requires within { to ≤ length records.now }
-    ensures { OnOk result (PutsLines code.now threads.now records.now from text.old.items passed.old
-        to text.new.items passed.new) }
+    ensures lines { IfOk result (λ next. PutsLines code.now threads.now records.now from text.old.items passed.old
+        next text.new.items passed.new) }
+    ensures more { IfOk result (λ next. from < next) }
+    ensures within { IfOk result (λ next. next ≤ to) }
 {
     for index in from..to {
         let entry = &records[index];
         put_line(text, code, &passed.active, index, entry)?;
         passed.end.pass(threads, &passed.active, &entry.event);
         passed.active.pass(&entry.event)?;
+        if text.len() >= BYTES {
+            return Ok(index + 1);
+        }
     }
-    Ok(())
+    Ok(to)
 }

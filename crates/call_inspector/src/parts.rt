@@ -169,7 +169,7 @@ impl<'a> State<'a> {
         }
         let to = index + LINES.min(records.len() - index);
         let threads = self.run.threads.as_slice();
-        put_lines(
+        let next = put_lines(
             text,
             self.code,
             &mut self.passed,
@@ -181,7 +181,7 @@ impl<'a> State<'a> {
         self.place = Place::Events {
             thread,
             records,
-            index: to,
+            index: next,
         };
         Ok(())
     }

@@ -70,6 +70,7 @@ fn put_call(out: &mut Tail, func: u16, args: &Words) -> Result<(), AllocError>
     ensures added { OnOk result (out.new.added ≡ out.old.added ++
         (to_be_bytes w16 func ++ counted (to_be_bytes w64) args.now)) }
 {
+    let args = args.unpacked();
     let args = args.as_slice();
     let [high, low] = func.to_be_bytes();
     out.put(&[high, low, args.len() as u8])?;

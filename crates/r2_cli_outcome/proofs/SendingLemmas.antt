@@ -4,7 +4,7 @@ use Rattle.std.specs.Result.{IsErrAnd}
 use Rattle.std.specs.List.{flat_map}
 use Rattle.std.proofs.Math.Seq.{take-append-add}
 use Rattle.std.proofs.Math.ListN.{drop_of_length-le}
-use Rattle.std.proofs.lemmas.List.{take-append-le, take-append-drop}
+use Rattle.std.proofs.lemmas.List.{append_cancel_left, take-append-le, take-append-drop}
 use Rattle.std.proofs.lemmas.Grind.{flat_map-append}
 use Rattle.std.proofs.lemmas.Slice.Eq.{bytes_eq-Decides}
 use Rattle.run_events.specs.declared.event.EventName.{EventName}
@@ -21,7 +21,7 @@ use Rattle.r2_cli_outcome.specs.World.{World, Later, world}
 use Rattle.r2_cli_outcome.specs.Outcome.{Target, Write, file, out, err}
 use Rattle.r2_cli_outcome.specs.After.{After, Adds}
 use Rattle.r2_cli_outcome.specs.Left.{IsPart, untouched, prefix, faults_at}
-use Rattle.r2_cli_outcome.specs.Sending.{one, AddsAt, Puts, Begins, IsPartly, IsSending, Sends, Stops, failed, memory, Does}
+use Rattle.r2_cli_outcome.specs.Sending.{one, AddsAt, Puts, Begins, IsSending, Sends, Stops, failed, memory, Does}
 use Rattle.r2_cli_outcome.proofs.StageLemmas.{rose_from}
 use Rattle.r2_cli_outcome.proofs.AfterLemmas.{adds_none, adds_then, adds_all, adds_prefix, differ, holds_one}
 use Rattle.r2_cli_outcome.proofs.WriteLemmas.{faults_later, that_err}
@@ -165,14 +165,8 @@ unbegun_does w a b fault result ((name, is), after, cause) e =
 
 -- ---- a long text
 
-pub nothing_sent : (t : Target) (a : World) → IsSending t a a [] []
-nothing_sent t a = record { sent = []; added = adds_nothing t a; parts = refl }
-
-pub nothing_waits : (t : Target) (a : World) (text : List ℕ) → text ≡ [] → IsSending t a a text []
-nothing_waits t a text e = record { sent = []; added = adds_nothing t a; parts = sym e }
-
-more_waits : (t : Target) (a b : World) (waiting more whole : List ℕ) → IsSending t a b waiting whole → IsSending t a b (waiting ++ more) (whole ++ more)
-more_waits t a b waiting more whole s = record { sent = s.sent; added = s.added; parts = ap (λ (w : List ℕ). w ++ more) s.parts ∙ append_assoc s.sent waiting more }
+pub nothing_sent : (t : Target) (a : World) (text whole : List ℕ) → text ≡ [] → IsSending t a a text whole whole
+nothing_sent t a text whole e = record { sent = []; added = adds_nothing t a; parts = ap (λ (w : List ℕ). w ++ whole) (sym e) }
 
 -- text that stays, and text that is added, where it is long enough
 pub stays_waiting : (t : Target) (a : World) (text : List ℕ) → Sends t text text a a (Ok tt)
@@ -197,28 +191,10 @@ part_of t sent piece rest whole n a b c le e p q = (
       (adds_both t sent (take n piece) a b c p q),
 )
 
--- a piece that is added
-pub went_on : (t : Target) (a b c : World) (waiting left whole : List ℕ) → IsSending t a b waiting whole → Sends t waiting left b c (Ok tt) → IsSending t a c left whole
-went_on t a b c waiting left whole s (more, parts, added) = record {
-  sent = s.sent ++ more;
-  added = adds_both t s.sent more a b c s.added added;
-  parts = s.parts ∙ ap (λ (w : List ℕ). s.sent ++ w) parts ∙ sym (append_assoc s.sent more left);
-}
-
--- the last piece, whatever it comes to
-last_put : (t : Target) (a b c : World) (result : Result (Unit {0}) Fault) (waiting whole : List ℕ) → Later a b → IsSending t a b waiting whole → Puts t waiting b c result → Puts t whole a c result
-last_put t a b c (Ok done) waiting whole later s p = adds_same t (s.sent ++ waiting) whole a c (sym s.parts) (adds_both t s.sent waiting a b c s.added p)
-last_put t a b c (Err fault) waiting whole later s ((n, le, added), cause) = (
-  part_of t s.sent waiting [] whole n a b c le (s.parts ∙ ap (λ (w : List ℕ). s.sent ++ w) (sym (append-nil waiting))) s.added added,
-  cause_from (faults_at t a) (faults_at t b) (faults_at t c) fault (faults_later t a b later) cause,
-)
-
--- ---- a text of which more is made as it is sent
-
-pub more_made : (t : Target) (a b : World) (w1 l1 w2 l2 whole : List ℕ) → IsPartly t a b w1 l1 whole → w2 ++ l2 ≡ w1 ++ l1 → IsPartly t a b w2 l2 whole
+pub more_made : (t : Target) (a b : World) (w1 l1 w2 l2 whole : List ℕ) → IsSending t a b w1 l1 whole → w2 ++ l2 ≡ w1 ++ l1 → IsSending t a b w2 l2 whole
 more_made t a b w1 l1 w2 l2 whole s is = record { sent = s.sent; added = s.added; parts = s.parts ∙ ap (λ (w : List ℕ). s.sent ++ w) (sym is) }
 
-pub more_sent : (t : Target) (a b c : World) (w1 w2 left whole : List ℕ) → IsPartly t a b w1 left whole → Sends t w1 w2 b c (Ok tt) → IsPartly t a c w2 left whole
+pub more_sent : (t : Target) (a b c : World) (w1 w2 left whole : List ℕ) → IsSending t a b w1 left whole → Sends t w1 w2 b c (Ok tt) → IsSending t a c w2 left whole
 more_sent t a b c w1 w2 left whole s (more, is, added) = record {
   sent = s.sent ++ more;
   added = adds_both t s.sent more a b c s.added added;
@@ -226,25 +202,33 @@ more_sent t a b c w1 w2 left whole s (more, is, added) = record {
 }
 
 -- a stop before the next part, when out of memory
-pub stops_partly : (t : Target) (a b : World) (waiting left whole : List ℕ) (result : Result (Unit {0}) Fault) → IsErrAnd result (λ x. x ≡ Memory) → IsPartly t a b waiting left whole → Puts t whole a b result
-stops_partly t a b waiting left whole result is s =
+pub stops_sending : (t : Target) (a b : World) (waiting left whole : List ℕ) (result : Result (Unit {0}) Fault) → IsErrAnd result (λ x. x ≡ Memory) → IsSending t a b waiting left whole → Puts t whole a b result
+stops_sending t a b waiting left whole result is s =
     subst (λ (r : Result (Unit {0}) Fault). Puts t whole a b r) (sym (that_err result Memory is))
     (part_of t s.sent waiting left whole 0 a b b (omega arith) s.parts s.added (adds_nothing t b), tt)
 
 -- a piece that is refused
-pub refused_partly : (t : Target) (a b c : World) (fault : Fault) (waiting left whole : List ℕ) (result : Result (Unit {0}) Fault) → IsErrAnd result (λ x. x ≡ fault) → Later a b → IsPartly t a b waiting left whole → Puts t waiting b c (Err fault)
+pub refused_sending : (t : Target) (a b c : World) (fault : Fault) (waiting left whole : List ℕ) (result : Result (Unit {0}) Fault) → IsErrAnd result (λ x. x ≡ fault) → Later a b → IsSending t a b waiting left whole → Puts t waiting b c (Err fault)
     → Puts t whole a c result
-refused_partly t a b c fault waiting left whole result is later s ((n, le, added), cause) =
+refused_sending t a b c fault waiting left whole result is later s ((n, le, added), cause) =
     subst (λ (r : Result (Unit {0}) Fault). Puts t whole a c r) (sym (that_err result fault is)) (
       part_of t s.sent waiting left whole n a b c le s.parts s.added added,
       cause_from (faults_at t a) (faults_at t b) (faults_at t c) fault (faults_later t a b later) cause,
     )
 
 -- nothing more is made, and the rest is sent
-pub rest_sent : (t : Target) (a b c : World) (waiting left whole piece : List ℕ) (result : Result (Unit {0}) Fault) → left ≡ [] → Later a b → IsPartly t a b waiting left whole → piece ≡ waiting → Puts t piece b c result → Puts t whole a c result
-rest_sent t a b c waiting left whole piece result none later s same put =
-    last_put t a b c result piece whole later
-    (record { sent = s.sent; added = s.added; parts = s.parts ∙ ap (λ (w : List ℕ). s.sent ++ w) (ap (λ (l : List ℕ). waiting ++ l) none ∙ append-nil waiting ∙ sym same) }) put
+pub rest_sent : (t : Target) (a b c : World) (waiting left whole piece : List ℕ) (result : Result (Unit {0}) Fault) → left ≡ [] → Later a b → IsSending t a b waiting left whole → piece ≡ waiting → Puts t piece b c result → Puts t whole a c result
+rest_sent t a b c waiting left whole piece result none later s same put = last result put
+  where
+    all : whole ≡ s.sent ++ piece
+    all = s.parts ∙ ap (λ (w : List ℕ). s.sent ++ w) (ap (λ (l : List ℕ). waiting ++ l) none ∙ append-nil waiting ∙ sym same)
+
+    last : (result : Result (Unit {0}) Fault) → Puts t piece b c result → Puts t whole a c result
+    last (Ok done) p = adds_same t (s.sent ++ piece) whole a c (sym all) (adds_both t s.sent piece a b c s.added p)
+    last (Err fault) ((n, le, added), cause) = (
+      part_of t s.sent piece [] whole n a b c le (all ∙ ap (λ (w : List ℕ). s.sent ++ w) (sym (append-nil piece))) s.added added,
+      cause_from (faults_at t a) (faults_at t b) (faults_at t c) fault (faults_later t a b later) cause,
+    )
 
 -- ---- the events, one after the other
 
@@ -271,54 +255,34 @@ line_read es from i d lines more line le is pushed same so_far =
     ∙ ap (λ (w : List ℕ). flat_map event_line (take from es) ++ w) (sym (text_pushed lines line))
     ∙ ap (λ (w : List (List ℕ)). flat_map event_line (take from es) ++ lines_text w) (sym pushed)
 
--- the lines of the events from one place to another wait
-pub lines_wait : (t : Target) (es : List LogEvent) (a b : World) (waiting more lines : List ℕ) (from to : ℕ) → flat_map event_line (take to es) ≡ flat_map event_line (take from es) ++ lines
-    → IsSending t a b waiting (flat_map event_line (take from es)) → more ≡ waiting ++ lines → IsSending t a b more (flat_map event_line (take to es))
-lines_wait t es a b waiting more lines from to read s e =
-    let longer = more_waits t a b waiting lines (flat_map event_line (take from es)) s in
-    record { sent = longer.sent; added = longer.added; parts = read ∙ longer.parts ∙ ap (λ (w : List ℕ). longer.sent ++ w) (sym e) }
-
 -- what is left to be added after so many events
-left_over : List LogEvent → ℕ → List ℕ
+abbrev pub left_over : List LogEvent → ℕ → List ℕ
 left_over es i = flat_map event_line (drop i es) ++ end_line (length es)
 
 all_parts : (es : List LogEvent) (i : ℕ) → order_text es ≡ flat_map event_line (take i es) ++ left_over es i
-unfolding left_over
 all_parts es i =
     ap (λ (w : List LogEvent). flat_map event_line w ++ end_line (length es)) (sym (take-append-drop i es))
     ∙ ap (λ (w : List ℕ). w ++ end_line (length es)) (flat_map-append event_line (take i es) (drop i es))
     ∙ append_assoc (flat_map event_line (take i es)) (flat_map event_line (drop i es)) (end_line (length es))
 
-all_waiting : (t : Target) (es : List LogEvent) (a b : World) (waiting : List ℕ) (i : ℕ) (s : IsSending t a b waiting (flat_map event_line (take i es))) → order_text es ≡ s.sent ++ (waiting ++ left_over es i)
-all_waiting t es a b waiting i s = all_parts es i ∙ ap (λ (w : List ℕ). w ++ left_over es i) s.parts ∙ append_assoc s.sent waiting (left_over es i)
+-- the lines of the events from one place to another, and what is left then
+lines_between : (es : List LogEvent) (lines : List ℕ) (from to : ℕ) → flat_map event_line (take to es) ≡ flat_map event_line (take from es) ++ lines → lines ++ left_over es to ≡ left_over es from
+lines_between es lines from to read =
+    let before = flat_map event_line (take from es) in
+    append_cancel_left before (lines ++ left_over es to) (left_over es from)
+    (sym (append_assoc before lines (left_over es to)) ∙ ap (λ (w : List ℕ). w ++ left_over es to) (sym read) ∙ sym (all_parts es to) ∙ all_parts es from)
 
--- a stop before the next piece, when out of memory
-pub stops_at : (t : Target) (es : List LogEvent) (a b : World) (waiting : List ℕ) (i : ℕ) (result : Result (Unit {0}) Fault) → IsErrAnd result (λ x. x ≡ Memory)
-    → IsSending t a b waiting (flat_map event_line (take i es)) → Puts t (order_text es) a b result
-stops_at t es a b waiting i result is s =
-    subst (λ (r : Result (Unit {0}) Fault). Puts t (order_text es) a b r) (sym (that_err result Memory is))
-    (part_of t s.sent waiting (left_over es i) (order_text es) 0 a b b (omega arith) (all_waiting t es a b waiting i s) s.added (adds_nothing t b), tt)
+-- these lines were made
+pub lines_made : (t : Target) (es : List LogEvent) (a b : World) (waiting more lines : List ℕ) (from to : ℕ) → flat_map event_line (take to es) ≡ flat_map event_line (take from es) ++ lines
+    → IsSending t a b waiting (left_over es from) (order_text es) → more ≡ waiting ++ lines → IsSending t a b more (left_over es to) (order_text es)
+lines_made t es a b waiting more lines from to read s e = more_made t a b waiting (left_over es from) more (left_over es to) (order_text es) s
+    (ap (λ (w : List ℕ). w ++ left_over es to) e ∙ append_assoc waiting lines (left_over es to) ∙ ap (λ (w : List ℕ). waiting ++ w) (lines_between es lines from to read))
 
--- a piece that is refused
-pub refused_at : (t : Target) (es : List LogEvent) (a b c : World) (fault : Fault) (waiting : List ℕ) (i : ℕ) (result : Result (Unit {0}) Fault) → IsErrAnd result (λ x. x ≡ fault) → Later a b
-    → IsSending t a b waiting (flat_map event_line (take i es)) → Puts t waiting b c (Err fault) → Puts t (order_text es) a c result
-refused_at t es a b c fault waiting i result is later s ((n, le, added), cause) =
-    subst (λ (r : Result (Unit {0}) Fault). Puts t (order_text es) a c r) (sym (that_err result fault is)) (
-      part_of t s.sent waiting (left_over es i) (order_text es) n a b c le (all_waiting t es a b waiting i s) s.added added,
-      cause_from (faults_at t a) (faults_at t b) (faults_at t c) fault (faults_later t a b later) cause,
-    )
-
-pub all_sent : (t : Target) (es : List LogEvent) (a b c : World) (waiting more piece : List ℕ) (i count : ℕ) (result : Result (Unit {0}) Fault) → length es ≤ i → count ≡ length es → Later a b
-    → IsSending t a b waiting (flat_map event_line (take i es)) → more ≡ waiting ++ end_line count → piece ≡ more → Puts t piece b c result → Puts t (order_text es) a c result
-all_sent t es a b c waiting more piece i count result le is later s e same put =
-    let longer = more_waits t a b waiting (end_line count) (flat_map event_line (take i es)) s in
-    let whole : order_text es ≡ flat_map event_line (take i es) ++ end_line count =
-    ap (λ (k : ℕ). flat_map event_line es ++ end_line k) (sym is) ∙ ap (λ (w : List LogEvent). flat_map event_line w ++ end_line count) (sym (take_all es i le)) in
-    last_put t a b c result piece (order_text es) later
-    (record { sent = longer.sent; added = longer.added; parts = whole ∙ longer.parts ∙ ap (λ (w : List ℕ). longer.sent ++ w) (sym e ∙ sym same) }) put
-  where
-    take_all : (xs : List LogEvent) (k : ℕ) → length xs ≤ k → take k xs ≡ xs
-    take_all xs k le = sym (append-nil (take k xs)) ∙ ap (λ (r : List LogEvent). take k xs ++ r) (sym (drop_of_length-le xs le)) ∙ take-append-drop k xs
+-- the end was made
+pub end_made : (t : Target) (es : List LogEvent) (a b : World) (waiting more : List ℕ) (i count : ℕ) → length es ≤ i → count ≡ length es → IsSending t a b waiting (left_over es i) (order_text es)
+    → more ≡ waiting ++ end_line count → IsSending t a b more [] (order_text es)
+end_made t es a b waiting more i count le is s e = more_made t a b waiting (left_over es i) more [] (order_text es) s
+    (append-nil more ∙ e ∙ ap (λ (k : ℕ). waiting ++ end_line k) is ∙ ap (λ (w : List LogEvent). waiting ++ (flat_map event_line w ++ end_line (length es))) (sym (drop_of_length-le es le)))
 
 -- an event with the name and the record at a place is the event there
 pub event_of_parts : (es : List LogEvent) (i : ℕ) (d : LogEvent) → d.name ≡ (get_or es i d).name → d.entry ≡ (get_or es i d).entry → d ≡ get_or es i d

@@ -28,14 +28,8 @@ Begins t old new (Ok done) = After (one t []) old new
 Begins t old new (Err fault) = ((name : List ℕ) × (t ≡ file name)) × After [] old new ×
     IsWriteCause (faults_at t old) (faults_at t new) fault
 
--- of what is to be written so far, a prefix was added, and the rest waits
-pub record IsSending (t : Target) (old now : World) (waiting whole : List ℕ) : Type 0 where
-  pub sent : List ℕ
-  pub added : AddsAt t sent old now
-  pub parts : whole ≡ sent ++ waiting
-
--- the same where more is left, which isn't made yet
-pub record IsPartly (t : Target) (old now : World) (waiting left whole : List ℕ) : Type 0 where
+-- of what is to be written a prefix was added, some waits, and the rest is left and isn't made yet
+pub record IsSending (t : Target) (old now : World) (waiting left whole : List ℕ) : Type 0 where
   pub sent : List ℕ
   pub added : AddsAt t sent old now
   pub parts : whole ≡ sent ++ (waiting ++ left)

@@ -120,7 +120,7 @@ pub fn put_order<F: Files, S: Sink, E: Sink>(
     put_piece(to, &text, files, out, err)
 }
 
-/// Adds the report of the run. No more of it is in memory at once than some more than `PIECE` bytes.
+/// Adds the report of the run. No more of it is in memory at once than `PIECE` bytes and the line that comes then.
 pub fn put_report<F: Files, S: Sink, E: Sink>(
     alloc: Global,
     ran: &Ran,

@@ -1,12 +1,9 @@
 -- The bytes of a source, the name of its cut and the bytes of a system file decide what a recording leaves.
-use Rattle.std.proofs.Common.{◌≡◌, ℕ, ◌+◌, ◌&&◌, ltb, List, [], ◌∷◌, ◌++◌, length, Option, Some, None, Ok, codes, refl, sym, ap, ◌∙◌, subst}
-use Rattle.std.specs.Prelude.{decimal, if◌then◌else◌, is_none}
+use Rattle.std.proofs.Common.{◌≡◌, ℕ, ◌+◌, ◌&&◌, ltb, List, [], ◌∷◌, ◌++◌, Some, None, Ok, codes, refl, sym, ap, ◌∙◌, subst}
+use Rattle.std.specs.Prelude.{if◌then◌else◌, is_none}
 use Rattle.marks.specs.Marks.{Mark}
-use Rattle.memory_map.specs.declared.placed.Placed.{Placed}
-use Rattle.c_code.specs.Machine.{Flat, Laid}
+use Rattle.c_code.specs.Machine.{Flat}
 use Rattle.c_builtins.specs.Table.{first_source_function}
-use Rattle.c_types_rules.specs.Sources.{Program}
-use Rattle.annot_reader_rules.specs.Notes.{Annotated}
 use Rattle.annot_reader.specs.Interfaces.{annots_at, declared_at}
 use Rattle.stub_operations.specs.declared.purpose.Purpose.TheVariants.{Record}
 use Rattle.stub_operations.specs.Operations.{operations_below}
@@ -18,16 +15,13 @@ use Rattle.sys_script_lines.specs.Scripts.{Breaks, IsRead, Reads, SaidSoFar, Scr
 use Rattle.isolation_check_rules.specs.Places.{IsPlaced, Literal}
 use Rattle.isolation_check.specs.Literals.{literals_in}
 use Rattle.cut_graph_rules.specs.Findings.{Cut}
-use Rattle.space_memory.specs.Spaces.{SpaceState}
 use Rattle.space_memory_laws.specs.StandsFor.{StandsFor}
 use Rattle.call_inspector.specs.Ending.{ending_of, ending_text}
 use Rattle.call_inspector.specs.MemoryText.{memory_text}
-use Rattle.call_inspector.specs.ReportText.{report_text}
 use Rattle.call_inspector.specs.ThreadText.{threads_from}
 use Rattle.front_end.specs.declared.source.CheckedSource.{CheckedSource}
 use Rattle.cut_check.specs.Sources.{cut_of}
 use Rattle.cut_check.proofs.OneText.{one_annotated, one_program}
-use Rattle.whole_runs.specs.declared.ending.Ending.{Ending}
 use Rattle.whole_runs.specs.World.{World, begin}
 use Rattle.whole_runs.specs.Sides.{seen}
 use Rattle.whole_runs.specs.Log.{log_of, replay_output, system_output}
@@ -35,13 +29,13 @@ use Rattle.whole_runs.specs.Recorded.{IsRecording, Told, full_records}
 use Rattle.whole_runs_laws.proofs.OneStep.{steps_determined}
 use Rattle.whole_runs_laws.proofs.OneFault.{faults_determined}
 use Rattle.whole_runs_laws.proofs.Runs.{one_run}
-use Rattle.whole_runs_sources.specs.Laws.{IsPlacedAs, IsWorldOf}
+use Rattle.whole_runs_sources.specs.Laws.{IsWorldOf}
 use Rattle.r2_cli_outcome.specs.declared.status.Status.TheVariants.{System}
 use Rattle.r2_cli_outcome.specs.Outcome.{Outcome, err, file, out, refusal}
-use Rattle.r2_cli_outcome.specs.Stages.{Answer, ended, passed}
+use Rattle.r2_cli_outcome.specs.Stages.{ended, passed}
 use Rattle.r2_cli_outcome.proofs.Decided.{IsOne}
 use Rattle.recording_texts.specs.Endings.{ending_line, status_of}
-use Rattle.recorded_outcome.specs.Recorded.{IsRecordingOf, recorded, run_of}
+use Rattle.recorded_outcome.specs.Recorded.{IsRecordingOf, recorded}
 use Rattle.recorded_outcome.specs.Stages.{RecordingOf, SystemOf, line_words, recorded_as, right, script_for, wrong}
 use Rattle.recorded_outcome.proofs.OneReport.{memory_same}
 use Rattle.recorded_outcome.proofs.OnePlaces.{one_placed}

@@ -8,7 +8,6 @@ use Rattle.marks.specs.Bytes as marks
 use Rattle.marks.specs.Marks.{Mark}
 use Rattle.marks.specs.Places.{is_system, system_end, system_globals}
 use Rattle.marks.specs.Ranges.{covers}
-use Rattle.c_code.specs.Machine.{Flat}
 use Rattle.replay_runs.specs.Runs.{Start, byte}
 use Rattle.space_memory_bytes.specs.Areas.{byte_at}
 use Rattle.space_memory_access.specs.declared.holder.Region.{Region}

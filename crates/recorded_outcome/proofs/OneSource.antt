@@ -1,18 +1,14 @@
 -- What an accepted source is, whichever typed program stands for it.
-use Rattle.std.proofs.Common.{◌≡◌, ℕ, List, length, Option, refl, sym, ap, ◌∙◌}
+use Rattle.std.proofs.Common.{◌≡◌, ℕ, List, length, Option, sym, ap, ◌∙◌}
 use Rattle.c_lexer.specs.declared.token.Token.{Token}
 use Rattle.c_lexer.proofs.Readings as reading
 use Rattle.c_syntax.specs.Syntax.{Decls}
-use Rattle.c_code.specs.Machine.{Flat}
 use Rattle.c_types_rules.specs.Limits as typing
 use Rattle.c_types_rules.specs.Limits.{Outcome, Typed, outcome}
 use Rattle.c_types.specs.Texts.{texts_among}
-use Rattle.c_types_program.specs.declared.text.TextLiteral.{TextLiteral}
 use Rattle.c_types_program.specs.Programs.{texts_in}
-use Rattle.c_types_program.specs.Declarations.{Declared}
-use Rattle.annot_reader.specs.Interface.{Interface}
 use Rattle.sys_script_lines.specs.declared.externals.External.{External}
-use Rattle.sys_script_lines.specs.Scripts.{Script, script_of}
+use Rattle.sys_script_lines.specs.Scripts.{script_of}
 use Rattle.sys_script.specs.Externals.{external_in}
 use Rattle.front_end.specs.declared.source.CheckedSource.{CheckedSource}
 use Rattle.front_end.specs.Answers.{IsAccepted, SaysOf}

@@ -25,7 +25,7 @@ use Rattle.stub_meaning.specs.Meaning.{called, first_of, type_of}
 use Rattle.replay_runs.specs.Runs.{Allowed, byte}
 use Rattle.replay_runs.specs.Interface.{Committing, Interface}
 use Rattle.replay_runs.specs.Pool.{in_use}
-use Rattle.replay_runs.specs.Checks.{Answered, BreachFound, Check, Checks, Done, FaultFound, Finding, Finds, Passes, checks, constant_check, indirect_check, is_breach_found, is_fault_found, mode_checks, return_checks}
+use Rattle.replay_runs.specs.Checks.{BreachFound, Check, Checks, Done, FaultFound, Finding, Finds, Passes, checks, constant_check, indirect_check, is_breach_found, is_fault_found, mode_checks, return_checks}
 use Rattle.system_side.specs.Schedule.{wish_at}
 use Rattle.system_side.specs.Threads.{order_of}
 use Rattle.log_codec.specs.LogText.{Chunk, log_text}
@@ -38,7 +38,7 @@ use Rattle.whole_runs.specs.Picks.{Asked, all_ended, asked, can_step, is_free, i
 use Rattle.whole_runs.specs.Memory.{Has, HasAll, filled, left_by, real}
 use Rattle.whole_runs.specs.Below.{ByPool, Given, IsForbidden, Missing, NoMore, Nowhere, Says, Target, To, commit_target, given, given_by, last_under, pieces_for, prepared_below, prepared_by, read_checks, region_under, target_at, target_used, targets, touch_checks}
 use Rattle.whole_runs.specs.Tests.{back_checks, checks_above, checks_below, comes_up, external_checks, free_checks, full_check, give_checks, is_back, is_changed, piece_check, piece_checks, replay_checks, ret_checks, step_checks, tests, with_answer}
-use Rattle.whole_runs.specs.Steps.{Agrees, Brings, BringsGiven, EventAgrees, GivesStep, GoesOn, IsFault, IsGiven, IsMade, IsMark, IsStep, Picked, StepOf, called_below, calls_back, fault_below, first_read, goes_up, read_by, rules_above}
+use Rattle.whole_runs.specs.Steps.{Agrees, Brings, BringsGiven, EventAgrees, GivesStep, GoesOn, IsFault, IsGiven, IsMade, IsMark, IsStep, Picked, StepOf, called_below, calls_back, fault_below, first_read, read_by, rules_above}
 use Rattle.whole_runs.specs.Records.{version}
 use Rattle.whole_runs.specs.Ends as ends
 use Rattle.whole_runs.specs.Ends.{Follows, IsFound, IsLast, IsMadeEvent, IsNext, IsRun, Lacks, stop_of, stops}

@@ -1,7 +1,6 @@
 -- What reading a system file comes to.
-use Rattle.std.proofs.Common.{◌≡◌, ℕ, List, Result, Ok, Err, refl, sym, ap, subst}
+use Rattle.std.proofs.Common.{◌≡◌, ℕ, List, Ok, Err, refl, sym, ap}
 use Rattle.system_side.specs.declared.file.SysFile.{SysFile}
-use Rattle.sys_script_lines.specs.declared.error.ScriptError.{ScriptError}
 use Rattle.sys_script_lines.specs.declared.error.ScriptError.TheVariants.{Line}
 use Rattle.sys_script_lines.specs.Scripts.{Breaks, IsRead, Reads, SaidSoFar, Script}
 use Rattle.front_end.specs.declared.source.CheckedSource.{CheckedSource}

@@ -1,6 +1,6 @@
 //! A recording of an accepted source.
 
-ghost use Rattle.std.specs.Prelude.{◌≤◌, IfOk, List, Ok, [], length, ℕ};
+ghost use Rattle.std.specs.Prelude.{◌≡◌, ◌≤◌, IfOk, List, Ok, [], length, ℕ};
 ghost use Rattle.source_limits.specs.Limits.{most_bytes};
 ghost use Rattle.cut_check.specs.Lines.{LinesOf};
 ghost use Rattle.front_end.specs.Answers.{IsAccepted};
@@ -39,6 +39,13 @@ fn placed_of(alloc: Global, source: &CheckedSource) -> Result<Placed, AllocError
     }
 }
 
+/// The code of a source, fused; the rest of the source is given up.
+fn fused(alloc: Global, source: CheckedSource) -> Result<FusedCode, AllocError>
+    ensures { IfOk result (λ fused. fused ≡ source.code) }
+{
+    FusedCode::new(alloc, source.code)
+}
+
 /// What the run of an accepted source in which nothing is found is told of, for a system file that is read for it, and the code that ran.
 fn recorded(
     alloc: Global,
@@ -55,7 +62,7 @@ fn recorded(
     accepted_sources_have_few_functions();
     let placed = placed_of(alloc, &source)?;
     let stubs = record_stubs(alloc, &source.program, &source.interface)?;
-    let code = FusedCode::new(alloc, source.code)?;
+    let code = fused(alloc, source)?;
     accepted_sources_fit();
     let recorded = record_run(alloc, &code, &placed, &stubs, file)?;
     Ok((code, recorded))

@@ -29,11 +29,11 @@ pieces_length (p ∷ ps) =
     ∙ omega (arith, length-append (to_be_bytes w32 (length p)) p, pieces_length ps)
     ∙ sym (sum_by-cons (λ (bytes : List ℕ). 4 + length bytes) p ps)
 
-pub call_length : (e : Event) (func : ℕ) (args words : List ℕ) → e ≡ Call func args → words ≡ args → 3 + 8 * length words ≡ length (body_text version.number (in_full e))
-call_length e func args words is same = omega (arith, ap length same, words_length args) ∙ ap (λ e. length (body_text version.number (in_full e))) (sym is)
+pub call_length : (e : Event) (func : ℕ) (args : List ℕ) (count : ℕ) → e ≡ Call func args → count ≡ length args → 3 + 8 * count ≡ length (body_text version.number (in_full e))
+call_length e func args count is same = omega (arith, same, words_length args) ∙ ap (λ e. length (body_text version.number (in_full e))) (sym is)
 
-pub up_length : (e : Event) (func : ℕ) (args words : List ℕ) → e ≡ Up func args → words ≡ args → 3 + 8 * length words ≡ length (body_text version.number (in_full e))
-up_length e func args words is same = omega (arith, ap length same, words_length args) ∙ ap (λ e. length (body_text version.number (in_full e))) (sym is)
+pub up_length : (e : Event) (func : ℕ) (args : List ℕ) (count : ℕ) → e ≡ Up func args → count ≡ length args → 3 + 8 * count ≡ length (body_text version.number (in_full e))
+up_length e func args count is same = omega (arith, same, words_length args) ∙ ap (λ e. length (body_text version.number (in_full e))) (sym is)
 
 pub ret_length : (e : Event) (same : Bool) (result : ℕ) (outs : List (List ℕ)) (size : ℕ) → e ≡ Ret same result outs → size ≡ sum_by (λ (bytes : List ℕ). 4 + length bytes) outs → 10 + size ≡ length (body_text version.number (in_full e))
 ret_length e same result outs size is sum = omega (arith, sum, pieces_length outs) ∙ ap (λ e. length (body_text version.number (in_full e))) (sym is)

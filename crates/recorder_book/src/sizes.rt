@@ -35,13 +35,13 @@ fn body_size(event: &Event) -> u64
     ensures small { result < 2 ^ 39 }
 {
     match event {
-        Event::Call { func: _, args } => 3 + 8 * args.as_slice().len() as u64,
+        Event::Call { func: _, args } => 3 + 8 * args.len() as u64,
         Event::Ret {
             same: _,
             result: _,
             outs,
         } => 10 + pieces_size(outs),
-        Event::Up { func: _, args } => 3 + 8 * args.as_slice().len() as u64,
+        Event::Up { func: _, args } => 3 + 8 * args.len() as u64,
         Event::UpRet { .. } => 8,
         Event::Alloc { .. } => 16,
         Event::Free { .. } => 8,

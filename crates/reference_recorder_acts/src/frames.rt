@@ -11,9 +11,9 @@ use crate::frame_bytes::frame_bytes;
 use crate::next::next_mark;
 use marks::Side;
 use recorder_state::Inputs;
-use reference_recorder_marks::{Act, Mark};
+use reference_recorder_marks::{Act, Mark, WordList};
 use reference_recorder_regions::{frames_on, room_on};
-use run_events::{Bytes, Words};
+use run_events::Bytes;
 use std::alloc::{AllocError, Global};
 
 /// The mark of the step in which the thread enters the function with these arguments, which gets a frame: by a call that keeps the
@@ -40,7 +40,7 @@ pub fn enter(
     };
     let act = Act::Enter {
         func,
-        args: Words::from_slice(alloc, args)?,
+        args: WordList::from_slice(alloc, args)?,
         at,
         bytes: Bytes::from(bytes),
     };

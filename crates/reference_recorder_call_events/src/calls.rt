@@ -14,8 +14,7 @@ use marks::Side;
 use recorder_state::Inputs;
 use reference_recorder_events::next_event;
 use reference_recorder_laws::bytes_are_low;
-use reference_recorder_marks::{EventKind, Mark, PieceList, PreparedList, RangeList};
-use run_events::Words;
+use reference_recorder_marks::{EventKind, Mark, PieceList, PreparedList, RangeList, WordList};
 use std::alloc::{AllocError, Global};
 use stub_calls::Done;
 
@@ -74,7 +73,7 @@ fn call_kind(
 {
     let sizes = sizes(alloc, done.ins())?;
     let ins = pieces(alloc, memory, done.ins(), &sizes)?;
-    let args = Words::from_slice(alloc, args)?;
+    let args = WordList::from_slice(alloc, args)?;
     let outs = Vec::from_slice(alloc, done.outs())?;
     let prepared = Vec::from_slice(alloc, done.prepares())?;
     Ok(EventKind::Call {

@@ -18,10 +18,9 @@ use recorder_state::Inputs;
 use reference_recorder_events::next_event;
 use reference_recorder_given::Given;
 use reference_recorder_laws::bytes_are_low;
-use reference_recorder_marks::{EventKind, Mark, PieceList};
+use reference_recorder_marks::{EventKind, Mark, PieceList, WordList};
 use reference_recorder_records::logged_pieces;
 use reference_recorder_targets::{pieces_for, targets};
-use run_events::Words;
 use std::alloc::{AllocError, Global};
 use stub_calls::{Done, caching_is_of_the_function, keys_are_of_arguments};
 
@@ -171,7 +170,7 @@ fn return_kind(
         ended.value,
         &logged,
     )?;
-    let args = Words::from_slice(alloc, ended.args)?;
+    let args = WordList::from_slice(alloc, ended.args)?;
     Ok(EventKind::Ret {
         func: ended.func,
         args,

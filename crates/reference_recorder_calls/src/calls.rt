@@ -9,9 +9,9 @@ ghost use Rattle.reference_recorder_marks.specs.Marks.{act_of, kind_of, past};
 ghost use Rattle.reference_recorder_calls.specs.Mine.{AreOpenCalls};
 
 use marks::Range;
-use reference_recorder_marks::{Act, EventKind, Mark, Piece, PieceList, RangeList, is_above};
-use reference_recorder_records::copy_words;
-use run_events::Words;
+use reference_recorder_marks::{
+    Act, EventKind, Mark, Piece, PieceList, RangeList, WordList, is_above,
+};
 use std::alloc::{AllocError, Global};
 use std::marker::Model;
 
@@ -19,7 +19,7 @@ use std::marker::Model;
 #[derive(Drop)]
 pub struct OpenCall {
     pub func: u16,
-    pub args: Words,
+    pub args: WordList,
     pub ins: RangeList,
     pub outs: RangeList,
 }
@@ -52,7 +52,7 @@ fn ranges_of(alloc: Global, pieces: &[Piece]) -> Result<RangeList, AllocError>
 fn opened(
     alloc: Global,
     func: u16,
-    args: &Words,
+    args: &WordList,
     ins: &PieceList,
     outs: &RangeList,
 ) -> Result<OpenCall, AllocError>
@@ -65,7 +65,7 @@ fn opened(
 {
     Ok(OpenCall {
         func,
-        args: copy_words(alloc, args)?,
+        args: WordList::from_slice(alloc, args.as_slice())?,
         ins: ranges_of(alloc, ins.as_slice())?,
         outs: RangeList::from(Vec::from_slice(alloc, outs.as_slice())?),
     })

@@ -13,9 +13,8 @@ use crate::making::next_event;
 use c_code_fused::FusedCode;
 use recorder_state::{Inputs, main_of};
 use reference_recorder_calls::open_ups;
-use reference_recorder_marks::{EventKind, Mark};
+use reference_recorder_marks::{EventKind, Mark, WordList};
 use reference_recorder_regions::is_registered;
-use run_events::Words;
 use std::alloc::{AllocError, Global};
 use stub_calls::Done;
 
@@ -41,7 +40,7 @@ pub fn up(
     ensures { (u : IsUpNext (world_of inputs.entry) marks.now thread func args.now) →
         IfOk result (IsMadeAs (world_of inputs.entry) u.next.at.past.run u.next.at.step) }
 {
-    let args = Words::from_slice(alloc, args)?;
+    let args = WordList::from_slice(alloc, args)?;
     let no_call = Done::new(alloc);
     next_event(
         alloc,

@@ -14,6 +14,6 @@ pub use bytes::{
 pub use events::{
     clock_of, counts, has_key, is_above, is_below, is_event, keys_of, same_key, ticket_of,
 };
-pub use lists::{Piece, PieceList, PreparedList, RangeList};
+pub use lists::{Piece, PieceList, PreparedList, RangeList, WordList};
 pub use mark::{Access, Act, Commit, Event, EventKind, Mark};
 pub use ranges::{any_piece, any_prepared, any_range, byte_at};

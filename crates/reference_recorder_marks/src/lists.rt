@@ -1,11 +1,11 @@
-//! Lists of what marks carry. Contracts see each as the list of its items. Each is made from a vector and gives it back without
-//! taking memory.
+//! Lists of what marks carry. Contracts see each as the list of its items. Lists of pieces and ranges are made from vectors and
+//! give them back without taking memory.
 
-ghost use Rattle.std.specs.Prelude.{◌≡◌, []};
+ghost use Rattle.std.specs.Prelude.{◌≡◌, [], IfOk};
 
 use marks::Range;
 use run_events::Bytes;
-use std::alloc::Global;
+use std::alloc::{AllocError, Global};
 use std::marker::Model;
 use stub_calls::Prepared;
 
@@ -22,6 +22,37 @@ impl Model for Piece {
     ghost Value = { Piece };
 
     ghost view = { λ p. record { range = p.range; bytes = p.bytes } };
+}
+
+/// Values of 64 bits.
+#[derive(Drop)]
+pub struct WordList {
+    items: Vec<u64>,
+}
+
+impl Model for WordList {
+    ghost use Rattle.std.specs.Prelude.{ℕ, List};
+
+    ghost Value = { List ℕ };
+
+    ghost view = { λ l. l.items.items };
+}
+
+impl WordList {
+    /// A copy of these values.
+    pub fn from_slice(alloc: Global, values: &[u64]) -> Result<Self, AllocError>
+        ensures { IfOk result (λ copy. copy ≡ values.now) }
+    {
+        let items = Vec::from_slice(alloc, values)?;
+        Ok(WordList { items })
+    }
+
+    /// The values, in order.
+    pub fn as_slice(&self) -> &[u64]
+        ensures { result.now ≡ self.now }
+    {
+        &self.items
+    }
 }
 
 /// Ranges, each with its first bytes.

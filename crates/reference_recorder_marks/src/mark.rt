@@ -1,8 +1,8 @@
 //! What a thread of a run does, one mark at a time: the types, field for field those in which contracts speak of marks.
 
-use crate::lists::{Piece, PieceList, PreparedList, RangeList};
+use crate::lists::{Piece, PieceList, PreparedList, RangeList, WordList};
 use marks::{FaultKind, Range, Side};
-use run_events::{Bytes, Marks, Words};
+use run_events::{Bytes, Marks};
 
 /// The access that a fault stops.
 #[derive(Clone, Copy)]
@@ -30,14 +30,14 @@ pub enum Commit {
 pub enum EventKind {
     Call {
         func: u16,
-        args: Words,
+        args: WordList,
         ins: PieceList,
         outs: RangeList,
         prepared: PreparedList,
     },
     Ret {
         func: u16,
-        args: Words,
+        args: WordList,
         result: u64,
         same: bool,
         outs: PieceList,
@@ -45,7 +45,7 @@ pub enum EventKind {
     },
     Up {
         func: u16,
-        args: Words,
+        args: WordList,
     },
     UpRet {
         func: u16,
@@ -89,7 +89,7 @@ pub enum Act {
     },
     Enter {
         func: u16,
-        args: Words,
+        args: WordList,
         at: u64,
         bytes: Bytes,
     },
@@ -99,7 +99,7 @@ pub enum Act {
     },
     Step {
         func: u16,
-        args: Words,
+        args: WordList,
         result: u64,
         ins: PieceList,
         pieces: PieceList,

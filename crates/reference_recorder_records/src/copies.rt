@@ -3,12 +3,12 @@
 ghost use Rattle.std.specs.Prelude.{◌≡◌, ◌++◌, IfOk, OnOk};
 ghost use Rattle.marks.specs.Ranges.{piece_bytes};
 
-use reference_recorder_marks::Piece;
+use reference_recorder_marks::{Piece, WordList};
 use run_events::{Bytes, Marks, Words};
 use std::alloc::{AllocError, Global};
 
-/// A copy of values.
-pub fn copy_words(alloc: Global, words: &Words) -> Result<Words, AllocError>
+/// A copy of values, as an event has them.
+pub fn copy_words(alloc: Global, words: &WordList) -> Result<Words, AllocError>
     ensures { IfOk result (λ copy. copy ≡ words.now) }
 {
     Words::from_slice(alloc, words.as_slice())

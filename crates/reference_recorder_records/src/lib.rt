@@ -6,6 +6,6 @@ mod copies;
 mod counts;
 mod records;
 
-pub use copies::{copy_bytes, copy_words};
+pub use copies::copy_bytes;
 pub use counts::{bytes, events};
 pub use records::{full_record, logged_pieces, size_of};

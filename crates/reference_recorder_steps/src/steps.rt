@@ -22,9 +22,8 @@ use marks::Side;
 use recorder_state::Inputs;
 use reference_recorder_acts::next_mark;
 use reference_recorder_given::Given;
-use reference_recorder_marks::{Act, Mark};
+use reference_recorder_marks::{Act, Mark, WordList};
 use reference_recorder_outcomes::builtin_of;
-use run_events::Words;
 use std::alloc::{AllocError, Global};
 
 /// The mark that a run makes after these, the oldest first, where the thread calls the builtin or external below the cut, which comes
@@ -85,7 +84,7 @@ fn carried_by(
 fn act_with(alloc: Global, func: u16, args: &[u64], carried: Carried) -> Result<Act, AllocError>
     ensures { IfOk result (λ a. a ≡ act_with (step_of func args.now carried)) }
 {
-    let args = Words::from_slice(alloc, args)?;
+    let args = WordList::from_slice(alloc, args)?;
     Ok(Act::Step {
         func,
         args,

@@ -12,4 +12,4 @@ pub use event::{Event, EventName, LOG_THREADS, Reason, Record, Stamp};
 pub use key::{Class, Key, KeyMark};
 pub use marks::{Marks, UnpackedMarks};
 pub use pieces::{Bytes, Pieces};
-pub use words::Words;
+pub use words::{UnpackedWords, Words};

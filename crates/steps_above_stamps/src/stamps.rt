@@ -42,7 +42,8 @@ fn with_marks(steps: u32, stamp: Stamp, marks: Marks) -> EventStamp
     ensures ranges { CanBeRecorded result }
 {
     let mut marks = marks;
-    marks.set_tickets(stamp.tickets.as_slice());
+    let tickets = stamp.tickets.unpacked();
+    marks.set_tickets(tickets.as_slice());
     stamp_with(steps, stamp.clock, marks)
 }
 

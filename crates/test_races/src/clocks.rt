@@ -46,7 +46,8 @@ fn stamped(alloc: Global, cases: &[Case]) -> Result<usize, AllocError>
     let mut right = 0;
     for case in cases {
         let stamp = next_stamp(alloc, &mut clocks, case.thread % 3, case.key)?;
-        if stamp.clock == case.clock && stamp.tickets.as_slice() == [case.ticket].as_slice() {
+        let tickets = stamp.tickets.unpacked();
+        if stamp.clock == case.clock && tickets.as_slice() == [case.ticket].as_slice() {
             right += 1;
         }
     }

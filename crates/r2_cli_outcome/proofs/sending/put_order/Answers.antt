@@ -1,7 +1,7 @@
-use Rattle.std.proofs.Common.{rules, arith, ◌≡◌, [], ◌+◌, ◌++◌, ◌∙◌, ℕ, List, ap}
+use Rattle.std.proofs.Common.{rules, arith, ◌≡◌, [], ◌+◌, ◌++◌, ◌∙◌, ℕ, List, ap, refl}
 use Rattle.event_texts.specs.EventTexts.{lines_text}
 use Rattle.r2_cli_outcome.proofs.AfterLemmas.{later_then}
-use Rattle.r2_cli_outcome.proofs.SendingLemmas.{nothing_waits, nothing_put, lines_wait, stops_at, refused_at, went_on, all_sent, later_same}
+use Rattle.r2_cli_outcome.proofs.SendingLemmas.{end_made, later_same, lines_made, more_sent, nothing_put, nothing_sent, refused_sending, rest_sent, stops_sending}
 use Rattle.r2_cli_outcome.proofs.sending.put_order.Goals as goal
 
 pub returns-in_err-lines-clause-later : goal.returns-in_err-lines-clause-later
@@ -13,40 +13,42 @@ returns-in_err-lines-clause-puts g c = nothing_put _ _ _ _ c.from_residual.ensur
 pub loop-from-init : goal.loop-from-init
 loop-from-init g c =
     let empty : c.new-text.result.items ≡ [] = search rules in
-    record { sending = nothing_waits _ _ _ empty; later = later_same _ }
+    record { sending = nothing_sent _ _ _ _ empty; later = later_same _ }
 
 pub returns-in_err-read_lines-clause-puts : goal.returns-in_err-read_lines-clause-puts
-returns-in_err-read_lines-clause-puts g c = stops_at _ _ _ _ c.loop-from.text.items c.loop-from.from _ c.from_residual-in_err-read_lines.ensures.1 c.loop-from.invariant.sending
+returns-in_err-read_lines-clause-puts g c = stops_sending _ _ _ c.loop-from.text.items _ _ _ c.from_residual-in_err-read_lines.ensures.1 c.loop-from.invariant.sending
 
 pub returns-in_err-put_lines-clause-puts : goal.returns-in_err-put_lines-clause-puts
-returns-in_err-put_lines-clause-puts g c = stops_at _ _ _ _ c.loop-from.text.items c.loop-from.from _ c.from_residual-in_err-put_lines.ensures.1 c.loop-from.invariant.sending
+returns-in_err-put_lines-clause-puts g c = stops_sending _ _ _ c.loop-from.text.items _ _ _ c.from_residual-in_err-put_lines.ensures.1 c.loop-from.invariant.sending
 
 pub returns-in_err-put_long-clause-later : goal.returns-in_err-put_long-clause-later
 returns-in_err-put_long-clause-later g c = later_then _ _ _ c.loop-from.invariant.later c.in_err-put_long.ensures.later
 
 pub returns-in_err-put_long-clause-puts : goal.returns-in_err-put_long-clause-puts
 returns-in_err-put_long-clause-puts g c =
-    refused_at _ _ _ _ _ _ c.put_lines.new.text.items (c.loop-from.from + c.min.result) _ c.from_residual-in_err-put_long.ensures.1 c.loop-from.invariant.later
-    (lines_wait _ c.args.part.now.events _ _ c.loop-from.text.items _ _ c.loop-from.from (c.loop-from.from + c.min.result) c.in_ok-read_lines.ensures c.loop-from.invariant.sending
+    refused_sending _ _ _ _ _ c.put_lines.new.text.items _ _ _ c.from_residual-in_err-put_long.ensures.1 c.loop-from.invariant.later
+    (lines_made _ c.args.part.now.events _ _ c.loop-from.text.items _ _ c.loop-from.from (c.loop-from.from + c.min.result) c.in_ok-read_lines.ensures c.loop-from.invariant.sending
     (c.in_ok-put_lines.ensures ∙ ap (λ (ls : List (List ℕ)). c.loop-from.text.items ++ lines_text ls) c.deref.ensures.value))
     c.in_err-put_long.ensures.sends
 
 pub loop-from-preserved : goal.loop-from-preserved
 loop-from-preserved g c = record {
-  sending = went_on _ _ _ _ c.put_lines.new.text.items _ _
-      (lines_wait _ c.args.part.now.events _ _ c.loop-from.text.items _ _ c.loop-from.from (c.loop-from.from + c.min.result) c.in_ok-read_lines.ensures c.loop-from.invariant.sending
+  sending = more_sent _ _ _ _ c.put_lines.new.text.items _ _ _
+      (lines_made _ c.args.part.now.events _ _ c.loop-from.text.items _ _ c.loop-from.from (c.loop-from.from + c.min.result) c.in_ok-read_lines.ensures c.loop-from.invariant.sending
       (c.in_ok-put_lines.ensures ∙ ap (λ (ls : List (List ℕ)). c.loop-from.text.items ++ lines_text ls) c.deref.ensures.value))
       c.in_ok-put_long.ensures.sends;
   later = later_then _ _ _ c.loop-from.invariant.later c.in_ok-put_long.ensures.later;
 }
 
 pub returns-in_err-put_end-clause-puts : goal.returns-in_err-put_end-clause-puts
-returns-in_err-put_end-clause-puts g c = stops_at _ _ _ _ c.loop-from.text.items c.loop-from.from _ c.from_residual-in_err-put_end.ensures.1 c.loop-from.invariant.sending
+returns-in_err-put_end-clause-puts g c = stops_sending _ _ _ c.loop-from.text.items _ _ _ c.from_residual-in_err-put_end.ensures.1 c.loop-from.invariant.sending
 
 pub returns-clause-later : goal.returns-clause-later
 returns-clause-later g c = later_then _ _ _ c.loop-from.invariant.later c.put_piece.ensures.later
 
 pub returns-clause-puts : goal.returns-clause-puts
 returns-clause-puts g c =
-    all_sent _ c.args.part.now.events _ _ _ c.loop-from.text.items c.put_end.new.text.items c.deref-2.result.now c.loop-from.from c.count-count.result _
-    (omega (arith, c.loop-from-test.false, c.count-count.ensures)) c.count-count.ensures c.loop-from.invariant.later c.loop-from.invariant.sending c.in_ok-put_end.ensures c.deref-2.ensures.value c.put_piece.ensures.puts
+    rest_sent _ _ _ _ c.put_end.new.text.items [] _ c.deref-2.result.now _ refl c.loop-from.invariant.later
+    (end_made _ c.args.part.now.events _ _ c.loop-from.text.items c.put_end.new.text.items c.loop-from.from c.count-count.result
+    (omega (arith, c.loop-from-test.false, c.count-count.ensures)) c.count-count.ensures c.loop-from.invariant.sending c.in_ok-put_end.ensures)
+    c.deref-2.ensures.value c.put_piece.ensures.puts
