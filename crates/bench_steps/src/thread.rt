@@ -219,12 +219,19 @@ fn made(
     None
 }
 
+/// The code of the source.
+fn fused(alloc: Global, source: &[u8]) -> anyhow::Result<FusedCode>
+    requires { length source.now ≤ most_bytes }
+{
+    let source = check_source(alloc, source, b"bench")?;
+    Ok(FusedCode::new(alloc, source.code)?)
+}
+
 /// How many marks a loop makes whose `main` has the number, and what it gives.
 fn over_source(alloc: Global, source: &[u8], main: u16) -> anyhow::Result<(u64, u64)>
     requires { length source.now ≤ most_bytes }
 {
-    let source = check_source(alloc, source, b"bench")?;
-    let code = FusedCode::new(alloc, source.code)?;
+    let code = fused(alloc, source)?;
     let placed = placed(alloc)?;
     let mut thread = begun(alloc, &code, &placed, main, &[])?;
     let mut memory = Memory::new(alloc)?;

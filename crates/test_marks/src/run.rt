@@ -1,6 +1,6 @@
 // Runs of one thread.
 
-use crate::image::image_of;
+use crate::image::{Image, image_of};
 use crate::steps::drive;
 use crate::track::Track;
 use c_code::Side;
@@ -35,7 +35,12 @@ pub struct Run<'a> {
 /// answer (`stuck`) or no depth is left (`full`), or to a great number of marks (`..`).
 pub fn marks_of(alloc: Global, source: &str, run: &Run<'_>) -> Result<String, SourceError> {
     let image = image_of(alloc, source)?;
-    let mut track = Track::new(alloc, &image, &run.below);
-    drive(alloc, &image, &mut track, run)?;
+    marks_in(alloc, &image, run)
+}
+
+/// The same for the source that the image is of.
+fn marks_in(alloc: Global, image: &Image, run: &Run<'_>) -> Result<String, SourceError> {
+    let mut track = Track::new(alloc, image, &run.below);
+    drive(alloc, image, &mut track, run)?;
     Ok(track.finish()?)
 }
