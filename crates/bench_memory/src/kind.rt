@@ -6,7 +6,7 @@ use marks::Side;
 
 /// What is accessed, in which width, and by whom.
 #[derive(Clone, Copy)]
-pub enum Kind {
+pub enum AccessKind {
     /// Loads and stores of 8 bytes above the cut.
     Words,
     /// The same of 4 bytes, of 2, and of one.
@@ -26,31 +26,31 @@ pub enum Kind {
 }
 
 /// All of them.
-pub const KINDS: [Kind; 9] = [
-    Kind::Words,
-    Kind::Ints,
-    Kind::Shorts,
-    Kind::Bytes,
-    Kind::Constants,
-    Kind::Below,
-    Kind::Beside,
-    Kind::Handed,
-    Kind::Ranges,
+pub const KINDS: [AccessKind; 9] = [
+    AccessKind::Words,
+    AccessKind::Ints,
+    AccessKind::Shorts,
+    AccessKind::Bytes,
+    AccessKind::Constants,
+    AccessKind::Below,
+    AccessKind::Beside,
+    AccessKind::Handed,
+    AccessKind::Ranges,
 ];
 
-impl Kind {
+impl AccessKind {
     /// Its word.
     pub fn name(self) -> &'static str {
         match self {
-            Kind::Words => "words",
-            Kind::Ints => "ints",
-            Kind::Shorts => "shorts",
-            Kind::Bytes => "bytes",
-            Kind::Constants => "constants",
-            Kind::Below => "below",
-            Kind::Beside => "beside",
-            Kind::Handed => "handed",
-            Kind::Ranges => "ranges",
+            AccessKind::Words => "words",
+            AccessKind::Ints => "ints",
+            AccessKind::Shorts => "shorts",
+            AccessKind::Bytes => "bytes",
+            AccessKind::Constants => "constants",
+            AccessKind::Below => "below",
+            AccessKind::Beside => "beside",
+            AccessKind::Handed => "handed",
+            AccessKind::Ranges => "ranges",
         }
     }
 
@@ -60,39 +60,43 @@ impl Kind {
         ensures at_most_8 { result ≤ 8 }
     {
         match self {
-            Kind::Words => 8,
-            Kind::Ints | Kind::Below | Kind::Beside | Kind::Handed | Kind::Ranges => 4,
-            Kind::Shorts => 2,
-            Kind::Bytes | Kind::Constants => 1,
+            AccessKind::Words => 8,
+            AccessKind::Ints
+            | AccessKind::Below
+            | AccessKind::Beside
+            | AccessKind::Handed
+            | AccessKind::Ranges => 4,
+            AccessKind::Shorts => 2,
+            AccessKind::Bytes | AccessKind::Constants => 1,
         }
     }
 
     /// Whose code makes them.
     pub fn side(self) -> Side {
         match self {
-            Kind::Below | Kind::Handed => Side::System,
-            Kind::Words
-            | Kind::Ints
-            | Kind::Shorts
-            | Kind::Bytes
-            | Kind::Constants
-            | Kind::Beside
-            | Kind::Ranges => Side::Replay,
+            AccessKind::Below | AccessKind::Handed => Side::System,
+            AccessKind::Words
+            | AccessKind::Ints
+            | AccessKind::Shorts
+            | AccessKind::Bytes
+            | AccessKind::Constants
+            | AccessKind::Beside
+            | AccessKind::Ranges => Side::Replay,
         }
     }
 
     /// Whose memory it is.
     pub fn home(self) -> Side {
         match self {
-            Kind::Below => Side::System,
-            Kind::Words
-            | Kind::Ints
-            | Kind::Shorts
-            | Kind::Bytes
-            | Kind::Constants
-            | Kind::Beside
-            | Kind::Handed
-            | Kind::Ranges => Side::Replay,
+            AccessKind::Below => Side::System,
+            AccessKind::Words
+            | AccessKind::Ints
+            | AccessKind::Shorts
+            | AccessKind::Bytes
+            | AccessKind::Constants
+            | AccessKind::Beside
+            | AccessKind::Handed
+            | AccessKind::Ranges => Side::Replay,
         }
     }
 }

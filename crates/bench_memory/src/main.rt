@@ -10,7 +10,7 @@ mod pattern;
 mod plain;
 mod spaces;
 
-use kind::{KINDS, Kind};
+use kind::{AccessKind, KINDS};
 use measured::{over_plain, over_spaces};
 use std::env;
 
@@ -18,7 +18,7 @@ use std::env;
 const FEW: u64 = 10_000;
 
 /// What accesses of a kind make, over the memory of a run or over plain bytes.
-fn made(rt: &HostRuntime, kind: Kind, over: &str, rounds: u64) -> anyhow::Result<u64> {
+fn made(rt: &HostRuntime, kind: AccessKind, over: &str, rounds: u64) -> anyhow::Result<u64> {
     if over == "plain" {
         return Ok(over_plain(rt.alloc(), kind, rounds)?);
     }

@@ -3,7 +3,7 @@
 ghost use Rattle.std.specs.Prelude.{◌≡◌, ◌<◌, ◌^◌, IfOk, length};
 ghost use Rattle.memory_map.specs.declared.areas.TheConstants.{THREADS};
 
-use crate::kind::Kind;
+use crate::kind::AccessKind;
 use crate::pattern::{Pattern, SIZE};
 use crate::{plain, spaces};
 use anyhow::{Context, bail};
@@ -68,7 +68,7 @@ fn hold_beside(alloc: Global, memory: &mut Spaces) -> anyhow::Result<()>
 }
 
 /// The first byte of a block that the kind accesses. What is held is held then.
-fn first_byte(alloc: Global, memory: &mut Spaces, kind: Kind) -> anyhow::Result<u64>
+fn first_byte(alloc: Global, memory: &mut Spaces, kind: AccessKind) -> anyhow::Result<u64>
     requires { length memory.old.held.depths ≡ THREADS }
     ensures { IfOk result (λ base. base < 2 ^ 31) }
 {
@@ -77,59 +77,59 @@ fn first_byte(alloc: Global, memory: &mut Spaces, kind: Kind) -> anyhow::Result<
         bail!("a block out of all memory");
     }
     match kind {
-        Kind::Beside => hold_beside(alloc, memory)?,
-        Kind::Handed => hold(alloc, memory, 0, Range { addr, len: ALL })?,
-        Kind::Words
-        | Kind::Ints
-        | Kind::Shorts
-        | Kind::Bytes
-        | Kind::Constants
-        | Kind::Below
-        | Kind::Ranges => {}
+        AccessKind::Beside => hold_beside(alloc, memory)?,
+        AccessKind::Handed => hold(alloc, memory, 0, Range { addr, len: ALL })?,
+        AccessKind::Words
+        | AccessKind::Ints
+        | AccessKind::Shorts
+        | AccessKind::Bytes
+        | AccessKind::Constants
+        | AccessKind::Below
+        | AccessKind::Ranges => {}
     }
     Ok(addr)
 }
 
 // What so many accesses of a kind make over this memory.
-fn over(alloc: Global, memory: &mut Spaces, kind: Kind, rounds: u64) -> anyhow::Result<u64>
+fn over(alloc: Global, memory: &mut Spaces, kind: AccessKind, rounds: u64) -> anyhow::Result<u64>
     requires { length memory.old.held.depths ≡ THREADS }
 {
     let base = first_byte(alloc, memory, kind)?;
     let width = kind.width();
     let pattern = Pattern { width, rounds };
     match kind {
-        Kind::Constants => Ok(spaces::loads(memory, kind.side(), CONSTANTS.addr, pattern)?),
-        Kind::Ranges => Ok(spaces::ranges(alloc, memory, kind.side(), base, rounds)?),
-        Kind::Words
-        | Kind::Ints
-        | Kind::Shorts
-        | Kind::Bytes
-        | Kind::Below
-        | Kind::Beside
-        | Kind::Handed => Ok(spaces::turns(memory, kind.side(), base, pattern)?),
+        AccessKind::Constants => Ok(spaces::loads(memory, kind.side(), CONSTANTS.addr, pattern)?),
+        AccessKind::Ranges => Ok(spaces::ranges(alloc, memory, kind.side(), base, rounds)?),
+        AccessKind::Words
+        | AccessKind::Ints
+        | AccessKind::Shorts
+        | AccessKind::Bytes
+        | AccessKind::Below
+        | AccessKind::Beside
+        | AccessKind::Handed => Ok(spaces::turns(memory, kind.side(), base, pattern)?),
     }
 }
 
 /// What so many accesses of a kind make over the memory of a run.
-pub fn over_spaces(alloc: Global, kind: Kind, rounds: u64) -> anyhow::Result<u64> {
+pub fn over_spaces(alloc: Global, kind: AccessKind, rounds: u64) -> anyhow::Result<u64> {
     let mut memory = fresh_memory(alloc)?;
     over(alloc, &mut memory, kind, rounds)
 }
 
 /// The same over plain bytes.
-pub fn over_plain(alloc: Global, kind: Kind, rounds: u64) -> Result<u64, AllocError> {
+pub fn over_plain(alloc: Global, kind: AccessKind, rounds: u64) -> Result<u64, AllocError> {
     let mut bytes = zeros(alloc)?;
     let width = kind.width();
     let pattern = Pattern { width, rounds };
     match kind {
-        Kind::Constants => Ok(plain::loads(&bytes, pattern)),
-        Kind::Ranges => plain::ranges(alloc, &mut bytes, rounds),
-        Kind::Words
-        | Kind::Ints
-        | Kind::Shorts
-        | Kind::Bytes
-        | Kind::Below
-        | Kind::Beside
-        | Kind::Handed => Ok(plain::turns(&mut bytes, pattern)),
+        AccessKind::Constants => Ok(plain::loads(&bytes, pattern)),
+        AccessKind::Ranges => plain::ranges(alloc, &mut bytes, rounds),
+        AccessKind::Words
+        | AccessKind::Ints
+        | AccessKind::Shorts
+        | AccessKind::Bytes
+        | AccessKind::Below
+        | AccessKind::Beside
+        | AccessKind::Handed => Ok(plain::turns(&mut bytes, pattern)),
     }
 }

@@ -1,5 +1,5 @@
 -- There is room for a function on whatever side it runs.
-use Rattle.std.proofs.Common.{◌≡◌, ℕ, ◌<◌, false, true, List, sym, subst}
+use Rattle.std.proofs.Common.{◌≡◌, ℕ, ◌<◌, false, true, sym, subst}
 use Rattle.marks.specs.declared.side.Side.{Side}
 use Rattle.marks.specs.declared.side.Side.TheVariants.{Replay, System}
 use Rattle.c_code.specs.Machine.{Laid, Config, entry}

@@ -21,8 +21,8 @@ use Rattle.c_types_rules.specs.Limits.{frame_size}
 use Rattle.c_types_rules.specs.TypeTests.{same_type}
 use Rattle.c_types_rules.specs.TypedTree as typed
 use Rattle.c_semantics.specs.Context.{Source, body_of, builtin_of, is_function_of, local_offsets, param_shapes, result_shape, shape_of, shapes_of, type_of}
-use Rattle.c_lower_rules.specs.Code.{Lies, body_code, making as making_at}
-use Rattle.c_lower_rules.specs.Laws.{IsEmitted, IsFunction, laid}
+use Rattle.c_lower_placement.specs.Code.{Lies, body_code, making as making_at}
+use Rattle.c_lower_placement.specs.Laws.{IsEmitted, IsFunction, laid}
 use Rattle.c_types_table.specs.Tables.{type_at}
 use Rattle.c_types_program.specs.declared.function.Body.{Body}
 use Rattle.c_types_program.specs.declared.function.Function.{Function}

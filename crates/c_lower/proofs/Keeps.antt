@@ -16,9 +16,9 @@ use Rattle.c_types_rules.specs.TypedTree.{Callee, Values, SourceFunction, Builti
 use Rattle.c_semantics.specs.Arguments.{ArgumentsAreConverted, Passes, is_any, is_known}
 use Rattle.c_semantics.specs.Context.{Source, builtin_of, type_of}
 use Rattle.c_semantics.specs.Returned.{ResultsAreConverted}
-use Rattle.c_lower_rules.specs.Code.{making as making_at}
-use Rattle.c_lower_rules.specs.Laws.{IsEmitted, KnowsFunctions, MakesTheMarks, laid}
-use Rattle.c_lower_rules.specs.Placement.{IsSigOf}
+use Rattle.c_lower_placement.specs.Code.{making as making_at}
+use Rattle.c_lower_placement.specs.Laws.{IsEmitted, KnowsFunctions, MakesTheMarks, laid}
+use Rattle.c_lower_placement.specs.Placement.{IsSigOf}
 use Rattle.c_types_program.specs.declared.function.Function.{Function}
 use Rattle.c_types_program.specs.Declarations.{Declared, function_in}
 use Rattle.c_types_program.specs.Programs.{texts_in}

@@ -5,8 +5,8 @@ use Rattle.std.proofs.lemmas.Option.{same_Some, slice_get_within}
 use Rattle.std.proofs.lemmas.Bool.{cases_lt}
 use Rattle.c_code.specs.declared.code.FuncInfo.{FuncInfo}
 use Rattle.c_code.specs.declared.instr.Instr.{Instr}
-use Rattle.c_lower_rules.specs.Code.{Lies, body_code}
-use Rattle.c_lower_rules.specs.Heights.{Stand, body_heights}
+use Rattle.c_lower_placement.specs.Code.{Lies, body_code}
+use Rattle.c_lower_placement.specs.Heights.{Stand, body_heights}
 use Rattle.c_types_program.specs.declared.function.Body.{Body}
 use Rattle.c_types_program.specs.declared.function.Function.{Function}
 use Rattle.c_types_program.specs.Declarations.{Declared, body_in}

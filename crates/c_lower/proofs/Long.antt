@@ -11,10 +11,10 @@ use Rattle.c_types_rules.specs.TypedTree as typed
 use Rattle.c_types_rules.specs.TypedTree.{Object, Value, Values, Callee, Sum, PointerPlus, PlusPointer, PointerMinus, Way, Up, Down, GlobalObject, LocalObject, TextObject, Pointed, Element, MemberOf, Constant, FunctionAddress, ReadOf, AddressOf, Convert, Negate, Complement, Arithmetic, PointerSum, PointerDifference, PointerComparison, Not, Both, Either, Choice, Sequence, Assigned, Changed, Moved, Stepped, CallOf, NoValues, MoreValues, SourceFunction, BuiltinFunction, Through, MaybeValue, NoValue, OneValue, Statement, Statements, Block, Evaluate, Initialise, If, IfElse, While, Do, For, Break, Continue, Return, NoStatements, MoreStatements, object_type}
 use Rattle.c_semantics.specs.Context.{kind_of, member_offset, size_of}
 use Rattle.c_semantics.specs.Values.{is_read, origin}
-use Rattle.c_lower_rules.specs.Conversions.{converts, reconverts}
-use Rattle.c_lower_rules.specs.Placement.{count, keeps_old, loads, offset_of, step_by, stores}
-use Rattle.c_lower_rules.specs.Code.{Making, body_code, call_code, callee_code, convert_code, last_code, load_code, move_code, object_code, one, return_code, statement_code, statements_code, sum_code, test_code, value_code, values_code}
-use Rattle.c_lower_rules.specs.Heights.{body_heights, callee_heights, if_true, move_heights, object_heights, return_heights, statement_heights, statements_heights, sum_heights, test_heights, under_args, value_heights, values_heights}
+use Rattle.c_lower_placement.specs.Conversions.{converts, reconverts}
+use Rattle.c_lower_placement.specs.Placement.{count, keeps_old, loads, offset_of, step_by, stores}
+use Rattle.c_lower_placement.specs.Code.{Making, body_code, call_code, callee_code, convert_code, last_code, load_code, move_code, object_code, one, return_code, statement_code, statements_code, sum_code, test_code, value_code, values_code}
+use Rattle.c_lower_placement.specs.Heights.{body_heights, callee_heights, if_true, move_heights, object_heights, return_heights, statement_heights, statements_heights, sum_heights, test_heights, under_args, value_heights, values_heights}
 
 module _ (x : Making) where
   pub len_app : (hs ks : List ℕ) (is js : List Instr) → length hs ≡ length is → length ks ≡ length js → length (hs ++ ks) ≡ length (is ++ js)

@@ -6,7 +6,7 @@ use Rattle.std.proofs.lemmas.List.Elements.{All-contains_itself, recursion_from_
 use Rattle.memory_map.specs.declared.placed.Placed.{Placed}
 use Rattle.c_code.specs.declared.instr.Instr.{Instr}
 use Rattle.c_semantics.specs.Context.{local_offsets}
-use Rattle.c_lower_rules.specs.Code.{Lies}
+use Rattle.c_lower_placement.specs.Code.{Lies}
 use Rattle.c_types_program.specs.declared.function.Body.{Body}
 use Rattle.c_types_program.specs.declared.function.Function.{Function}
 use Rattle.c_types_program.specs.Declarations.{Declared, body_in}

@@ -18,8 +18,8 @@ use Rattle.c_builtins.specs.declared.lookup.TheConstants.{BUILTINS}
 use Rattle.c_code.specs.Valid.{IsSteady, IsValid, Keeps}
 use Rattle.c_types_rules.specs.TypedTree as typed
 use Rattle.c_semantics.specs.Context.{Source, body_of, body_or, source_function}
-use Rattle.c_lower_rules.specs.Code.{Making, body_code}
-use Rattle.c_lower_rules.specs.Laws.{IsMadeOf}
+use Rattle.c_lower_placement.specs.Code.{Making, body_code}
+use Rattle.c_lower_placement.specs.Laws.{IsMadeOf}
 use Rattle.c_lower_laws.specs.Fits.{IsFit}
 use Rattle.c_lower_layout.specs.Indexed.{HasNumbers, members_end}
 use Rattle.c_lower_layout.specs.Sources.{source_in}

@@ -2,8 +2,8 @@
 use Rattle.std.proofs.Common.{◌≡◌, ℕ, zero, suc, ◌+◌, ◌-◌, ◌<◌, ◌≤◌, List, [], ◌∷◌, ◌++◌, length, get_or, append_assoc, length-append, Option, Some, None, refl, sym, ap, ◌∙◌, subst, arith}
 use Rattle.std.specs.Prelude.{slice_get}
 use Rattle.c_code.specs.declared.instr.Instr.{Instr}
-use Rattle.c_lower_rules.specs.Code.{Lies}
-use Rattle.c_lower_rules.specs.Heights.{Stand}
+use Rattle.c_lower_placement.specs.Code.{Lies}
+use Rattle.c_lower_placement.specs.Heights.{Stand}
 
 -- the item after a list
 get_after : {A : Type 0} (pre post : List A) (i : A) → slice_get (pre ++ (i ∷ post)) (length pre) ≡ Some i

@@ -10,7 +10,7 @@ use Rattle.c_types_rules.specs.Environment.{Meaning}
 use Rattle.c_semantics.specs.Context.{Source, type_of}
 use Rattle.c_types_program.specs.Declarations.{Declared}
 use Rattle.c_types_program.specs.Programs.{texts_in}
-use Rattle.c_lower_rules.specs.Placement.{IsSigOf}
+use Rattle.c_lower_placement.specs.Placement.{IsSigOf}
 use Rattle.c_lower_layout.specs.Sources.{fixed_types, sig_in, types_of_functions}
 use Rattle.c_lower_layout.proofs.Numbers.{one_place}
 use Rattle.c_lower.specs.Lowered.{IsSourceOf, lowered}

@@ -19,9 +19,9 @@ use Rattle.c_builtins.specs.Table.{number_of, params_of as params_of_prototype, 
 use Rattle.c_types_rules.specs.Sources as sources
 use Rattle.c_types_rules.specs.TypedTree as typed
 use Rattle.c_semantics.specs.Context.{Source, body_of, shape_of, shapes_of, type_of}
-use Rattle.c_lower_rules.specs.Code.{body_code, making as making_at}
-use Rattle.c_lower_rules.specs.Heights.{Stand, body_heights, statement_depth}
-use Rattle.c_lower_rules.specs.Laws.{IsEmitted, IsMadeOf, IsWithin, MakesTheMarks}
+use Rattle.c_lower_placement.specs.Code.{body_code, making as making_at}
+use Rattle.c_lower_placement.specs.Heights.{Stand, body_heights, statement_depth}
+use Rattle.c_lower_placement.specs.Laws.{IsEmitted, IsMadeOf, IsWithin, MakesTheMarks}
 use Rattle.c_types_nodes.specs.Tables.{Table}
 use Rattle.c_types_program.specs.declared.function.Body.{Body}
 use Rattle.c_types_program.specs.declared.function.Function.{Function}

@@ -5,7 +5,7 @@ use Rattle.c_builtins.specs.Table.{first_source_function}
 use Rattle.c_types_rules.specs.TypedTree.{Body, Callee, Typed, AnObject, AFunction, AValue, SourceFunction, BuiltinFunction, Through}
 use Rattle.c_types_rules.specs.Sources.{Function}
 use Rattle.c_types_program.specs.Declarations.{Declared, function_in}
-use Rattle.c_lower_rules.specs.Heights.{call_depth, object_depth, statement_depth, value_depth}
+use Rattle.c_lower_placement.specs.Heights.{call_depth, object_depth, statement_depth, value_depth}
 
 -- a count of 8 bits; more than 255 count as 255
 abbrev pub capped : ℕ → ℕ

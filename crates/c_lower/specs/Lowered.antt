@@ -11,7 +11,7 @@ use Rattle.c_builtins.specs.Table.{name_of, params_of as params_of_prototype, pr
 use Rattle.c_types_rules.specs.Sources.{params_of, result_of}
 use Rattle.c_types_rules.specs.Limits.{frame_size}
 use Rattle.c_semantics.specs.Context.{Source, local_offsets, shape_of, shapes_of}
-use Rattle.c_lower_rules.specs.Code.{body_code}
+use Rattle.c_lower_placement.specs.Code.{body_code}
 use Rattle.c_types_program.specs.declared.function.Body.{Body}
 use Rattle.c_types_program.specs.declared.function.Function.{Function}
 use Rattle.c_types_program.specs.Declarations.{Declared, body_in, types_in}

@@ -5,7 +5,7 @@ use Rattle.c_code.specs.Machine.{Flat, func_of}
 use Rattle.c_code.specs.Valid.{start_sig}
 use Rattle.c_builtins.specs.Table.{thread_function}
 use Rattle.c_semantics.specs.Context.{Source, type_of}
-use Rattle.c_lower_rules.specs.Placement.{IsSigOf}
+use Rattle.c_lower_placement.specs.Placement.{IsSigOf}
 
 -- two functions have one number exactly where their types are equal, and `int (void *)` has the number 0
 pub record TellsTypes (s : Source) (code : Flat) : Type 0 where

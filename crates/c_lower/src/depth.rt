@@ -4,7 +4,7 @@ ghost use Rattle.std.specs.Prelude.{◌≡◌, ◌+◌, ℕ, max};
 ghost use Rattle.std.specs.List.{All};
 ghost use Rattle.c_types_nodes.specs.Parts.{sum_in, values};
 ghost use Rattle.c_types_nodes.specs.Tables.{IsNode, IsObjectAt, IsValueAt, node_at, object_at, typed_of, value_at};
-ghost use Rattle.c_lower_rules.specs.Heights.{object_depth as object_depth_of, pair_depth, sum_depth, value_depth as value_depth_of, values_depth as values_depth_of};
+ghost use Rattle.c_lower_placement.specs.Heights.{object_depth as object_depth_of, pair_depth, sum_depth, value_depth as value_depth_of, values_depth as values_depth_of};
 ghost use Rattle.c_lower.specs.Depths.{calling_depth, capped, typed_depth};
 
 use c_types_nodes::{Node, NodeId, Sum, TypedTable};

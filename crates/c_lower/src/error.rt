@@ -16,7 +16,7 @@ pub enum LowerError {
     #[error("too many nodes")]
     Long,
     /// The evaluation stack is deeper than 64 values in the function of this number, the first such.
-    #[error("too many waiting values in function {0}")]
+    #[error("the evaluation stack is too deep in function {0}")]
     Wide(u16),
 }
 

@@ -4,7 +4,7 @@ ghost use Rattle.std.specs.Prelude.{◌≡◌, ◌↔◌, ◌*◌, ◌<◌, ◌�
 ghost use Rattle.source_limits.specs.Limits.{most_nodes};
 ghost use Rattle.c_code.specs.Typed.{KeepsTypes};
 ghost use Rattle.c_semantics.specs.Context.{Source};
-ghost use Rattle.c_lower_rules.specs.Laws.{MakesTheMarks, laid};
+ghost use Rattle.c_lower_placement.specs.Laws.{MakesTheMarks, laid};
 ghost use Rattle.c_lower_laws.specs.Fits.{IsFit};
 ghost use Rattle.c_lower.specs.Lowered.{IsSourceOf, lowered};
 ghost use Rattle.c_lower.specs.Named.{NamesNoMore};
@@ -16,7 +16,7 @@ use crate::functions::{builtin_infos, function_info};
 use crate::wide::first_wide;
 use c_code::Code;
 use c_lower_layout::Index;
-use c_lower_rules::{
+use c_lower_placement::{
     code_of_sources_keeps_types, emitted_code_is_steady, emitted_code_makes_the_marks,
 };
 use c_types_program::TypedProgram;

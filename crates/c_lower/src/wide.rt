@@ -6,7 +6,7 @@ ghost use Rattle.c_builtins.specs.Table.{first_source_function};
 ghost use Rattle.c_types_program.specs.Declarations.{IsBody, body_in};
 ghost use Rattle.c_types_program.specs.Statements.{AllStatements, IsMaybeAt, IsStatement, maybe_at, statement_in, statements_in};
 ghost use Rattle.c_types_nodes.specs.Lists.{AreNodes, nodes_at};
-ghost use Rattle.c_lower_rules.specs.Heights.{maybe_depth as maybe_depth_of, statement_depth as statement_depth_of, statements_depth as statements_depth_of};
+ghost use Rattle.c_lower_placement.specs.Heights.{maybe_depth as maybe_depth_of, statement_depth as statement_depth_of, statements_depth as statements_depth_of};
 ghost use Rattle.c_lower.specs.Depths.{body_depth as body_depth_of, capped, first_wide as first_wide_of, functions_in, greatest_depth as greatest_depth_of, is_wide as is_wide_of};
 
 use crate::depth::{either, node_depth, value_depth};

@@ -5,8 +5,8 @@ use Rattle.c_types_rules.specs.TypedTree.{Typed, Callee, Values, AFunction}
 use Rattle.c_types_nodes.specs.declared.ids.NodeId.{NodeId}
 use Rattle.c_types_nodes.specs.Parts.{typed_in, values}
 use Rattle.c_types_nodes.specs.Tables.{IsFunctionAt, Table, callee_at, node_at, typed_of}
-use Rattle.c_lower_rules.specs.Placement.{count}
-use Rattle.c_lower_rules.specs.Code.{Making, call_code, callee_code, values_code}
+use Rattle.c_lower_placement.specs.Placement.{count}
+use Rattle.c_lower_placement.specs.Code.{Making, call_code, callee_code, values_code}
 use Rattle.c_lower_bodies.specs.TypedCode.{call_of, calling_code, typed_code}
 
 pub values_counted : (xs : List Typed) (ids : List NodeId) → count (values xs ids) ≡ length ids

@@ -2,7 +2,7 @@
 use Rattle.std.proofs.Common.{◌≡◌, ℕ, suc, ◌+◌, ◌-◌, ◌≤◌, List, [], ◌∷◌, ◌++◌, length, refl, sym, ap, ◌∙◌, append_assoc, length-append, arith}
 use Rattle.c_code.specs.declared.instr.Instr.{Instr}
 use Rattle.c_code.specs.declared.instr.Instr.TheVariants.{GoBack, GoOn, SkipIfZero, Turn}
-use Rattle.c_lower_rules.specs.Code.{one}
+use Rattle.c_lower_placement.specs.Code.{one}
 use Rattle.c_lower_bodies.specs.TypedCode.{Turns}
 
 -- an instruction in the place of the one that so many follow

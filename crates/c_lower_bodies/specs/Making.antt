@@ -1,8 +1,8 @@
 -- What the code of a function is made with, before it is known where anything lies.
 use Rattle.std.specs.Prelude.{ℕ, List, []}
 use Rattle.c_code.specs.Machine.{flat}
-use Rattle.c_lower_rules.specs.Placement.{Against}
-use Rattle.c_lower_rules.specs.Code.{Making}
+use Rattle.c_lower_placement.specs.Placement.{Against}
+use Rattle.c_lower_placement.specs.Code.{Making}
 use Rattle.c_types_program.specs.Declarations.{Declared}
 use Rattle.c_lower_layout.specs.Sources.{sig_in, source_in}
 

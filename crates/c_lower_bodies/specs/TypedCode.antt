@@ -4,8 +4,8 @@ use Rattle.c_code.specs.declared.instr.Instr.{Instr}
 use Rattle.c_code.specs.declared.instr.Instr.TheVariants.{GoBack, SkipIfZero, Turn}
 use Rattle.c_types_model.specs.Types.{CType}
 use Rattle.c_types_rules.specs.TypedTree.{Callee, Value, Values, Statement, Initialise, Typed, AnObject, AFunction, AValue}
-use Rattle.c_lower_rules.specs.Placement.{count}
-use Rattle.c_lower_rules.specs.Code.{Making, call_code, callee_code, object_code, one, statement_code, value_code, values_code}
+use Rattle.c_lower_placement.specs.Placement.{count}
+use Rattle.c_lower_placement.specs.Code.{Making, call_code, callee_code, object_code, one, statement_code, value_code, values_code}
 
 -- the address of an object, the value of a pointer to a function, or a value
 abbrev pub typed_code : Typed → Making → List Instr

@@ -3,7 +3,7 @@
 ghost use Rattle.std.specs.Prelude.{◌≡◌, IfOk};
 ghost use Rattle.c_types_program.specs.Declarations.{body_in};
 ghost use Rattle.c_types_program.specs.Statements.{IsStatement};
-ghost use Rattle.c_lower_rules.specs.Code.{body_code};
+ghost use Rattle.c_lower_placement.specs.Code.{body_code};
 ghost use Rattle.c_lower_bodies.specs.Making.{making};
 
 use crate::backward::Backward;

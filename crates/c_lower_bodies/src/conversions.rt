@@ -3,8 +3,8 @@
 ghost use Rattle.std.specs.Prelude.{◌≡◌, ◌<◌, ◌++◌, length, OnOk};
 ghost use Rattle.c_types_table.specs.Tables.{type_at};
 ghost use Rattle.c_types_nodes.specs.Tables.{IsValueAt, value_at};
-ghost use Rattle.c_lower_rules.specs.Code.{convert_code};
-ghost use Rattle.c_lower_rules.specs.Conversions.{converts as converts_of, is_within as is_within_of, may_change as may_change_of, reconverts, scalar_kind as scalar_kind_of, sure_kind as sure_kind_of};
+ghost use Rattle.c_lower_placement.specs.Code.{convert_code};
+ghost use Rattle.c_lower_placement.specs.Conversions.{converts as converts_of, is_within as is_within_of, may_change as may_change_of, reconverts, scalar_kind as scalar_kind_of, sure_kind as sure_kind_of};
 
 use crate::backward::Backward;
 use crate::emitter::Emitter;

@@ -2,7 +2,7 @@
 
 ghost use Rattle.std.specs.Prelude.{◌≡◌};
 ghost use Rattle.c_semantics.specs.Context.{kind_of};
-ghost use Rattle.c_lower_rules.specs.Placement.{offset_of};
+ghost use Rattle.c_lower_placement.specs.Placement.{offset_of};
 ghost use Rattle.c_types_nodes.specs.Tables.{IsObjectAt, object_at};
 ghost use Rattle.c_types_rules.specs.TypedTree.{object_type};
 ghost use Rattle.c_lower_bodies.specs.Making.{making, setting};

@@ -3,7 +3,7 @@
 ghost use Rattle.std.specs.Prelude.{◌≡◌, ◌++◌, OnOk};
 ghost use Rattle.c_types_nodes.specs.Tables.{IsValueAt, value_at};
 ghost use Rattle.c_types_rules.specs.TypedTree as tree;
-ghost use Rattle.c_lower_rules.specs.Code.{value_code};
+ghost use Rattle.c_lower_placement.specs.Code.{value_code};
 ghost use Rattle.c_lower_bodies.specs.Making.{making};
 
 use crate::backward::Backward;

@@ -9,7 +9,7 @@ ghost use Rattle.c_types_nodes.specs.Tables.{IsObjectAt, IsValueAt, object_at, v
 ghost use Rattle.c_types_rules.specs.TypedTree as tree;
 ghost use Rattle.c_types_rules.specs.TypedTree.{object_type};
 ghost use Rattle.c_semantics.specs.Context.{member_offset};
-ghost use Rattle.c_lower_rules.specs.Code.{object_code, one, sum_code, value_code};
+ghost use Rattle.c_lower_placement.specs.Code.{object_code, one, sum_code, value_code};
 ghost use Rattle.c_lower_bodies.specs.Making.{making};
 
 use crate::backward::Backward;

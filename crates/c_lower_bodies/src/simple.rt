@@ -5,7 +5,7 @@ ghost use Rattle.c_code.specs.declared.instr.Instr.TheVariants.{Drop};
 ghost use Rattle.c_types_table.specs.Tables.{type_at};
 ghost use Rattle.c_types_nodes.specs.Tables.{IsValueAt, value_at};
 ghost use Rattle.c_types_program.specs.Statements.{IsMaybeAt, maybe_at};
-ghost use Rattle.c_lower_rules.specs.Code.{last_code, one, return_code, test_code, value_code};
+ghost use Rattle.c_lower_placement.specs.Code.{last_code, one, return_code, test_code, value_code};
 ghost use Rattle.c_lower_bodies.specs.Making.{making};
 ghost use Rattle.c_lower_bodies.specs.TypedCode.{initialise_code};
 

@@ -4,7 +4,7 @@ ghost use Rattle.std.specs.Prelude.{◌≡◌, ◌-◌, ◌<◌, ◌≤◌, ◌+
 ghost use Rattle.c_types_nodes.specs.Tables.{IsValueAt, value_at};
 ghost use Rattle.c_types_program.specs.Statements.{AllStatements, IsMaybeAt, IsStatement, maybe_at, statement_in, statements_in};
 ghost use Rattle.c_types_rules.specs.TypedTree as tree;
-ghost use Rattle.c_lower_rules.specs.Code.{statement_code, statements_code};
+ghost use Rattle.c_lower_placement.specs.Code.{statement_code, statements_code};
 ghost use Rattle.c_lower_bodies.specs.Making.{making};
 ghost use Rattle.c_lower_bodies.specs.TypedCode.{Turns, guarded_code};
 

@@ -4,8 +4,8 @@ ghost use Rattle.std.specs.Prelude.{◌≡◌, ◌++◌, OnOk};
 ghost use Rattle.c_types_nodes.specs.Parts.{given_in, way_in};
 ghost use Rattle.c_types_nodes.specs.Tables.{IsObjectAt, IsValueAt, object_at, value_at};
 ghost use Rattle.c_types_rules.specs.TypedTree as tree;
-ghost use Rattle.c_lower_rules.specs.Code.{move_code, value_code};
-ghost use Rattle.c_lower_rules.specs.Placement.{keeps_old, step_by};
+ghost use Rattle.c_lower_placement.specs.Code.{move_code, value_code};
+ghost use Rattle.c_lower_placement.specs.Placement.{keeps_old, step_by};
 ghost use Rattle.c_lower_bodies.specs.Making.{making};
 
 use crate::backward::Backward;

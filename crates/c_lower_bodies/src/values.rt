@@ -4,7 +4,7 @@ ghost use Rattle.std.specs.Prelude.{◌≡◌, ◌++◌, OnOk};
 ghost use Rattle.std.specs.List.{All};
 ghost use Rattle.c_types_nodes.specs.Parts.{values};
 ghost use Rattle.c_types_nodes.specs.Tables.{IsNode, IsObjectAt, IsValueAt, node_at, object_at, typed_of, value_at};
-ghost use Rattle.c_lower_rules.specs.Code.{object_code, value_code, values_code};
+ghost use Rattle.c_lower_placement.specs.Code.{object_code, value_code, values_code};
 ghost use Rattle.c_lower_bodies.specs.Making.{making};
 ghost use Rattle.c_lower_bodies.specs.TypedCode.{typed_code};
 

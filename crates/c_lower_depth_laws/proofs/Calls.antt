@@ -10,8 +10,8 @@ use Rattle.c_types_rules.specs.Checked.{Checked, Fine, ◌>>=◌}
 use Rattle.c_types_rules.specs.TypedTree.{Value, Callee, Typed, SourceFunction, BuiltinFunction, Through, AnObject, AFunction, AValue, value_type, value_of}
 use Rattle.c_types_rules.specs.Environment.{Environment, Meaning}
 use Rattle.c_types_rules.specs.Expressions.{function_type, called_value, called, builtin_called, builtin_in, builtin_unless}
-use Rattle.c_lower_rules.specs.Heights.{value_depth, pair_depth}
-use Rattle.c_lower_rules.specs.Heights as heights
+use Rattle.c_lower_placement.specs.Heights.{value_depth, pair_depth}
+use Rattle.c_lower_placement.specs.Heights as heights
 use Rattle.c_lower_depth_laws.specs.Expressions.{call_depth, is_direct, unevaluated_depth}
 use Rattle.c_lower_depth_laws.proofs.Found.{Finds, finds_last}
 use Rattle.c_lower_depth_laws.specs.Names.{AgreesIn, means_object}

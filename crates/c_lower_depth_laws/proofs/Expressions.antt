@@ -12,7 +12,7 @@ use Rattle.c_types_rules.specs.TypedTree.{Value, Values, Typed, MoreValues, type
 use Rattle.c_types_rules.specs.Operators.{assigned, assignment, binary, cast, choice, operator_in, size_in}
 use Rattle.c_types_rules.specs.Environment.{Environment, base_type, extents, inner}
 use Rattle.c_types_rules.specs.Expressions.{a_value, adjusted, annotation_type, annotation_types, arguments, arrow_of, atom_type, builtin_called, builtin_in, called, constant, declarator_type, declared_type, expression, is_small, item_type, item_types, length_of, member, parameter_scope, parameter_type, parameter_types, postfixed, prefixed, rule_of_incomplete, start_of, subscript_of}
-use Rattle.c_lower_rules.specs.Heights.{pair_depth, value_depth, values_depth}
+use Rattle.c_lower_placement.specs.Heights.{pair_depth, value_depth, values_depth}
 use Rattle.c_lower_depth_laws.specs.Expressions.{annot_depth, annots_depth, arguments_depth, arguments_unevaluated, assignment_depth, atom_depth, binary_depth, call_depth, expression_depth, is_direct, item_depth, items_depth, lengths_depth, param_depth, params_depth, parts_depth, prefix_depth, unevaluated_depth, with_param}
 use Rattle.c_lower_depth_laws.specs.Laws.{Gives}
 use Rattle.c_lower_depth_laws.proofs.Found.{Finds, finds_after, finds_as, finds_kept, finds_last, finds_on, finds_small, finds_then}

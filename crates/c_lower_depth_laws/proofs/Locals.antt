@@ -10,8 +10,8 @@ use Rattle.c_types_rules.specs.Operators.{assigned}
 use Rattle.c_types_rules.specs.TypedTree.{Value, MaybeValue, NoValue, OneValue, Statement, Statements, joined, value_of, value_type}
 use Rattle.c_types_rules.specs.TypedTree as typed
 use Rattle.c_types_rules.specs.Statements.{Declared, condition_in, first_value, local, locals_of, maybe_condition, maybe_in, value_in}
-use Rattle.c_lower_rules.specs.Heights.{statements_depth, value_depth}
-use Rattle.c_lower_rules.specs.Heights as heights
+use Rattle.c_lower_placement.specs.Heights.{statements_depth, value_depth}
+use Rattle.c_lower_placement.specs.Heights as heights
 use Rattle.c_lower_depth_laws.specs.Expressions.{expression_depth, parts_depth, unevaluated_depth, whole_depth}
 use Rattle.c_lower_depth_laws.specs.Bodies.{initial_depth, local_depth, locals_depth, maybe_depth, with_local, with_locals}
 use Rattle.c_lower_depth_laws.proofs.Found.{Finds, finds_kept, finds_last, finds_weaker, max_zero}

@@ -13,7 +13,7 @@ use Rattle.c_types_rules.specs.TypeTests.{is_complete, is_integer, is_scalar, sa
 use Rattle.c_types_rules.specs.Constants.{is_null}
 use Rattle.c_types_rules.specs.TypedTree.{Object, Value, Sum, PointerPlus, PlusPointer, PointerMinus, Way, Given, Up, Down, Both, Either, Choice, Convert, PointerSum, PointerDifference, PointerComparison, Moved, Stepped, Not, object_type, value_type}
 use Rattle.c_types_rules.specs.Operators.{arithmetic, shift, pointer_sum, sum_of, difference_of, comparison_of, logical, binary, signed_operand, assigned, changed, moved, compound_of, assignment_of, step_of, pointers_chosen, unlike_chosen, is_settled, choice, cast, can_cast, scalar, are_comparable, fits, size_in, to_kind, rule_of_right}
-use Rattle.c_lower_rules.specs.Heights.{pair_depth, sum_depth, object_depth, value_depth}
+use Rattle.c_lower_placement.specs.Heights.{pair_depth, sum_depth, object_depth, value_depth}
 use Rattle.c_lower_depth_laws.specs.Expressions.{binary_depth, assignment_depth}
 use Rattle.c_lower_depth_laws.proofs.Found.{Finds, finds_last, finds_kept, finds_needed}
 

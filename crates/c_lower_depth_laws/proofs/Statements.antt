@@ -11,8 +11,8 @@ use Rattle.c_types_rules.specs.TypedTree.{Value, MaybeValue, NoValue, OneValue, 
 use Rattle.c_types_rules.specs.TypedTree as typed
 use Rattle.c_types_rules.specs.Statements.{Declared, Surroundings, condition_in, entries, entry, evaluated, first, inside, looping, maybe_condition, maybe_in, outside, returned, statement, value_in}
 use Rattle.c_types_rules.specs.Sources.{block_of}
-use Rattle.c_lower_rules.specs.Heights.{statement_depth, statements_depth, value_depth}
-use Rattle.c_lower_rules.specs.Heights as heights
+use Rattle.c_lower_placement.specs.Heights.{statement_depth, statements_depth, value_depth}
+use Rattle.c_lower_placement.specs.Heights as heights
 use Rattle.c_lower_depth_laws.specs.Expressions.{expression_depth, unevaluated_depth, whole_depth}
 use Rattle.c_lower_depth_laws.specs.Bodies.{after_entry, after_first, entries_depth, entry_depth, first_depth, maybe_depth, stmt_depth}
 use Rattle.c_lower_depth_laws.specs.Names.{AgreesIn}

@@ -14,7 +14,7 @@ use Rattle.c_types_rules.specs.TypedTree.{Object, Value, Typed, Sum, PointerPlus
 use Rattle.c_types_rules.specs.Operators.{assignment, assignment_of, left_object, operator_in, signed_operand, size_in, step, to_kind}
 use Rattle.c_types_rules.specs.Environment.{Environment, Meaning, FunctionNamed, GlobalNamed, LocalNamed, builtin_of, extents}
 use Rattle.c_types_rules.specs.Expressions.{meant, unknown_name, member, member_of, arrow_of, pointed_of, element, subscript_of, address, a_value, prefixed, postfixed, length_of, constant, member_in}
-use Rattle.c_lower_rules.specs.Heights.{object_depth, value_depth, sum_depth, pair_depth}
+use Rattle.c_lower_placement.specs.Heights.{object_depth, value_depth, sum_depth, pair_depth}
 use Rattle.c_lower.specs.Depths.{typed_depth}
 use Rattle.c_lower_depth_laws.specs.Expressions.{assignment_depth, prefix_depth}
 use Rattle.c_lower_depth_laws.proofs.Found.{Finds, finds_as, finds_last, finds_on, finds_kept, finds_needed, finds_unevaluated, max_zero}

@@ -9,7 +9,7 @@ ghost use Rattle.c_types_rules.specs.Limits.{Typed, outcome};
 ghost use Rattle.c_types_rules.specs.Sources.{Program};
 ghost use Rattle.c_types_program.specs.Declarations.{Declared};
 ghost use Rattle.c_types_program.specs.Programs.{IsProgram};
-ghost use Rattle.c_lower_rules.specs.Heights.{value_depth};
+ghost use Rattle.c_lower_placement.specs.Heights.{value_depth};
 ghost use Rattle.c_lower.specs.Depths.{first_wide, functions_in};
 ghost use Rattle.c_lower_depth_laws.specs.Expressions.{expression_depth};
 ghost use Rattle.c_lower_depth_laws.specs.Names.{AgreesIn};

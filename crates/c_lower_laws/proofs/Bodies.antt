@@ -15,8 +15,8 @@ use Rattle.c_types_rules.specs.TypedTree as typed
 use Rattle.c_types_rules.specs.Statements.{Declared, Surroundings, condition_in, entries, entry, evaluated, first, first_value, inside, local, locals_of, looping, maybe_condition, maybe_in, outside, returned, statement, value_in}
 use Rattle.c_types_rules.specs.Sources.{block_of, body_of, listed, nearest, parameter, parameters, params_of, result_of, block_body}
 use Rattle.c_lower_laws.proofs.Held.{Holds, holds_heard, holds_then, holds_on, holds_after}
-use Rattle.c_lower_rules.specs.Code.{Making}
-use Rattle.c_lower_rules.specs.Heights.{MaybeCalls, StatementCalls, StatementsCall}
+use Rattle.c_lower_placement.specs.Code.{Making}
+use Rattle.c_lower_placement.specs.Heights.{MaybeCalls, StatementCalls, StatementsCall}
 use Rattle.c_lower_laws.proofs.Values.{Counts, CountsTyped, IsAt, NamesAre, Serves, assigned_counts, expression_counts, value_counts}
 
 -- ---- names

@@ -3,9 +3,9 @@ use Rattle.std.proofs.Common.{ℕ}
 use Rattle.c_types_rules.specs.TypedTree.{Object, Value, Values, Callee, GlobalObject, LocalObject, TextObject, Pointed, Element, MemberOf, Constant, FunctionAddress, ReadOf, AddressOf, Convert, Negate, Complement, Arithmetic, PointerSum, PointerDifference, PointerComparison, Not, Both, Either, Choice, Sequence, Assigned, Changed, Moved, Stepped, CallOf, NoValues, MoreValues, SourceFunction, BuiltinFunction, Through, MaybeValue, NoValue, OneValue, Statement, Statements, Block, Evaluate, Initialise, If, IfElse, While, Do, For, Break, Continue, Return, NoStatements, MoreStatements}
 use Rattle.c_semantics.specs.Arguments.{Passes, ObjectPasses, ValuePasses, ValuesPass, CalleePasses, MaybePasses, StatementPasses, StatementsPass}
 use Rattle.c_semantics.specs.Context.{Source}
-use Rattle.c_lower_rules.specs.Code.{Making}
-use Rattle.c_lower_rules.specs.Placement.{count}
-use Rattle.c_lower_rules.specs.Heights.{ObjectCalls, ValueCalls, ValuesCall, CalleeCalls, MaybeCalls, StatementCalls, StatementsCall}
+use Rattle.c_lower_placement.specs.Code.{Making}
+use Rattle.c_lower_placement.specs.Placement.{count}
+use Rattle.c_lower_placement.specs.Heights.{ObjectCalls, ValueCalls, ValuesCall, CalleeCalls, MaybeCalls, StatementCalls, StatementsCall}
 
 -- by another source that knows the same functions
 module _ (x : Making) (s : Source) (alike : (f : Callee) (vs : Values) → Passes x.against.source f vs → Passes s f vs) where

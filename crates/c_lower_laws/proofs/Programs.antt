@@ -16,8 +16,8 @@ use Rattle.c_types_rules.specs.TypedTree as typed
 use Rattle.c_types_rules.specs.TypeTests.{same_type}
 use Rattle.c_types_rules.proofs.SameTypes.{types_compared}
 use Rattle.c_lower_laws.proofs.Held.{Holds, holds_then, holds_on, holds_after, holds_kept, holds_for, holds_both}
-use Rattle.c_lower_rules.specs.Code.{Making}
-use Rattle.c_lower_rules.specs.Heights.{StatementCalls}
+use Rattle.c_lower_placement.specs.Code.{Making}
+use Rattle.c_lower_placement.specs.Heights.{StatementCalls}
 use Rattle.c_lower_laws.proofs.Values.{IsAt, NamesAre, Serves}
 use Rattle.c_lower_laws.proofs.Bodies.{body_counts, or_none}
 use Rattle.c_lower_laws.proofs.Locals.{Begins, body_begins}

@@ -31,9 +31,9 @@ use Rattle.c_semantics.specs.Returned.{IsConverted}
 use Rattle.c_semantics.specs.Values.{target}
 use Rattle.c_semantics.proofs.TypedReturns.{scalar_fits}
 use Rattle.c_lower_laws.proofs.Held.{Holds, holds_then, holds_on, holds_after, holds_both, holds_kept}
-use Rattle.c_lower_rules.specs.Code.{Making}
-use Rattle.c_lower_rules.specs.Placement.{count}
-use Rattle.c_lower_rules.specs.Heights.{ObjectCalls, ValueCalls, ValuesCall, CalleeCalls, Takes}
+use Rattle.c_lower_placement.specs.Code.{Making}
+use Rattle.c_lower_placement.specs.Placement.{count}
+use Rattle.c_lower_placement.specs.Heights.{ObjectCalls, ValueCalls, ValuesCall, CalleeCalls, Takes}
 
 -- how many parameters a type of functions has
 abbrev pub params_count : CType → ℕ

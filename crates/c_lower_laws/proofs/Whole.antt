@@ -25,7 +25,7 @@ use Rattle.c_semantics.specs.Arguments.{is_any}
 use Rattle.c_semantics.specs.Returned.{ResultsAreConverted}
 use Rattle.c_semantics.proofs.TypedFunctions.{results_are_converted}
 use Rattle.c_lower_laws.proofs.Held.{Holds}
-use Rattle.c_lower_rules.specs.Code.{making}
+use Rattle.c_lower_placement.specs.Code.{making}
 use Rattle.c_types_program.specs.Declarations.{Declared}
 use Rattle.c_types_program.specs.Programs.{IsProgram, program_in}
 use Rattle.c_lower_layout.specs.Sources.{sig_in, source_in, types_of_functions}

@@ -14,8 +14,8 @@ use Rattle.c_types_rules.specs.Limits.{frame_size}
 use Rattle.c_types_rules.specs.Sources.{result_of}
 use Rattle.c_semantics.specs.Context.{Source, body_of, local_offsets, param_shapes, type_of}
 use Rattle.c_semantics.specs.Returned.{Converts}
-use Rattle.c_lower_rules.specs.Code.{making}
-use Rattle.c_lower_rules.specs.Heights.{StatementCalls}
+use Rattle.c_lower_placement.specs.Code.{making}
+use Rattle.c_lower_placement.specs.Heights.{StatementCalls}
 use Rattle.c_types_program.specs.Declarations.{Declared}
 use Rattle.c_lower_layout.specs.Indexed.{members_end}
 use Rattle.c_lower_layout.specs.Sources.{sig_in, source_in}

@@ -19,7 +19,8 @@ pub trait Accesses {
         requires some { 1 ≤ width }
         requires few { width ≤ 8 }
         ensures fits { IfSome result (λ value. value < 256 ^ width) }
-        ensures loaded { IfSome result (λ value. makes self.old (want.Load addr width) (Value value) self.new) }
+        ensures loaded { IfSome result (λ value.
+            makes self.old (want.Load addr width) (Value value) self.new) }
         ensures less { IfSome result (λ value. left self.new < left self.old) }
         ensures refused { result ≡ None → self.new ≡ self.old };
 

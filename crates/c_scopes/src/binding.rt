@@ -49,7 +49,7 @@ pub(crate) fn take_back<V: Copy>(
 {
     while bindings.len() > start {
         let Some(binding) = bindings.pop() else {
-            unreachable!("there are bindings behind the start")
+            unreachable!("there are bindings after the start")
         };
         places[binding.name] = binding.hidden;
     }

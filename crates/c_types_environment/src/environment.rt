@@ -40,7 +40,8 @@ impl Model for Environment {
 
     ghost view = { λ e. state_by e.table e.tags e.structs e.scopes e.found_large e.unevaluated.items };
 
-    ghost invariant = { λ e. IsSound e.table.types e.structs e.scopes × AreNodes e.table e.unevaluated.items };
+    ghost invariant = { λ e. IsSound e.table.types e.structs e.scopes ×
+        AreNodes e.table e.unevaluated.items };
 }
 
 impl Environment {

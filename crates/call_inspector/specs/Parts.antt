@@ -8,8 +8,8 @@ use Rattle.space_memory.specs.Spaces.{SpaceState}
 use Rattle.call_inspector.specs.declared.ends.Shown.{Shown}
 use Rattle.call_inspector.specs.declared.ends.RunEnd.{RunEnd}
 use Rattle.call_inspector.specs.declared.lines.Passed.{Passed}
-use Rattle.call_inspector.specs.declared.parts.Place.{Place}
-use Rattle.call_inspector.specs.declared.parts.Place.TheVariants.{Thread, Events, Rows, Nothing}
+use Rattle.call_inspector.specs.declared.parts.Position.{Position}
+use Rattle.call_inspector.specs.declared.parts.Position.TheVariants.{Thread, Events, Rows, Nothing}
 use Rattle.call_inspector.specs.declared.parts.State.{State}
 use Rattle.call_inspector.specs.Open.{open_after}
 use Rattle.call_inspector.specs.ThreadText.{event_line, threads_from}
@@ -45,7 +45,8 @@ over_with threads passed rs = (passed.end.begun && begun_from threads passed.act
 -- the lines of events from one up to another were added, and what they say was passed
 pub record PutsLines (code : Flat) (threads : List (List Record)) (rs : List Record) (from : ℕ) (old : List ℕ)
     (was : Passed) (to : ℕ) (new : List ℕ) (now : Passed) : Type 0 where
-  pub text : new ++ lines_from code now.active to (drop to rs) ≡ old ++ lines_from code was.active from (drop from rs)
+  pub text : new ++ lines_from code now.active to (drop to rs) ≡
+      old ++ lines_from code was.active from (drop from rs)
   pub fault : fault_with now (drop to rs) ≡ fault_with was (drop from rs)
   pub over : over_with threads now (drop to rs) ≡ over_with threads was (drop from rs)
 
@@ -60,7 +61,8 @@ rows_count = REPLAY_MEMORY.len / 16
 -- the line of the first row from one on that has a live byte was added, and this one comes after it; or none has
 abbrev pub PutsRow : SpaceState → List ℕ → ℕ → List ℕ → Option ℕ → Type 0
 PutsRow memory old row new None = (new ≡ old) × (rows_from memory (row_at row) ≡ [])
-PutsRow memory old row new (Some next) = (new ++ rows_from memory (row_at next) ≡ old ++ rows_from memory (row_at row))
+PutsRow memory old row new (Some next) = (new ++ rows_from memory (row_at next) ≡
+    old ++ rows_from memory (row_at row))
     × (row < next) × (next ≤ rows_count)
 
 -- ---- the report
@@ -86,7 +88,7 @@ threads_left s fault over =
     after_threads s.run.now.memory (ending_with threads s.end (or_else fault (fault_from_thread s.next more))
     (over && list_all (is_over threads) more))
 
-abbrev pub left_at : State → Place → List ℕ
+abbrev pub left_at : State → Position → List ℕ
 left_at s Thread = threads_left s None true
 left_at s (Events thread records index) =
     let rs = drop index records.now in
@@ -104,7 +106,7 @@ abbrev pub most_of_threads : List (List Record) → ℕ
 most_of_threads [] = 2 + rows_count
 most_of_threads (rs ∷ more) = 2 + length rs + most_of_threads more
 
-abbrev pub most_at : State → Place → ℕ
+abbrev pub most_at : State → Position → ℕ
 most_at s Thread = most_of_threads (drop s.next s.run.now.threads)
 most_at s (Events thread records index) = 1 + (length records.now - index) +
     most_of_threads (drop s.next s.run.now.threads)

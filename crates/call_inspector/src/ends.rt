@@ -125,7 +125,8 @@ impl ThreadEnd {
     #[inline(always)]
     pub fn pass(&mut self, threads: &[Records], active: &Crossings, event: &Event)
         ensures fault { self.new.fault ≡ or_else self.old.fault (fault_of event.now) }
-        ensures begun { self.new.begun ≡ (self.old.begun && has_begun threads.now (spawned active.now event.now)) }
+        ensures begun { self.new.begun ≡
+            (self.old.begun && has_begun threads.now (spawned active.now event.now)) }
     {
         if self.fault.is_none() {
             self.fault = fault_of(event);

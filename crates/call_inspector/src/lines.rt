@@ -91,7 +91,8 @@ pub fn put_lines(
 ) -> Result<usize, AllocError>
     requires some { from < to }
     requires within { to ≤ length records.now }
-    ensures lines { IfOk result (λ next. PutsLines code.now threads.now records.now from text.old.items passed.old
+    ensures lines { IfOk result (λ next.
+        PutsLines code.now threads.now records.now from text.old.items passed.old
         next text.new.items passed.new) }
     ensures more { IfOk result (λ next. from < next) }
     ensures within { IfOk result (λ next. next ≤ to) }

@@ -1,7 +1,7 @@
 //! The report of a run, part by part.
 
 ghost use Rattle.std.specs.Prelude.{◌≡◌, ◌<◌, ◌++◌, [], true, false, IfOk, OnOk, codes, decimal};
-ghost use Rattle.call_inspector.specs.declared.parts.Place.TheVariants as places;
+ghost use Rattle.call_inspector.specs.declared.parts.Position.TheVariants as places;
 ghost use Rattle.call_inspector.specs.Parts.{IsNext};
 ghost use Rattle.call_inspector.specs.ReportText.{report_text};
 
@@ -21,7 +21,7 @@ const LINES: usize = 64;
 
 /// What comes next.
 #[derive(Clone, Copy)]
-enum Place<'a> {
+enum Position<'a> {
     /// The next thread, or the memory where there is none.
     Thread,
     /// The events of this thread from `index` on.
@@ -49,7 +49,7 @@ struct State<'a> {
     end: RunEnd,
     // What the events of this thread say so far.
     passed: Passed,
-    place: Place<'a>,
+    place: Position<'a>,
 }
 
 /// Adds the line of a thread.
@@ -93,7 +93,7 @@ impl<'a> ReportParts<'a> {
                 next: 0,
                 end: RunEnd::new(),
                 passed,
-                place: Place::Thread,
+                place: Position::Thread,
             },
         }
     }
@@ -106,14 +106,14 @@ impl<'a> ReportParts<'a> {
     {
         let state = &mut self.state;
         match state.place {
-            Place::Thread => state.begin(text)?,
-            Place::Events {
+            Position::Thread => state.begin(text)?,
+            Position::Events {
                 thread,
                 records,
                 index,
             } => state.put_events(text, thread, records, index)?,
-            Place::Rows { row, shown } => state.put_row(text, row, shown)?,
-            Place::Nothing => return Ok(false),
+            Position::Rows { row, shown } => state.put_row(text, row, shown)?,
+            Position::Nothing => return Ok(false),
         }
         Ok(true)
     }
@@ -130,7 +130,7 @@ impl<'a> State<'a> {
         if thread >= threads.len() {
             text.extend_from_slice(b"memory\n")?;
             let shown = self.end.shown(threads);
-            self.place = Place::Rows { row: 0, shown };
+            self.place = Position::Rows { row: 0, shown };
             return Ok(());
         }
         self.next = thread + 1;
@@ -141,7 +141,7 @@ impl<'a> State<'a> {
         put_heading(text, thread)?;
         self.passed.active.clear();
         self.passed.end = ThreadEnd::new();
-        self.place = Place::Events {
+        self.place = Position::Events {
             thread,
             records,
             index: 0,
@@ -164,7 +164,7 @@ impl<'a> State<'a> {
             let Passed { active, end } = &self.passed;
             self.end
                 .pass(thread, end.fault, end.begun && active.is_empty());
-            self.place = Place::Thread;
+            self.place = Position::Thread;
             return Ok(());
         }
         let to = index + LINES.min(records.len() - index);
@@ -178,7 +178,7 @@ impl<'a> State<'a> {
             index,
             to,
         )?;
-        self.place = Place::Events {
+        self.place = Position::Events {
             thread,
             records,
             index: next,
@@ -192,12 +192,12 @@ impl<'a> State<'a> {
         ensures { OnOk result (IsNext text.old.items self.old text.new.items self.new) }
     {
         match put_row_from(text, &self.run.memory, row)? {
-            Some(row) => self.place = Place::Rows { row, shown },
+            Some(row) => self.place = Position::Rows { row, shown },
             None => {
                 text.extend_from_slice(b"end ")?;
                 put_ending(text, shown)?;
                 text.push(b'\n')?;
-                self.place = Place::Nothing;
+                self.place = Position::Nothing;
             }
         }
         Ok(())

@@ -71,7 +71,8 @@ pub fn put_args(text: &mut Vec<u8>, shapes: &[Shape], args: &[u64]) -> Result<()
 
 /// Adds ` = ` and an integer of the kind.
 fn put_equal_int(text: &mut Vec<u8>, kind: IntKind, value: u64) -> Result<(), AllocError>
-    ensures { OnOk result (text.new.items ≡ text.old.items ++ (codes " = " ++ signed_decimal (read kind value))) }
+    ensures { OnOk result (text.new.items ≡
+        text.old.items ++ (codes " = " ++ signed_decimal (read kind value))) }
 {
     let mut buffer = PrependBuffer::new();
     prepend_int(&mut buffer, kind, value);

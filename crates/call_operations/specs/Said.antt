@@ -5,8 +5,8 @@ use Rattle.annot_reader_words.specs.declared.notes.Param.{Param}
 use Rattle.stub_operations.specs.declared.operation.StubOp.{StubOp}
 use Rattle.stub_operations.specs.Operations.{CallSays, ParameterSays, reading, holding, preparing, only_if, keys_at_call, keys_at_return}
 use Rattle.stub_operations.specs.declared.operation.StubOp.TheVariants.{Register}
-use Rattle.call_operations.specs.declared.kind.Kind.{Kind}
-use Rattle.call_operations.specs.declared.kind.Kind.TheVariants as kinds
+use Rattle.call_operations.specs.declared.kind.OperationKind.{OperationKind}
+use Rattle.call_operations.specs.declared.kind.OperationKind.TheVariants as kinds
 use Rattle.call_operations.specs.declared.said.Said.{Said}
 
 abbrev pub parameter_says : Param → ParameterSays
@@ -36,7 +36,7 @@ says s = record {
 }
 
 -- the operations of a kind, of the parameter at a place
-abbrev pub of_kind : Kind → CallSays → ℕ → ParameterSays → List StubOp
+abbrev pub of_kind : OperationKind → CallSays → ℕ → ParameterSays → List StubOp
 of_kind kinds.Read n p x = reading p x.reads
 of_kind kinds.Hold n p x = holding p x.writes
 of_kind kinds.Prepare n p x = preparing p x.prepares

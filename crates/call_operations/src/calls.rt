@@ -6,7 +6,7 @@ ghost use Rattle.stub_operations.specs.Operations.{by_place, committing, holding
 ghost use Rattle.call_operations.specs.Said.{call_says, of_kind, parameter_says, says};
 
 use crate::keys::{put_keys_at_call, put_keys_at_return};
-use crate::kind::Kind;
+use crate::kind::OperationKind;
 use crate::list::OperationList;
 use crate::said::Said;
 use annot_reader_words::{Annots, Param};
@@ -55,21 +55,21 @@ fn put_commit(list: &mut OperationList, commit: Option<(u8, Size)>)
 }
 
 // Adds the operations of a kind of one parameter.
-fn put_one(list: &mut OperationList, said: &Said<'_>, kind: Kind, place: u8, param: &Param)
+fn put_one(list: &mut OperationList, said: &Said<'_>, kind: OperationKind, place: u8, param: &Param)
     ensures { IsAdded list.old (of_kind kind (says said.now) place (parameter_says param.now)) list.new }
 {
     match kind {
-        Kind::Read => put_read(list, place, param.reads),
-        Kind::Hold => put_hold(list, place, param.writes),
-        Kind::Prepare => put_prepare(list, place, param.prepares),
-        Kind::Register => list.put_if(param.callback, StubOp::Register { param: place }),
-        Kind::KeyAtCall => put_keys_at_call(list, said, place),
-        Kind::KeyAtReturn => put_keys_at_return(list, said, place),
+        OperationKind::Read => put_read(list, place, param.reads),
+        OperationKind::Hold => put_hold(list, place, param.writes),
+        OperationKind::Prepare => put_prepare(list, place, param.prepares),
+        OperationKind::Register => list.put_if(param.callback, StubOp::Register { param: place }),
+        OperationKind::KeyAtCall => put_keys_at_call(list, said, place),
+        OperationKind::KeyAtReturn => put_keys_at_return(list, said, place),
     }
 }
 
 // Adds the operations of a kind, by parameter.
-fn put_kind(list: &mut OperationList, said: &Said<'_>, kind: Kind)
+fn put_kind(list: &mut OperationList, said: &Said<'_>, kind: OperationKind)
     requires { length said.now.params.now ≤ 256 }
     ensures { IsAdded list.old (by_place (of_kind kind (says said.now)) 0 (says said.now).params) list.new }
 {
@@ -85,13 +85,13 @@ pub fn operations(alloc: Global, annots: &Annots) -> Result<Vec<StubOp>, AllocEr
 {
     let said = Said::of(annots);
     let mut list = OperationList::new(alloc);
-    put_kind(&mut list, &said, Kind::Read);
-    put_kind(&mut list, &said, Kind::Hold);
-    put_kind(&mut list, &said, Kind::Prepare);
-    put_kind(&mut list, &said, Kind::Register);
+    put_kind(&mut list, &said, OperationKind::Read);
+    put_kind(&mut list, &said, OperationKind::Hold);
+    put_kind(&mut list, &said, OperationKind::Prepare);
+    put_kind(&mut list, &said, OperationKind::Register);
     put_commit(&mut list, said.commit);
-    put_kind(&mut list, &said, Kind::KeyAtCall);
-    put_kind(&mut list, &said, Kind::KeyAtReturn);
+    put_kind(&mut list, &said, OperationKind::KeyAtCall);
+    put_kind(&mut list, &said, OperationKind::KeyAtReturn);
     list.put_if(said.cache, StubOp::CacheRet);
     list.finish()
 }
@@ -102,8 +102,8 @@ pub fn operations_below(alloc: Global, annots: &Annots) -> Result<Vec<StubOp>, A
 {
     let said = Said::of(annots);
     let mut list = OperationList::new(alloc);
-    put_kind(&mut list, &said, Kind::Hold);
-    put_kind(&mut list, &said, Kind::Prepare);
+    put_kind(&mut list, &said, OperationKind::Hold);
+    put_kind(&mut list, &said, OperationKind::Prepare);
     put_commit(&mut list, said.commit);
     list.finish()
 }

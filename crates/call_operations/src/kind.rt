@@ -2,7 +2,7 @@
 
 /// A kind of operations that parameters give.
 #[derive(Clone, Copy)]
-pub(crate) enum Kind {
+pub(crate) enum OperationKind {
     Read,
     Hold,
     Prepare,

@@ -163,7 +163,7 @@ some_nodes (Pointer from ps) = omega arith
 some_nodes (Array from x ps) = omega arith
 some_nodes (Params from ds ps) = omega arith
 
--- nothing but a struct's definition has members behind its declarator
+-- nothing but a struct's definition has members after its declarator
 global_broken : (tags : List (List ℕ)) (p : Program) (from : ℕ) (name : List ℕ) (t : CType) (ds : Decls) (m : ℕ) → Holds (Grows p m) (global tags p from name t (Members ds))
 global_broken tags p from name t ds m =
     holds_after (Grows p m) (complete (extents (at_file tags p)) from t) _ (holds_after (Grows p m) (declarable (at_file tags p) from name) _ tt)

@@ -82,10 +82,13 @@ pub(crate) fn flags_of(
     requires functions { length source.now.program.functions ≤ 1000 }
     requires mentioned { length mentions.now.functions ≡ length source.now.program.functions }
     requires globals { length mentions.now.globals ≤ 2 ^ 30 }
-    requires main { position_or_len is_named_main source.now.program.functions < length source.now.program.functions }
-    ensures each { IfOk result (λ s. HasAllFlags source.now.program s.above.items s.below.items s.faces.items) }
+    requires main { position_or_len is_named_main source.now.program.functions <
+        length source.now.program.functions }
+    ensures each { IfOk result (λ s.
+        HasAllFlags source.now.program s.above.items s.below.items s.faces.items) }
     ensures flags { (cut : List ℕ) (p : Program) (a : Annotated) → IsOf cut p a source.now →
-        mentions.now ≡ mentions_of p → IfOk result (λ s. AreFlags source.now.program mentions.now s (cut_of cut p a)) }
+        mentions.now ≡ mentions_of p →
+        IfOk result (λ s. AreFlags source.now.program mentions.now s (cut_of cut p a)) }
 {
     let functions = source.program.functions();
     let main = main_of(functions);

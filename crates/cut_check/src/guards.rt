@@ -47,7 +47,8 @@ fn lines_text(alloc: Global, found: &[LockFinding]) -> Result<Vec<u8>, AllocErro
 
 // The lines of all that was found, where this is the answer of the check.
 fn answer_text(alloc: Global, answer: Result<(), GuardError>) -> Result<Vec<u8>, AllocError>
-    ensures { (found : List Found) → Answers found answer → IfOk result (λ text. IsGuardsText found text.items) }
+    ensures { (found : List Found) → Answers found answer →
+        IfOk result (λ text. IsGuardsText found text.items) }
 {
     match answer {
         Ok(()) => Ok(Vec::new(alloc)),

@@ -24,7 +24,8 @@ pub fn cut_is_accepted()
 pub fn each_kind_of_reach_keeps_the_modes()
     ensures goes_on { thread whole ≡ Expects System (Enters false 19 (function_address 17 ∷ [])
         (frame_of scene 19 (function_address 17 ∷ []))) }
-    ensures reaches { reaches_of true thread whole ≡ on Replay 20 ∷ on Replay 20 ∷ on Replay 17 ∷ on Replay 17 ∷
+    ensures reaches { reaches_of true thread whole ≡
+        on Replay 20 ∷ on Replay 20 ∷ on Replay 17 ∷ on Replay 17 ∷
         on System 19 ∷ on System 19 ∷ on System 16 ∷ on System 18 ∷ on System 18 ∷ on Replay 17 ∷
         on Replay 17 ∷ on System 19 ∷ [] }
     ensures kept { ModesKept (May cut) thread whole }
@@ -32,7 +33,8 @@ pub fn each_kind_of_reach_keeps_the_modes()
 
 /// The same above the cut alone, where any code below it calls functions back.
 pub fn code_below_may_be_any()
-    ensures goes_on { thread_above scene (replay_part whole) ≡ Expects Replay (Below 19 (function_address 17 ∷ [])) }
+    ensures goes_on { thread_above scene (replay_part whole) ≡
+        Expects Replay (Below 19 (function_address 17 ∷ [])) }
     ensures reaches { reaches_of true (thread_above scene) (replay_part whole) ≡ on Replay 20 ∷ on Replay 20 ∷
         on Replay 17 ∷ on Replay 17 ∷ on System 19 ∷ on Replay 17 ∷ on Replay 17 ∷ on System 19 ∷ [] }
     ensures kept { ModesKept (May cut) (thread_above scene) (replay_part whole) }

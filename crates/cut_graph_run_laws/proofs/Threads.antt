@@ -7,8 +7,8 @@ use Rattle.c_types_model.specs.Types.{CType}
 use Rattle.c_semantics.specs.Reading.{Marks}
 use Rattle.c_semantics.specs.Context.{Source}
 use Rattle.c_semantics.specs.Calls.{thread_above, thread_behaviour}
-use Rattle.c_lower_rules.specs.Laws.{MakesTheMarks, laid}
-use Rattle.c_lower_rules.specs.Placement.{IsSigOf}
+use Rattle.c_lower_placement.specs.Laws.{MakesTheMarks, laid}
+use Rattle.c_lower_placement.specs.Placement.{IsSigOf}
 use Rattle.cut_graph_laws.specs.Answering.{MarksAnswer}
 use Rattle.cut_graph_laws.specs.Granted.{Grants, Permits, WantsAreGranted}
 use Rattle.cut_graph_rules.specs.Findings.{Cut}

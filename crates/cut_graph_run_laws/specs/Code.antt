@@ -6,8 +6,8 @@ use Rattle.c_code.specs.MarkLists.{Above, Expects, lists, thread_lists, want_abo
 use Rattle.c_types_model.specs.Types.{CType}
 use Rattle.c_semantics.specs.Reading.{Marks}
 use Rattle.c_semantics.specs.Context.{Source}
-use Rattle.c_lower_rules.specs.Laws.{laid}
-use Rattle.c_lower_rules.specs.Placement.{IsSigOf}
+use Rattle.c_lower_placement.specs.Laws.{laid}
+use Rattle.c_lower_placement.specs.Placement.{IsSigOf}
 
 -- the threads of the code of a source: of its function at an address, or above the cut alone
 pub data IsCodeThread (s : Source) (code : Flat) : Marks → Type 0 where

@@ -16,8 +16,8 @@ use Rattle.c_types_program.specs.Programs.{IsProgram, program_in, texts_in}
 use Rattle.c_semantics.specs.Arguments.{ArgumentsAreConverted, Passes}
 use Rattle.c_semantics.specs.Context.{Source}
 use Rattle.c_semantics.specs.Returned.{ResultsAreConverted}
-use Rattle.c_lower_rules.specs.Code.{making}
-use Rattle.c_lower_rules.specs.Laws.{MakesTheMarks}
+use Rattle.c_lower_placement.specs.Code.{making}
+use Rattle.c_lower_placement.specs.Laws.{MakesTheMarks}
 use Rattle.c_lower_layout.specs.Sources.{sig_in, source_in}
 use Rattle.c_lower_laws.specs.Fits.{IsFit}
 use Rattle.c_lower_laws.proofs.Passing.{statement_passes}

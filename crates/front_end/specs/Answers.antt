@@ -8,7 +8,7 @@ use Rattle.c_types_rules.specs.Sources.{Program}
 use Rattle.c_code.specs.Machine.{Flat}
 use Rattle.c_code.specs.Typed.{KeepsTypes}
 use Rattle.c_semantics.specs.Context.{Source}
-use Rattle.c_lower_rules.specs.Laws.{MakesTheMarks, laid}
+use Rattle.c_lower_placement.specs.Laws.{MakesTheMarks, laid}
 use Rattle.c_types_program.specs.Declarations.{Declared}
 use Rattle.c_types_program.specs.Programs.{IsProgram}
 use Rattle.c_types_program.specs.declared.text.TextLiteral.{TextLiteral}

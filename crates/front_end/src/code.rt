@@ -23,7 +23,8 @@ pub(crate) fn code_of(
     nodes: usize,
     program: &TypedProgram,
 ) -> Result<Code, SourceError>
-    requires typed { (ds : Decls) × (p : Program) × (nodes ≡ capped (source_nodes ds)) × (outcome ds ≡ Typed p) ×
+    requires typed { (ds : Decls) × (p : Program) × (nodes ≡ capped (source_nodes ds)) ×
+        (outcome ds ≡ Typed p) ×
         IsProgram program.now p }
     requires texts { length program.now.texts < 2 ^ 32 }
     ensures small { (ds : Decls) (p : Program) → nodes ≡ capped (source_nodes ds) → outcome ds ≡ Typed p →

@@ -13,8 +13,8 @@ use Rattle.cut_graph_rules.specs.declared.mention.Mention.{Mention}
 use Rattle.cut_graph_rules.specs.Sources.{Mentioned, mentions_of}
 use Rattle.cut_graph_rules.specs.MayRun.{mentions_in}
 use Rattle.cut_graph_rules.specs.Findings.{Cut, IsWritten, May}
-use Rattle.isolation_check_rows.specs.declared.kind.Kind.{Kind}
-use Rattle.isolation_check_rows.specs.declared.kind.Kind.TheVariants as kinds
+use Rattle.isolation_check_rows.specs.declared.kind.MentionKind.{MentionKind}
+use Rattle.isolation_check_rows.specs.declared.kind.MentionKind.TheVariants as kinds
 use Rattle.isolation_check_rows.specs.declared.sides.Counts.TheVariants as counting
 use Rattle.isolation_check_rows.specs.Rows.{counts, first_from, flag, mention_of}
 use Rattle.isolation_check_rows.specs.Firsts.{Mentions}
@@ -40,13 +40,13 @@ given_there g n k a e =
 module _ (p : Declared) (n : Mentioned) (aboves belows faces : List Bool) (c : Cut) (k : IsCut p n aboves belows faces c) where
   -- ---- functions that count, and what they mention
 
-  mentions_at : (kind : Kind) (count : ℕ → Bool) (place q : ℕ) → Mentions kind count place first_source_function n.functions q
+  mentions_at : (kind : MentionKind) (count : ℕ → Bool) (place q : ℕ) → Mentions kind count place first_source_function n.functions q
       → Contains (mentions_in (mentions_of c.program) (first_source_function + q)) (mention_of kind place)
   mentions_at kind count place q h =
       subst (λ (m : Mentioned). Contains (mentions_in m (first_source_function + q)) (mention_of kind place)) k.mentions
       (subst (λ (l : List Mention). Contains l (mention_of kind place)) (sym (in_function n q h.list h.there)) h.mentions)
 
-  mentioned_by : (kind : Kind) (count : ℕ → Bool) (place f : ℕ) → count f ≡ true
+  mentioned_by : (kind : MentionKind) (count : ℕ → Bool) (place f : ℕ) → count f ≡ true
       → Contains (mentions_in (mentions_of c.program) f) (mention_of kind place)
       → (q : ℕ) × (f ≡ first_source_function + q) × Mentions kind count place first_source_function n.functions q
   mentioned_by kind count place f runs h =

@@ -2,7 +2,7 @@
 use Rattle.std.specs.Prelude.{ℕ, Bool, List, Option, Some, None}
 use Rattle.c_builtins.specs.Table.{first_source_function}
 use Rattle.cut_graph_rules.specs.declared.mention.Mention.{Mention}
-use Rattle.isolation_check_rows.specs.declared.kind.Kind.TheVariants as kinds
+use Rattle.isolation_check_rows.specs.declared.kind.MentionKind.TheVariants as kinds
 use Rattle.isolation_check_rows.specs.declared.sides.Counts.TheVariants as counting
 use Rattle.isolation_check_rows.specs.Rows.{counts, first_from}
 use Rattle.isolation_check_rules.specs.declared.area.Area.{Area}

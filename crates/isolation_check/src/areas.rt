@@ -6,7 +6,7 @@ ghost use Rattle.c_builtins.specs.Table.{first_source_function};
 ghost use Rattle.isolation_check.specs.Areas.{area_at, area_of};
 
 use cut_graph_mentions::Mentions;
-use isolation_check_rows::{Counts, Entry, Kind, Sides, first};
+use isolation_check_rows::{Counts, Entry, MentionKind, Sides, first};
 use isolation_check_rules::Area;
 use std::alloc::{AllocError, Global};
 
@@ -39,14 +39,28 @@ pub(crate) fn areas(
         (range_with_len 0 count)) }
 {
     let functions = mentions.functions();
-    let above = first(alloc, functions, sides, Counts::Above, Kind::Global, count)?;
-    let below = first(alloc, functions, sides, Counts::Below, Kind::Global, count)?;
+    let above = first(
+        alloc,
+        functions,
+        sides,
+        Counts::Above,
+        MentionKind::Global,
+        count,
+    )?;
+    let below = first(
+        alloc,
+        functions,
+        sides,
+        Counts::Below,
+        MentionKind::Global,
+        count,
+    )?;
     let written = first(
         alloc,
         functions,
         sides,
         Counts::Either,
-        Kind::Written,
+        MentionKind::Written,
         count,
     )?;
     let mut areas = Vec::with_capacity(alloc, count)?;

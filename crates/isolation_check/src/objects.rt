@@ -37,7 +37,8 @@ struct Layout {
 fn lay_out(alloc: Global, program: &TypedProgram, areas: &[Area]) -> Result<Layout, AllocError>
     requires fits { FitsAreas (program_in program.now []) (strings_in program.now.texts) }
     requires areas { length areas.now ≡ length program.now.globals }
-    ensures { IfOk result (λ l. IsLayout program.now areas.now l.strings.items l.globals.items l.extents.items) }
+    ensures { IfOk result (λ l.
+        IsLayout program.now areas.now l.strings.items l.globals.items l.extents.items) }
 {
     strings_lie_among_constants();
     globals_lie_in_their_areas();

@@ -11,7 +11,7 @@ use Rattle.cut_graph_rules.specs.declared.mention.Mention.{Mention}
 use Rattle.cut_graph_rules.specs.Sources.{Mentioned}
 use Rattle.cut_graph_rules.specs.MayRun.{Names}
 use Rattle.cut_graph_rules.specs.Findings as rules
-use Rattle.isolation_check_rows.specs.declared.kind.Kind.{Kind}
+use Rattle.isolation_check_rows.specs.declared.kind.MentionKind.{MentionKind}
 use Rattle.isolation_check_rows.specs.Rows.{AreFirst, first_from}
 use Rattle.isolation_check_findings.specs.declared.finding.Finding.{Finding}
 use Rattle.isolation_check_findings.specs.Found.{AboveBy, Adds, HasLine, IsAboveAt, IsAboveIn, IsBelow, SharedBy, finding_of, function_name, global_name, is_outside}
@@ -89,7 +89,7 @@ some_of None e = cc
 some_of (Some x) e = (x, refl)
 
 -- what a row of first functions says of one global
-pub read_first : (kind : Kind) (count : ℕ → Bool) (many : ℕ) (functions are : List (List Mention)) (row : List (Option ℕ)) (i : ℕ) (x : Option ℕ)
+pub read_first : (kind : MentionKind) (count : ℕ → Bool) (many : ℕ) (functions are : List (List Mention)) (row : List (Option ℕ)) (i : ℕ) (x : Option ℕ)
     → AreFirst kind count many functions row → functions ≡ are → i < many → x ≡ get_or row i x
     → x ≡ first_from kind count i first_source_function are
 read_first kind count many functions are row i x h e lt read =

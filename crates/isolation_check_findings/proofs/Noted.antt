@@ -10,7 +10,7 @@ use Rattle.cut_graph_rules.specs.declared.mention.Mention.{Mention}
 use Rattle.cut_graph_rules.specs.declared.mention.Mention.TheVariants.{Function, Global}
 use Rattle.cut_graph_rules.specs.Sources.{Mentioned}
 use Rattle.cut_graph_rules.specs.MayRun.{Names, in_body, in_value, mentions_in, mentions_in_value, or_nothing}
-use Rattle.isolation_check_rows.specs.declared.kind.Kind.TheVariants as kinds
+use Rattle.isolation_check_rows.specs.declared.kind.MentionKind.TheVariants as kinds
 use Rattle.isolation_check_rows.specs.Rows.{IsEmpty, IsNoted, entry, has, noted}
 use Rattle.isolation_check_rows.proofs.Has.{contains_has, has_contains}
 use Rattle.isolation_check_rows.proofs.Steps.{one_at}

@@ -10,7 +10,7 @@ use Rattle.cut_graph_rules.specs.Sources.{Mentioned}
 use Rattle.cut_graph_rules.specs.MayRun.{Names}
 use Rattle.cut_graph_rules.specs.Findings as rules
 use Rattle.cut_graph_rules.specs.Findings.{Shared, Above, line_of}
-use Rattle.isolation_check_rows.specs.declared.kind.Kind.TheVariants as kinds
+use Rattle.isolation_check_rows.specs.declared.kind.MentionKind.TheVariants as kinds
 use Rattle.isolation_check_rows.specs.declared.sides.Counts.TheVariants as counting
 use Rattle.isolation_check_rows.specs.Rows.{counts, first_from, flag}
 use Rattle.isolation_check_findings.specs.declared.finding.Cause.{Cause}
@@ -61,7 +61,8 @@ IsBelow n P x = (k : ℕ) × (k < n) × P k x
 -- ---- globals
 
 -- what the first functions that mention a global above and below, and the first that writes it, say of it
-pub record SharedBy (p : Declared) (place : ℕ) (above below written : Option ℕ) (x : rules.Finding) : Type 0 where
+pub record SharedBy (p : Declared) (place : ℕ) (above below written : Option ℕ)
+    (x : rules.Finding) : Type 0 where
   pub a : ℕ
   pub b : ℕ
   pub w : ℕ
@@ -109,6 +110,7 @@ pub record IsAboveIn (p : Declared) (n : Mentioned) (runs : Bool) (faces : List 
   pub may_run : runs ≡ true
   pub external : IsBelow count (IsAboveAt p n faces caller) x
 
-abbrev pub IsAbove : Declared → Mentioned → (above faces : List Bool) → (count caller : ℕ) → rules.Finding → Type 0
+abbrev pub IsAbove : Declared → Mentioned → (above faces : List Bool) → (count caller : ℕ) →
+    rules.Finding → Type 0
 IsAbove p n above faces count caller x =
     IsAboveIn p n (flag above (first_source_function + caller)) faces count caller x

@@ -4,7 +4,7 @@ use Rattle.c_builtins.specs.Table.{first_source_function}
 use Rattle.cut_graph_rules.specs.declared.mention.Mention.{Mention}
 use Rattle.cut_graph_rules.specs.Sources.{Mentioned}
 use Rattle.cut_graph_rules.specs.MayRun.{Names}
-use Rattle.isolation_check_rows.specs.declared.kind.Kind.TheVariants as kinds
+use Rattle.isolation_check_rows.specs.declared.kind.MentionKind.TheVariants as kinds
 use Rattle.isolation_check_rows.specs.Rows.{entry, has, noted}
 
 -- whether the value of a global with an entry mentions the function
@@ -23,4 +23,5 @@ pub record IsNotedByValues (function : ℕ) (old : List (Option ℕ)) (tables : 
 -- of so many functions of the source, those that this one names have an entry
 pub record AreNamed (n : Mentioned) (function count : ℕ) (row : List (Option ℕ)) : Type 0 where
   pub size : length row ≡ first_source_function + count
-  pub exact : (k : ℕ) → k < first_source_function + count → (is_some (entry row k) ≡ true) ↔ Names n function k
+  pub exact : (k : ℕ) → k < first_source_function + count →
+      (is_some (entry row k) ≡ true) ↔ Names n function k

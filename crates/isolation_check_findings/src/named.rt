@@ -2,7 +2,7 @@
 
 ghost use Rattle.std.specs.Prelude.{◌≡◌, ◌+◌, ◌<◌, ◌≤◌, ◌^◌, ◌&&◌, ℕ, length, is_some, IfOk};
 ghost use Rattle.c_builtins.specs.Table.{first_source_function};
-ghost use Rattle.isolation_check_rows.specs.declared.kind.Kind.TheVariants as kinds;
+ghost use Rattle.isolation_check_rows.specs.declared.kind.MentionKind.TheVariants as kinds;
 ghost use Rattle.isolation_check_rows.specs.Rows.{entry, has, noted};
 ghost use Rattle.isolation_check_findings.specs.Named.{AreNamed, IsNotedByValues};
 
@@ -10,7 +10,7 @@ use c_builtins::FIRST_SOURCE_FUNCTION;
 use c_syntax::Seq;
 use cut_graph_mentions::Mentions;
 use cut_graph_rules::Mention;
-use isolation_check_rows::{Entry, Kind, empty, note, number};
+use isolation_check_rows::{Entry, MentionKind, empty, note, number};
 use std::alloc::{AllocError, Global};
 
 // Notes a function at each function that the value of a global mentions, if the global has an entry.
@@ -20,7 +20,7 @@ fn note_value(row: &mut Vec<Entry>, table: Entry, value: &[Mention], function: u
         noted (is_some table && has kinds.Function k value.now) function (entry row.old.items k) }
 {
     if table.is_some() {
-        note(row, value, Kind::Function, function);
+        note(row, value, MentionKind::Function, function);
     }
 }
 
@@ -55,8 +55,8 @@ pub(crate) fn named(
     let function = number(place);
     let mut row = empty(alloc, usize::from(FIRST_SOURCE_FUNCTION) + count)?;
     let mut tables = empty(alloc, values.len())?;
-    note(&mut row, names, Kind::Function, function);
-    note(&mut tables, names, Kind::Global, function);
+    note(&mut row, names, MentionKind::Function, function);
+    note(&mut tables, names, MentionKind::Global, function);
     note_values(&mut row, &tables, values, function);
     Ok(row)
 }

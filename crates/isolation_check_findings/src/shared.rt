@@ -8,7 +8,7 @@ use crate::finding::{Finding, shared_finding};
 use crate::names::{function_name, global_name};
 use c_types_program::TypedProgram;
 use cut_graph_mentions::Mentions;
-use isolation_check_rows::{Counts, Entry, Kind, Sides, first};
+use isolation_check_rows::{Counts, Entry, MentionKind, Sides, first};
 use std::alloc::{AllocError, Global};
 
 // What the functions in three entries of a global say of it.
@@ -58,14 +58,28 @@ pub(crate) fn shared<'a>(
 {
     let functions = mentions.functions();
     let count = program.globals().len();
-    let above = first(alloc, functions, sides, Counts::Above, Kind::Global, count)?;
-    let below = first(alloc, functions, sides, Counts::Below, Kind::Global, count)?;
+    let above = first(
+        alloc,
+        functions,
+        sides,
+        Counts::Above,
+        MentionKind::Global,
+        count,
+    )?;
+    let below = first(
+        alloc,
+        functions,
+        sides,
+        Counts::Below,
+        MentionKind::Global,
+        count,
+    )?;
     let written = first(
         alloc,
         functions,
         sides,
         Counts::Either,
-        Kind::Written,
+        MentionKind::Written,
         count,
     )?;
     for place in 0..count {

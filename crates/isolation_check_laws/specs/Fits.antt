@@ -42,7 +42,8 @@ last_in areas.System = system_globals + greatest_object
 abbrev pub AreStrings : (last : ℕ) → List (List ℕ) → (addresses : List ℕ) → Type 0
 AreStrings last [] ats = Unit {0}
 AreStrings last (bytes ∷ rest) [] = Unit {0}
-AreStrings last (bytes ∷ rest) (at ∷ ats) = (constants ≤ at) × (at + (length bytes + 1) ≤ last) × AreStrings last rest ats
+AreStrings last (bytes ∷ rest) (at ∷ ats) =
+    (constants ≤ at) × (at + (length bytes + 1) ≤ last) × AreStrings last rest ats
 
 -- strings that stand in a source of 1 MiB at most, and globals that would all fit in one area
 pub record FitsAreas (p : Program) (strings : List (List ℕ)) : Type 0 where

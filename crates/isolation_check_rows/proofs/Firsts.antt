@@ -4,12 +4,12 @@ use Rattle.std.specs.Prelude.{Option, Some, None, slice_get}
 use Rattle.std.specs.List.{Contains}
 use Rattle.std.proofs.lemmas.Bool.{and_from, and_parts, both_ways}
 use Rattle.cut_graph_rules.specs.declared.mention.Mention.{Mention}
-use Rattle.isolation_check_rows.specs.declared.kind.Kind.{Kind}
+use Rattle.isolation_check_rows.specs.declared.kind.MentionKind.{MentionKind}
 use Rattle.isolation_check_rows.specs.Rows.{first_from, has, mention_of, noted}
 use Rattle.isolation_check_rows.specs.Firsts.{IsFound, IsNowhere, Mentions}
 use Rattle.isolation_check_rows.proofs.Has.{contains_has, has_contains}
 
-module _ (kind : Kind) (count : ℕ → Bool) (k : ℕ) where
+module _ (kind : MentionKind) (count : ℕ → Bool) (k : ℕ) where
   -- the function after the first ones is the function of the number that comes next
   after : (number : ℕ) (ms : List Mention) (rest : List (List Mention)) (place : ℕ) → Mentions kind count k (number + 1) rest place
       → Mentions kind count k number (ms ∷ rest) (suc place)

@@ -3,15 +3,15 @@ use Rattle.std.specs.Prelude.{◌≡◌, ℕ, ◌+◌, ◌<◌, ◌==◌, Bool, 
 use Rattle.c_builtins.specs.Table.{first_source_function}
 use Rattle.cut_graph_rules.specs.declared.mention.Mention.{Mention}
 use Rattle.cut_graph_rules.specs.declared.mention.Mention.TheVariants.{Function, Global, Written}
-use Rattle.isolation_check_rows.specs.declared.kind.Kind.{Kind}
-use Rattle.isolation_check_rows.specs.declared.kind.Kind.TheVariants as kinds
+use Rattle.isolation_check_rows.specs.declared.kind.MentionKind.{MentionKind}
+use Rattle.isolation_check_rows.specs.declared.kind.MentionKind.TheVariants as kinds
 use Rattle.isolation_check_rows.specs.declared.sides.Counts.{Counts}
 use Rattle.isolation_check_rows.specs.declared.sides.Counts.TheVariants.{Above, Below, Either}
 
 -- ---- mentions
 
 -- what a mention names, where it is of a kind
-abbrev pub place_of : Kind → Mention → Option ℕ
+abbrev pub place_of : MentionKind → Mention → Option ℕ
 place_of kinds.Function (Function number) = Some number
 place_of kinds.Function (Global place) = None
 place_of kinds.Function (Written place) = None
@@ -23,7 +23,7 @@ place_of kinds.Written (Global place) = None
 place_of kinds.Written (Written place) = Some place
 
 -- the mention of a kind that names this
-abbrev pub mention_of : Kind → ℕ → Mention
+abbrev pub mention_of : MentionKind → ℕ → Mention
 mention_of kinds.Function k = Function k
 mention_of kinds.Global k = Global k
 mention_of kinds.Written k = Written k
@@ -33,7 +33,7 @@ is_here k (Some place) = k == place
 is_here k None = false
 
 -- whether mentions of a kind name this
-abbrev pub has : Kind → (k : ℕ) → List Mention → Bool
+abbrev pub has : MentionKind → (k : ℕ) → List Mention → Bool
 has kind k [] = false
 has kind k (m ∷ ms) = is_here k (place_of kind m) || has kind k ms
 
@@ -62,23 +62,23 @@ noted true function old = Some function
 noted false function old = old
 
 -- a function was noted wherever its mentions of a kind say
-pub record IsNoted (kind : Kind) (function : ℕ) (old : List (Option ℕ)) (ms : List Mention)
+pub record IsNoted (kind : MentionKind) (function : ℕ) (old : List (Option ℕ)) (ms : List Mention)
     (new : List (Option ℕ)) : Type 0 where
   pub size : length new ≡ length old
   pub entries : (k : ℕ) → k < length old → entry new k ≡ noted (has kind k ms) function (entry old k)
 
 -- of functions from a number on, the first that counts and has a mention of a kind that names this
-abbrev pub first_from : Kind → (count : ℕ → Bool) → (k number : ℕ) → List (List Mention) → Option ℕ
+abbrev pub first_from : MentionKind → (count : ℕ → Bool) → (k number : ℕ) → List (List Mention) → Option ℕ
 first_from kind count k number [] = None
 first_from kind count k number (ms ∷ rest) =
     noted (count number && has kind k ms) number (first_from kind count k (number + 1) rest)
 
 -- the same from a number on, of each of so many
-pub record AreFirstFrom (kind : Kind) (count : ℕ → Bool) (many number : ℕ) (functions : List (List Mention))
+pub record AreFirstFrom (kind : MentionKind) (count : ℕ → Bool) (many number : ℕ) (functions : List (List Mention))
     (row : List (Option ℕ)) : Type 0 where
   pub size : length row ≡ many
   pub entries : (k : ℕ) → k < many → entry row k ≡ first_from kind count k number functions
 
-abbrev pub AreFirst : Kind → (count : ℕ → Bool) → (many : ℕ) → List (List Mention) →
+abbrev pub AreFirst : MentionKind → (count : ℕ → Bool) → (many : ℕ) → List (List Mention) →
     List (Option ℕ) → Type 0
 AreFirst kind count many functions row = AreFirstFrom kind count many first_source_function functions row

@@ -7,27 +7,27 @@ use cut_graph_rules::Mention;
 
 /// What mentions are looked for: those of functions, of globals, or of globals that are written.
 #[derive(Clone, Copy)]
-pub enum Kind {
+pub enum MentionKind {
     Function,
     Global,
     Written,
 }
 
-impl Kind {
+impl MentionKind {
     /// What a mention names, where it is of this kind.
     pub fn place(self, mention: Mention) -> Option<u32>
         ensures { result ≡ place_of self mention }
     {
         match self {
-            Kind::Function => match mention {
+            MentionKind::Function => match mention {
                 Mention::Function(number) => Some(number),
                 Mention::Global(_) | Mention::Written(_) => None,
             },
-            Kind::Global => match mention {
+            MentionKind::Global => match mention {
                 Mention::Global(place) => Some(place),
                 Mention::Function(_) | Mention::Written(_) => None,
             },
-            Kind::Written => match mention {
+            MentionKind::Written => match mention {
                 Mention::Written(place) => Some(place),
                 Mention::Function(_) | Mention::Global(_) => None,
             },

@@ -6,7 +6,7 @@ mod laws;
 mod row;
 mod sides;
 
-pub use kind::Kind;
+pub use kind::MentionKind;
 pub use laws::first_functions_are_found;
 pub use row::{Entry, empty, first, note, number};
 pub use sides::{Counts, Sides};

@@ -4,7 +4,7 @@ ghost use Rattle.std.specs.Prelude.{◌≡◌, ◌+◌, ◌<◌, ◌≤◌, ◌^
 ghost use Rattle.c_builtins.specs.Table.{first_source_function};
 ghost use Rattle.isolation_check_rows.specs.Rows.{AreFirst, IsEmpty, IsNoted, counts, entry, has, is_here, noted};
 
-use crate::kind::Kind;
+use crate::kind::MentionKind;
 use crate::sides::{Counts, Sides};
 use c_builtins::FIRST_SOURCE_FUNCTION;
 use c_syntax::Seq;
@@ -46,7 +46,7 @@ fn note_at(row: &mut Vec<Entry>, place: Option<u32>, function: u16)
 }
 
 /// Notes a function at each place that its mentions of a kind name.
-pub fn note(row: &mut Vec<Entry>, mentions: &[Mention], kind: Kind, function: u16)
+pub fn note(row: &mut Vec<Entry>, mentions: &[Mention], kind: MentionKind, function: u16)
     ensures { IsNoted kind function row.old.items mentions.now row.new.items }
 {
     for mention in mentions {
@@ -55,7 +55,7 @@ pub fn note(row: &mut Vec<Entry>, mentions: &[Mention], kind: Kind, function: u1
 }
 
 // The same, where the function counts.
-fn note_if(row: &mut Vec<Entry>, mentions: &[Mention], kind: Kind, function: u16, is: bool)
+fn note_if(row: &mut Vec<Entry>, mentions: &[Mention], kind: MentionKind, function: u16, is: bool)
     ensures size { length row.new.items ≡ length row.old.items }
     ensures entries { (k : ℕ) → k < length row.old.items →
         entry row.new.items k ≡ noted (is && has kind k mentions.now) function (entry row.old.items k) }
@@ -73,7 +73,7 @@ pub fn first(
     functions: &[Seq<Mention>],
     sides: Sides<'_>,
     which: Counts,
-    kind: Kind,
+    kind: MentionKind,
     count: usize,
 ) -> Result<Vec<Entry>, AllocError>
     requires { first_source_function + length functions.now ≤ 2 ^ 16 }

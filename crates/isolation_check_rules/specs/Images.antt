@@ -42,7 +42,8 @@ abbrev mutual
   members s (MoreInitials x xs) struct [] place after = []
   members s (MoreInitials x xs) struct (t ∷ ts) place after =
       let offset = member_offset s (StructOf struct) place in
-      replicate (offset - after) 0 ++ (image s x t ++ members s xs struct ts (place + 1) (offset + size_of s t))
+      replicate (offset - after) 0 ++
+      (image s x t ++ members s xs struct ts (place + 1) (offset + size_of s t))
 
 -- what isn't given at all is zero
 abbrev pub given_image : Source → Option Initial → CType → List ℕ

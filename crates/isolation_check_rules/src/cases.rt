@@ -12,7 +12,8 @@ ghost use Rattle.isolation_check_rules.specs.Cases.{pair, placed_source};
 
 /// Strings lie at multiples of 16, each with its zero; that of 15 bytes leaves no gap, and the empty one takes a byte.
 pub fn strings_lie_one_after_another()
-    ensures { string_addresses ((104 ∷ 105 ∷ []) ∷ [] ∷ (1 ∷ 2 ∷ 3 ∷ 4 ∷ 5 ∷ 6 ∷ 7 ∷ 8 ∷ 9 ∷ 10 ∷ 11 ∷ 12 ∷ 13 ∷ 14 ∷ 15 ∷ []) ∷ [] ∷ []) ≡
+    ensures { string_addresses ((104 ∷ 105 ∷ []) ∷ [] ∷
+        (1 ∷ 2 ∷ 3 ∷ 4 ∷ 5 ∷ 6 ∷ 7 ∷ 8 ∷ 9 ∷ 10 ∷ 11 ∷ 12 ∷ 13 ∷ 14 ∷ 15 ∷ []) ∷ [] ∷ []) ≡
         1048576 ∷ 1048592 ∷ 1048608 ∷ 1048624 ∷ [] }
 {}
 
@@ -47,6 +48,7 @@ pub fn the_rest_is_zero()
     ensures members { image placed_source (Listed (MoreInitials (Scalar (Number (pos 1)))
         (MoreInitials (Scalar (Number (pos 2))) NoInitials))) pair ≡
         1 ∷ 0 ∷ 0 ∷ 0 ∷ 0 ∷ 0 ∷ 0 ∷ 0 ∷ 2 ∷ 0 ∷ 0 ∷ 0 ∷ 0 ∷ 0 ∷ 0 ∷ 0 ∷ [] }
-    ensures first_member { image placed_source (Listed (MoreInitials (Scalar (Number (pos 1))) NoInitials)) pair ≡
+    ensures first_member { image placed_source
+        (Listed (MoreInitials (Scalar (Number (pos 1))) NoInitials)) pair ≡
         1 ∷ 0 ∷ 0 ∷ 0 ∷ 0 ∷ 0 ∷ 0 ∷ 0 ∷ 0 ∷ 0 ∷ 0 ∷ 0 ∷ 0 ∷ 0 ∷ 0 ∷ 0 ∷ [] }
 {}

@@ -9,4 +9,5 @@ flag None = false
 -- those of a source that have a flag in its order; no builtins
 abbrev pub runs_by : List Bool → (number : ℕ) → Bool
 runs_by flags number =
-    if nat_lt number first_source_function then false else flag (slice_get flags (number - first_source_function))
+    if nat_lt number first_source_function then false
+    else flag (slice_get flags (number - first_source_function))

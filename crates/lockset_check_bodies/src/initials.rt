@@ -11,7 +11,8 @@ use lockset_check_values::{Walk, Walker};
 use std::alloc::AllocError;
 
 fn walk_known(walker: &Walker<'_, '_>, walk: &mut Walk, known: Known) -> Result<(), AllocError>
-    ensures { OnOk result (walk.new.found ≡ walk.old.found ++ known_found (guarded walker.now) (known_in known)) }
+    ensures { OnOk result (walk.new.found ≡
+        walk.old.found ++ known_found (guarded walker.now) (known_in known)) }
 {
     match known {
         Known::Number(_) | Known::AddressOfText(_) | Known::AddressOfGlobal(_) => Ok(()),

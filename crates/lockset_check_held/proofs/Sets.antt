@@ -5,7 +5,7 @@ use Rattle.std.specs.Cmp.Rules.{signed_items}
 use mathlib.Core.Logic.{⊎_elim}
 use Rattle.lockset_check_rules.specs.Mutexes.{Locks, is_held, same, shared, with_lock, without_lock}
 use Rattle.lockset_check_held.specs.declared.trail.Trail.{Trail}
-use Rattle.lockset_check_held.specs.Changes.{Adds, AreBoth, Changes, ChangesWithin, Drops, behind, first_changes, is_turned, one_of, turned}
+use Rattle.lockset_check_held.specs.Changes.{Adds, AreBoth, Changes, ChangesWithin, Drops, sets_after, first_changes, is_turned, one_of, turned}
 use Rattle.lockset_check_held.specs.HeldSets.{HeldSets, at_first, entering, forgetting, going_back, head, is_same_as, joining, keeping, leaving, or, restarting, shared_with, turning}
 use Rattle.lockset_check_held.specs.Rows.{AreWithin, IsTable, IsWithin, Learns, is_on, place_in, set_by, set_of, sets_of}
 use Rattle.lockset_check_held.specs.Trails.{AreRows, IsTrailWithin, TrailStays, Turns, sets_by}
@@ -44,7 +44,7 @@ changes_within_more old new l [] w = tt
 changes_within_more old new l (c ∷ cs) w = (within_more old new (is_turned c) l w.0, changes_within_more old new l cs w.1)
 
 behind_stay : (old new : List ℤ) → Learns old new → (test : ℕ → Bool) (cs : List Changes) → IsWithin (length old) test → ChangesWithin (length old) cs
-    → map (set_by new) (behind test cs) ≡ map (set_by old) (behind test cs)
+    → map (set_by new) (sets_after test cs) ≡ map (set_by old) (sets_after test cs)
 behind_stay old new l test [] t w = refl
 behind_stay old new l test (c ∷ cs) t w =
     let next = turned_within (is_turned c) test (length old) w.0 t in
@@ -82,8 +82,8 @@ turned_sets known by old new needs h =
     λ j. record {
       held = set_by known (h.0 j);
       start = set_by known (start j);
-      loops = map (set_by known) ((ap (λ (t : ℕ → Bool). behind t new.loops) h.0 ∙ h.2 r) j);
-      kept = map (set_by known) ((ap (λ (t : ℕ → Bool). behind t new.kept) h.0 ∙ h.3 r) j);
+      loops = map (set_by known) ((ap (λ (t : ℕ → Bool). sets_after t new.loops) h.0 ∙ h.2 r) j);
+      kept = map (set_by known) ((ap (λ (t : ℕ → Bool). sets_after t new.kept) h.0 ∙ h.3 r) j);
       needs = sets_of known needs;
     }
 
@@ -121,11 +121,11 @@ unknown_sets known t needs m w e = ap (λ (s : Locks). record (sets_by known t n
 
 module _ (known : List ℤ) (test : ℕ → Bool) where
   -- the first set is what is held but for its changes
-  pub first_held : (cs : List Changes) → set_by known (turned (is_turned (first_changes cs)) test) ≡ or (head (map (set_by known) (behind test cs))) (set_by known test)
+  pub first_held : (cs : List Changes) → set_by known (turned (is_turned (first_changes cs)) test) ≡ or (head (map (set_by known) (sets_after test cs))) (set_by known test)
   first_held [] = ap (set_by known) (turned_nowhere test)
   first_held (c ∷ cs) = refl
 
-  rest_of : (cs rest : List Changes) → behind test rest ≡ drop 1 (behind test cs) → map (set_by known) (behind test rest) ≡ drop 1 (map (set_by known) (behind test cs))
+  rest_of : (cs rest : List Changes) → sets_after test rest ≡ drop 1 (sets_after test cs) → map (set_by known) (sets_after test rest) ≡ drop 1 (map (set_by known) (sets_after test cs))
   rest_of [] rest h = ap (map (set_by known)) h
   rest_of (c ∷ cs) rest h = ap (map (set_by known)) h
 
@@ -159,7 +159,7 @@ module _ (known : List ℤ) (test : ℕ → Bool) where
           ∙ (λ j. held_some m known test p t e j && held_some m known (turned changes test) p t e j)))
 
   pub first_shared : IsTable known → (cs : List Changes) (lost : ℕ → Bool) → ((p : ℕ) → lost p ≡ (test p && is_turned (first_changes cs) p))
-      → set_by known (turned lost test) ≡ shared_with (head (map (set_by known) (behind test cs))) (set_by known test)
+      → set_by known (turned lost test) ≡ shared_with (head (map (set_by known) (sets_after test cs))) (set_by known test)
   first_shared t [] lost h = ap (set_by known) (λ j p. one_of ((h p ∙ (λ i. test p && nothing_turned p i) ∙ never (test p)) j) (test p))
     where
       never : (b : Bool) → (b && false) ≡ false
@@ -173,14 +173,14 @@ module _ (known : List ℤ) (t : Trail) (needs : List (List ℕ)) where
   kept_now rest c e h =
       let r = is_on t.held in
       ap (λ (l : List Locks). record (sets_by known t needs) { kept = l })
-      (ap (map (set_by known)) (h r) ∙ ap (λ (x : ℕ → Bool). set_by known x ∷ map (set_by known) (behind r t.kept)) (ap (λ (a : Changes). turned (is_turned a) r) e ∙ turned_nowhere r))
+      (ap (map (set_by known)) (h r) ∙ ap (λ (x : ℕ → Bool). set_by known x ∷ map (set_by known) (sets_after r t.kept)) (ap (λ (a : Changes). turned (is_turned a) r) e ∙ turned_nowhere r))
 
   pub entered : (rest : List Changes) (c : Changes) → c ≡ [] → Adds c t.loops rest
       → sets_by known (record t { loops = rest }) needs ≡ entering (sets_by known t needs)
   entered rest c e h =
       let r = is_on t.held in
       ap (λ (l : List Locks). record (sets_by known t needs) { loops = l })
-      (ap (map (set_by known)) (h r) ∙ ap (λ (x : ℕ → Bool). set_by known x ∷ map (set_by known) (behind r t.loops)) (ap (λ (a : Changes). turned (is_turned a) r) e ∙ turned_nowhere r))
+      (ap (map (set_by known)) (h r) ∙ ap (λ (x : ℕ → Bool). set_by known x ∷ map (set_by known) (sets_after r t.loops)) (ap (λ (a : Changes). turned (is_turned a) r) e ∙ turned_nowhere r))
 
   pub forgot : (rest : List Changes) → Drops t.kept rest
       → sets_by known (record t { kept = rest }) needs ≡ forgetting (sets_by known t needs)
@@ -194,7 +194,7 @@ module _ (known : List ℤ) (t : Trail) (needs : List (List ℕ)) where
         ∙ (λ j. record {
           held = (ap (λ (c : Changes). set_by known (turned (is_turned c) (is_on t.held))) is ∙ first_held known (is_on t.held) t.kept) j;
           start = set_by known (turned (is_turned t.start) (is_on t.held));
-          loops = map (set_by known) (behind (is_on t.held) t.loops);
+          loops = map (set_by known) (sets_after (is_on t.held) t.loops);
           kept = rest_of known (is_on t.held) t.kept rest (h (is_on t.held)) j;
           needs = sets_of known needs;
         })
@@ -205,7 +205,7 @@ module _ (known : List ℤ) (t : Trail) (needs : List (List ℕ)) where
         ∙ (λ j. record {
           held = first_shared known (is_on t.held) table t.kept (is_turned lost) (λ p. both p ∙ ap (λ (c : Changes). is_on t.held p && is_turned c p) is) j;
           start = set_by known (turned (is_turned t.start) (is_on t.held));
-          loops = map (set_by known) (behind (is_on t.held) t.loops);
+          loops = map (set_by known) (sets_after (is_on t.held) t.loops);
           kept = rest_of known (is_on t.held) t.kept rest (h (is_on t.held)) j;
           needs = sets_of known needs;
         })
@@ -232,7 +232,7 @@ module _ (known : List ℤ) (t : Trail) (needs : List (List ℕ)) where
         held = (ap (λ (c : Changes). set_by known (turned (is_turned c) (is_on t.held))) is ∙ first_held known (is_on t.held) t.loops) j;
         start = set_by known (turned (is_turned t.start) (is_on t.held));
         loops = rest_of known (is_on t.held) t.loops rest (h (is_on t.held)) j;
-        kept = map (set_by known) (behind (is_on t.held) t.kept);
+        kept = map (set_by known) (sets_after (is_on t.held) t.kept);
         needs = sets_of known needs;
       })
 
@@ -299,14 +299,14 @@ module _ (known : List ℤ) (table : IsTable known) (test : ℕ → Bool) where
       by true e = absurd (differ ((signed_items s other).0 e))
 
   pub first_compared : (cs : List Changes) (r : Bool) → ChangesWithin (length known) cs → (r ≡ true → first_changes cs ≡ []) → (r ≡ false → (p : ℕ) × (is_turned (first_changes cs) p ≡ true))
-      → r ≡ is_same_as (head (map (set_by known) (behind test cs))) (set_by known test)
+      → r ≡ is_same_as (head (map (set_by known) (sets_after test cs))) (set_by known test)
   first_compared [] true w none some = refl
   first_compared [] false w none some = absurd (let found = some refl in let no : false ≡ true = sym (nothing_turned found.0) ∙ found.1 in cc)
   first_compared (c ∷ cs) r w none some = compared c r w.0 none some
 
-pub any_behind : (known : List ℤ) (test : ℕ → Bool) (cs : List Changes) → is_some (slice_get cs 0) ≡ is_some (head (map (set_by known) (behind test cs)))
-any_behind known test [] = refl
-any_behind known test (c ∷ cs) = refl
+pub any_after : (known : List ℤ) (test : ℕ → Bool) (cs : List Changes) → is_some (slice_get cs 0) ≡ is_some (head (map (set_by known) (sets_after test cs)))
+any_after known test [] = refl
+any_after known test (c ∷ cs) = refl
 
 -- ---- loops
 

@@ -2,7 +2,7 @@
 use Rattle.std.proofs.Common.{◌≡◌, ℕ, Bool, true, false, List, [], ◌∷◌, ◌++◌, drop, Some, None, refl, sym, ap, subst, ◌∙◌}
 use Rattle.std.specs.Prelude.{reverse, slice_get}
 use Rattle.std.proofs.lemmas.List.{reverse-append}
-use Rattle.lockset_check_held.specs.Changes.{Adds, Changes, ChangesWithin, Drops, Keeps, StayWithin, StaysWithin, behind, first_changes, is_turned, one_of, turned}
+use Rattle.lockset_check_held.specs.Changes.{Adds, Changes, ChangesWithin, Drops, Keeps, StayWithin, StaysWithin, sets_after, first_changes, is_turned, one_of, turned}
 use Rattle.lockset_check_held.specs.Rows.{IsWithin}
 use Rattle.lockset_check_held.proofs.Changes.{nothing_turned}
 
@@ -50,13 +50,13 @@ module _ (by : ℕ → Bool) (old rest new : List Changes) (c d : Changes) where
   pub first_kept : Some c ≡ slice_get old 0 → rest ≡ drop 1 old → is_turned d ≡ turned by (is_turned c) → new ≡ d ∷ rest → Keeps by old new
   first_kept f r h n test = cases old f r
     where
-      cases : (all : List Changes) → Some c ≡ slice_get all 0 → rest ≡ drop 1 all → behind (turned by test) new ≡ behind test all
+      cases : (all : List Changes) → Some c ≡ slice_get all 0 → rest ≡ drop 1 all → sets_after (turned by test) new ≡ sets_after test all
       cases [] f r = no_first c f
       cases (x ∷ xs) f r =
           let stay : turned (is_turned d) (turned by test) ≡ turned (is_turned x) test =
           ap (λ (t : ℕ → Bool). turned t (turned by test)) h
           ∙ (turned_over by (is_turned c) test ∙ ap (λ (a : Changes). turned (is_turned a) test) (same_first c x f)) in
-          ap (behind (turned by test)) n ∙ (λ j. stay j ∷ behind (stay j) (r j))
+          ap (sets_after (turned by test)) n ∙ (λ j. stay j ∷ sets_after (stay j) (r j))
 
   pub first_stays : Some c ≡ slice_get old 0 → rest ≡ drop 1 old → StaysWithin by (is_turned c) (is_turned d) → new ≡ d ∷ rest → StayWithin by old new
   first_stays f r h n count b = cases old f r
@@ -67,7 +67,7 @@ module _ (by : ℕ → Bool) (old rest new : List Changes) (c d : Changes) where
           (h count b (subst (λ (a : Changes). IsWithin count (is_turned a)) (sym (same_first c x f)) w.0), subst (ChangesWithin count) (sym r) w.1)
 
 pub nothing_kept : (by : ℕ → Bool) (old new : List Changes) → None ≡ slice_get old 0 → new ≡ drop 1 old → Keeps by old new
-nothing_kept by [] new f r test = ap (behind (turned by test)) r
+nothing_kept by [] new f r test = ap (sets_after (turned by test)) r
 nothing_kept by (x ∷ xs) new f r test = no_first x (sym f)
 
 -- without the first one
@@ -87,8 +87,8 @@ first_taken (x ∷ xs) c f = same_first c x f
 pub rest_kept : (old rest new : List Changes) (c : Changes) → Some c ≡ slice_get old 0 → rest ≡ drop 1 old → Keeps (is_turned c) rest new → Drops old new
 rest_kept [] rest new c f r h test = no_first c f
 rest_kept (x ∷ xs) rest new c f r h test =
-    ap (λ (t : ℕ → Bool). behind t new) (sym (turned_twice (is_turned c) test))
-    ∙ (h (turned (is_turned c) test) ∙ (λ j. behind (turned (is_turned (same_first c x f j)) test) (r j)))
+    ap (λ (t : ℕ → Bool). sets_after t new) (sym (turned_twice (is_turned c) test))
+    ∙ (h (turned (is_turned c) test) ∙ (λ j. sets_after (turned (is_turned (same_first c x f j)) test) (r j)))
 
 pub rest_after : (old rest new : List Changes) (c : Changes) → Some c ≡ slice_get old 0 → rest ≡ drop 1 old → StayWithin (is_turned c) rest new
     → (count : ℕ) → ChangesWithin count old → ChangesWithin count new
@@ -101,12 +101,12 @@ nothing_taken [] f = refl
 nothing_taken (x ∷ xs) f = no_first x (sym f)
 
 pub nothing_left : (old new : List Changes) → None ≡ slice_get old 0 → new ≡ drop 1 old → Drops old new
-nothing_left [] new f r test = ap (behind test) r
+nothing_left [] new f r test = ap (sets_after test) r
 nothing_left (x ∷ xs) new f r test = no_first x (sym f)
 
 module _ (old mid new : List Changes) (c : Changes) where
   pub one_more : Keeps (is_turned c) old mid → new ≡ c ∷ mid → Adds c old new
-  one_more h n test = ap (behind test) n ∙ (λ j. turned (is_turned c) test ∷ h test j)
+  one_more h n test = ap (sets_after test) n ∙ (λ j. turned (is_turned c) test ∷ h test j)
 
   pub one_more_within : StayWithin (is_turned c) old mid → new ≡ c ∷ mid → StayWithin (is_turned c) old new
   one_more_within h n count b w = subst (ChangesWithin count) (sym n) (b, h count b w)

@@ -18,7 +18,8 @@ is_turned changes place = has_bit (change_of changes) place
 
 -- each word has a bit
 abbrev pub AreWords : Changes → Type 0
-AreWords changes = (number word : ℕ) → lookup (nat_eq number) changes ≡ Some word → (0 < word) × (word < 2 ^ 64)
+AreWords changes = (number word : ℕ) → lookup (nat_eq number) changes ≡ Some word →
+    (0 < word) × (word < 2 ^ 64)
 
 -- words of which one has bits
 abbrev pub one_word : (number bits : ℕ) → ℕ → ℕ
@@ -46,21 +47,21 @@ abbrev pub StaysWithin : (by old new : ℕ → Bool) → Type 0
 StaysWithin by old new = (count : ℕ) → IsWithin count by → IsWithin count old → IsWithin count new
 
 -- sets of places, each of which differs from the one before it by the changes of its place; the first from a set that is given
-abbrev pub behind : (ℕ → Bool) → List Changes → List (ℕ → Bool)
-behind test [] = []
-behind test (c ∷ cs) = turned (is_turned c) test ∷ behind (turned (is_turned c) test) cs
+abbrev pub sets_after : (ℕ → Bool) → List Changes → List (ℕ → Bool)
+sets_after test [] = []
+sets_after test (c ∷ cs) = turned (is_turned c) test ∷ sets_after (turned (is_turned c) test) cs
 
 -- such sets stay what they are where the one that is given turns
 abbrev pub Keeps : (by : ℕ → Bool) (old new : List Changes) → Type 0
-Keeps by old new = (test : ℕ → Bool) → behind (turned by test) new ≡ behind test old
+Keeps by old new = (test : ℕ → Bool) → sets_after (turned by test) new ≡ sets_after test old
 
 -- one set more, which differs by changes from the one that is given
 abbrev pub Adds : Changes → (old new : List Changes) → Type 0
-Adds changes old new = (test : ℕ → Bool) → behind test new ≡ turned (is_turned changes) test ∷ behind test old
+Adds changes old new = (test : ℕ → Bool) → sets_after test new ≡ turned (is_turned changes) test ∷ sets_after test old
 
 -- without the first of them
 abbrev pub Drops : (old new : List Changes) → Type 0
-Drops old new = (test : ℕ → Bool) → behind test new ≡ drop 1 (behind test old)
+Drops old new = (test : ℕ → Bool) → sets_after test new ≡ drop 1 (sets_after test old)
 
 -- the changes of the first place, if there is one
 abbrev pub first_changes : List Changes → Changes

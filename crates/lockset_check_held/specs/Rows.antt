@@ -66,4 +66,5 @@ row_at rows place = row_or_none (slice_get rows place)
 
 -- more is known, and the places that passed a test stand for the set that they stood for
 abbrev pub Learns : (old new : List ℤ) → Type 0
-Learns old new = (length old ≤ length new) × ((test : ℕ → Bool) → IsWithin (length old) test → set_by new test ≡ set_by old test)
+Learns old new = (length old ≤ length new) ×
+    ((test : ℕ → Bool) → IsWithin (length old) test → set_by new test ≡ set_by old test)

@@ -1,7 +1,7 @@
 -- What is held on a walk, and what was held before, as rows and changes of them.
 use Rattle.std.specs.Prelude.{◌≡◌, ℕ, ℤ, Bool, List, length, map}
 use Rattle.lockset_check_held.specs.declared.trail.Trail.{Trail}
-use Rattle.lockset_check_held.specs.Changes.{ChangesWithin, Keeps, behind, is_turned, turned}
+use Rattle.lockset_check_held.specs.Changes.{ChangesWithin, Keeps, sets_after, is_turned, turned}
 use Rattle.lockset_check_held.specs.HeldSets.{HeldSets}
 use Rattle.lockset_check_held.specs.Rows.{AreWithin, IsTable, IsWithin, is_on, set_by, set_of, sets_of}
 
@@ -14,7 +14,8 @@ Turns by old new =
 -- all places are below a number
 abbrev pub IsTrailWithin : (count : ℕ) → Trail → Type 0
 IsTrailWithin count t =
-    IsWithin count (is_on t.held) × IsWithin count (is_turned t.start) × ChangesWithin count t.loops × ChangesWithin count t.kept
+    IsWithin count (is_on t.held) × IsWithin count (is_turned t.start) ×
+    ChangesWithin count t.loops × ChangesWithin count t.kept
 
 -- where the places that turned are below a number, all stay below it
 abbrev pub TrailStays : (by : ℕ → Bool) (old new : Trail) → Type 0
@@ -29,7 +30,7 @@ abbrev pub sets_by : (known : List ℤ) → Trail → (needs : List (List ℕ)) 
 sets_by known t needs = record {
   held = set_of known t.held;
   start = set_by known (turned (is_turned t.start) (is_on t.held));
-  loops = map (set_by known) (behind (is_on t.held) t.loops);
-  kept = map (set_by known) (behind (is_on t.held) t.kept);
+  loops = map (set_by known) (sets_after (is_on t.held) t.loops);
+  kept = map (set_by known) (sets_after (is_on t.held) t.kept);
   needs = sets_of known needs;
 }

@@ -42,7 +42,8 @@ pub fn has(known: &IndexSet<i128>, mutex: i128, row: &Row) -> bool
 fn add(known: &mut IndexSet<i128>, row: &mut Row, mutex: i128) -> Result<(), AllocError>
     requires known { IsTable known.old.keys }
     requires row { IsWithin (length known.old.keys) (is_on row.old) }
-    ensures done { OnOk result (set_of known.new.keys row.new ≡ with_lock mutex (set_of known.old.keys row.old)) }
+    ensures done { OnOk result (set_of known.new.keys row.new ≡
+        with_lock mutex (set_of known.old.keys row.old)) }
     ensures known { IsTable known.new.keys }
     ensures row { IsWithin (length known.new.keys) (is_on row.new) }
     ensures learns { Learns known.old.keys known.new.keys }
@@ -59,7 +60,8 @@ fn add(known: &mut IndexSet<i128>, row: &mut Row, mutex: i128) -> Result<(), All
 fn add_all(known: &mut IndexSet<i128>, row: &mut Row, mutexes: &[i64]) -> Result<(), AllocError>
     requires known { IsTable known.old.keys }
     requires row { IsWithin (length known.old.keys) (is_on row.old) }
-    ensures done { OnOk result (set_of known.new.keys row.new ≡ with_locks mutexes.now (set_of known.old.keys row.old)) }
+    ensures done { OnOk result (set_of known.new.keys row.new ≡
+        with_locks mutexes.now (set_of known.old.keys row.old)) }
     ensures known { IsTable known.new.keys }
     ensures row { IsWithin (length known.new.keys) (is_on row.new) }
     ensures learns { Learns known.old.keys known.new.keys }

@@ -29,7 +29,7 @@ builtin_after Lock vs s = locked (mutex_of vs) s
 builtin_after Unlock vs s = unlocked (mutex_of vs) s
 builtin_after Print vs s = s
 
--- after a call, behind its arguments; a function gives back what it was lent
+-- after a call, once its arguments are evaluated; a function gives back what it was lent
 abbrev pub call_after : Callee → Values → Locks → Locks
 call_after (SourceFunction from number) vs s = s
 call_after (BuiltinFunction from b) vs s = builtin_after b vs s
@@ -75,7 +75,7 @@ abbrev mutual
   values_after NoValues s = s
   values_after (MoreValues v vs) s = values_after vs (value_after v s)
 
-  -- behind what is called, before its arguments
+  -- after what is called, before its arguments
   pub callee_after : Callee → Locks → Locks
   callee_after (SourceFunction from number) s = s
   callee_after (BuiltinFunction from b) s = s

@@ -32,7 +32,7 @@ builtin_found from Unlock vs s = elim (mutex_of vs) [
 ]
 builtin_found from Print vs s = []
 
--- at a call, behind its arguments
+-- at a call, after its arguments
 abbrev pub call_found : Guarded → Callee → Values → Locks → List LockFinding
 call_found r (SourceFunction from number) vs s = called_unheld r from number s
 call_found r (BuiltinFunction from b) vs s = builtin_found from b vs s

@@ -33,7 +33,7 @@ return_same w from s e = same_sets s w.start (asked (same s w.start) (ReturnLock
 abbrev pub IsInLoop : Bool → Within → Type 0
 IsInLoop l w = l ≡ true → (p : Loop) × (w.loop ≡ Some p)
 
--- what is found in the loop of a `for` behind its first part, and in the rest of a block
+-- what is found in the loop of a `for` after its first part, and in the rest of a block
 abbrev for_found : Guarded → Within → ℕ → MaybeValue → MaybeValue → Statement → Option Locks → List LockFinding
 for_found r w from v last a o = elim o [
   | Some t ↦
@@ -136,7 +136,7 @@ module _ (r : Guarded) (runs : ℕ → Bool) (h : Here) (outside : ℕ → Side 
   at_loop (Some l) k s p i e c = subst (λ u. S k u p) (sym (loop_same l s e)) (c k (omega arith))
   at_loop None k s p i e c = let is = i.1 in absurd cc
 
-  -- what is held behind a part of a loop is what its start holds
+  -- what is held after a part of a loop is what its start holds
   part_same : (w : Within) (from : ℕ) (s t : Locks) → loop_differs_in (inside w from s) t ≡ [] → t ≡ s
   part_same w from s t e = loop_same (record { from = from; start = s }) t e
 
@@ -163,11 +163,11 @@ module _ (r : Guarded) (runs : ℕ → Bool) (h : Here) (outside : ℕ → Side 
       let of_v = in_neither (maybe_found r v t) (loop_differs_in i (maybe_after v t)) fs.0 in
       let of_last = in_neither (maybe_found r last t) (loop_differs_in i (maybe_after last t)) gs.1 in
       let of_body = in_neither (statement_found r i a t) (loop_differs_at i (statement_after a t)) gs.0 in
-      let behind_v : t ≡ maybe_after v t = sym (part_same w from t (maybe_after v t) of_v.1) in
-      let behind_last : t ≡ maybe_after last t = sym (part_same w from t (maybe_after last t) of_last.1) in
+      let after_v : t ≡ maybe_after v t = sym (part_same w from t (maybe_after v t) of_v.1) in
+      let after_last : t ≡ maybe_after last t = sym (part_same w from t (maybe_after last t) of_last.1) in
       let again_kept : (m : ℕ) → m ≤ k → (again : Marks) → T m t again → T m t (maybe last h (λ n. again) again) =
       λ m lm again c q lq. maybe_kept r runs h outside last q t (λ n. again) again (less q k (omega arith) cs) tl of_last.0
-      (subst (λ u. G q u (λ n. again)) behind_last (λ q2 lq2 n. c q2 (omega arith))) (subst (λ u. T q u again) behind_last (sooner q m t again lq c)) in
+      (subst (λ u. G q u (λ n. again)) after_last (λ q2 lq2 n. c q2 (omega arith))) (subst (λ u. T q u again) after_last (sooner q m t again lq c)) in
       let body_kept : (m : ℕ) → m ≤ k → (again : Marks) → T m t again → T m t (for_body h k cs.same last a x again) =
       λ m lm again c q lq. body q (omega arith) t (within x (maybe last h (λ n. again) again)) of_body.0
       (in_body w from q t (statement_after a t) x (maybe last h (λ n. again) again) of_body.1 (sooner q k t x.next (omega arith) e) (later r runs outside h.side q k w.start x.give (omega arith) g) (sooner q m t (maybe last h (λ n. again) again) lq (again_kept m lm again c))) in
@@ -175,8 +175,8 @@ module _ (r : Guarded) (runs : ℕ → Bool) (h : Here) (outside : ℕ → Side 
       (λ m lm again c.
       let there_kept : T m t (for_body h k cs.same last a x again) = body_kept m (omega arith) again c in
       maybe_kept r runs h outside v m t (λ n. at_zero n x.next (for_body h k cs.same last a x again)) (for_body h k cs.same last a x again) (less m k (omega arith) cs) tv of_v.0
-      (subst (λ u. G m u (λ n. at_zero n x.next (for_body h k cs.same last a x again))) behind_v (λ q lq n. either_way q t n x.next (for_body h k cs.same last a x again) (e q (omega arith)) (there_kept q lq)))
-      (subst (λ u. T m u (for_body h k cs.same last a x again)) behind_v there_kept))
+      (subst (λ u. G m u (λ n. at_zero n x.next (for_body h k cs.same last a x again))) after_v (λ q lq n. either_way q t n x.next (for_body h k cs.same last a x again) (e q (omega arith)) (there_kept q lq)))
+      (subst (λ u. T m u (for_body h k cs.same last a x again)) after_v there_kept))
 
   -- the rest of a block, where the statement before it goes on
   rest_kept : (zs : Statements) (w : Within) (k : ℕ) (o : Option Locks) (x : Exits) → rest_found r w zs o ≡ [] → ExitsKept k w (rest_after zs o) x
@@ -215,10 +215,10 @@ module _ (r : Guarded) (runs : ℕ → Bool) (h : Here) (outside : ℕ → Side 
         let fs = in_neither (value_found r false v s ++ loop_differs_in i (value_after v s)) (statement_found r i a s ++ loop_differs_at i (statement_after a s)) f in
         let of_value = in_neither (value_found r false v s) (loop_differs_in i (value_after v s)) fs.0 in
         let of_body = in_neither (statement_found r i a s) (loop_differs_at i (statement_after a s)) fs.1 in
-        let behind : s ≡ value_after v s = sym (part_same w from s (value_after v s) of_value.1) in
+        let kept_after : s ≡ value_after v s = sym (part_same w from s (value_after v s) of_value.1) in
         looping_kept r runs outside h.side k s (λ p. value v h (λ n. at_zero n x.next (statement a h (within x p)))) (while_alike h k cs.same v a x)
         (λ j le again c. value_kept r runs h outside v false j s (λ n. at_zero n x.next (statement a h (within x again))) (less j k le cs) ty.0 of_value.0
-        (λ m lm n. subst (λ u. S m u (at_zero n x.next (statement a h (within x again)))) behind
+        (λ m lm n. subst (λ u. S m u (at_zero n x.next (statement a h (within x again)))) kept_after
         (either_way m s n x.next (statement a h (within x again)) (e.ends m (omega arith))
         (statement_kept a true i m s (within x again) (less m k (omega arith) cs) ty.1 (there w from s) of_body.0
         (in_body w from m s (statement_after a s) x again of_body.1 (sooner m k s x.next (omega arith) e.ends) (later r runs outside h.side m k w.start x.give (omega arith) e.gives) (sooner m j s again lm c))))))
@@ -227,12 +227,12 @@ module _ (r : Guarded) (runs : ℕ → Bool) (h : Here) (outside : ℕ → Side 
         let fs = in_neither (statement_found r i a s ++ loop_differs_at i (statement_after a s)) (value_found r false v s ++ loop_differs_in i (value_after v s)) f in
         let of_value = in_neither (value_found r false v s) (loop_differs_in i (value_after v s)) fs.1 in
         let of_body = in_neither (statement_found r i a s) (loop_differs_at i (statement_after a s)) fs.0 in
-        let behind : s ≡ value_after v s = sym (part_same w from s (value_after v s) of_value.1) in
+        let kept_after : s ≡ value_after v s = sym (part_same w from s (value_after v s) of_value.1) in
         looping_kept r runs outside h.side k s (λ p. statement a h (within x (value v h (λ n. at_zero n x.next p)))) (do_alike h k cs.same v a x)
         (λ j le again c.
         let tested : T j s (value v h (λ n. at_zero n x.next again)) =
         λ m lm. value_kept r runs h outside v false m s (λ n. at_zero n x.next again) (less m k (omega arith) cs) ty.1 of_value.0
-        (λ q lq n. subst (λ u. S q u (at_zero n x.next again)) behind (either_way q s n x.next again (e.ends q (omega arith)) (c q (omega arith)))) in
+        (λ q lq n. subst (λ u. S q u (at_zero n x.next again)) kept_after (either_way q s n x.next again (e.ends q (omega arith)) (c q (omega arith)))) in
         statement_kept a true i j s (within x (value v h (λ n. at_zero n x.next again))) (less j k le cs) ty.0 (there w from s) of_body.0
         (in_body w from j s (statement_after a s) x (value v h (λ n. at_zero n x.next again)) of_body.1 (sooner j k s x.next le e.ends) (later r runs outside h.side j k w.start x.give le e.gives) tested))
     statement_kept (For from first v last a) l w k s x cs ty il f e =
@@ -247,8 +247,8 @@ module _ (r : Guarded) (runs : ℕ → Bool) (h : Here) (outside : ℕ → Side 
     statement_kept Continue l w k s x cs ty il f e = at_loop w.loop k s x.again (il ty) f e.goes_on
     statement_kept (Return from v) l w k s x cs ty il f e =
         let fs = in_neither (maybe_found r v s) (return_differs w from (maybe_after v s)) f in
-        let behind : w.start ≡ maybe_after v s = sym (return_same w from (maybe_after v s) fs.1) in
-        maybe_kept r runs h outside v k s x.give (x.give 0) cs ty fs.0 (subst (λ u. G k u x.give) behind e.gives) (subst (λ u. T k u (x.give 0)) behind (λ j le. e.gives j le 0))
+        let kept_after : w.start ≡ maybe_after v s = sym (return_same w from (maybe_after v s) fs.1) in
+        maybe_kept r runs h outside v k s x.give (x.give 0) cs ty fs.0 (subst (λ u. G k u x.give) kept_after e.gives) (subst (λ u. T k u (x.give 0)) kept_after (λ j le. e.gives j le 0))
 
     pub statements_kept : (zs : Statements) (l : Bool) (w : Within) (k : ℕ) (s : Locks) (x : Exits) → C k → InStatements IsCall l zs → IsInLoop l w → statements_found r w zs s ≡ [] → ExitsKept k w (statements_after zs s) x → S k s (statements zs h x)
     statements_kept NoStatements l w k s x cs ty il f e = e.ends k (omega arith)

@@ -12,7 +12,7 @@ use Rattle.c_code.proofs.Sides.{IsPlain, is_above, is_below, replied}
 use Rattle.c_semantics.specs.Calls.{thread_behaviour}
 use Rattle.c_semantics.specs.Context.{Source}
 use Rattle.c_semantics.specs.Reading.{Marks}
-use Rattle.c_lower_rules.specs.Laws.{MakesTheMarks, laid}
+use Rattle.c_lower_placement.specs.Laws.{MakesTheMarks, laid}
 use Rattle.lockset_check_rules.specs.Guards.{Guarded}
 use Rattle.lockset_check_rules.specs.Sources.{source_found}
 use Rattle.lockset_check_laws.specs.Held.{AnswersHeld, HeldWant}

@@ -57,7 +57,8 @@ abbrev function_of : List Statement → Function
 function_of zs = record {
   name = codes "f";
   type = plain;
-  body = Some (record { from = 0; locals = []; statements = Block (listed zs); in_params = []; unevaluated = [] });
+  body = Some (record
+      { from = 0; locals = []; statements = Block (listed zs); in_params = []; unevaluated = [] });
 }
 
 abbrev global_n : Global

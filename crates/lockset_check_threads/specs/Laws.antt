@@ -15,8 +15,8 @@ use Rattle.c_types_model.specs.Types.{CType}
 use Rattle.c_types_rules.specs.TypedTree.{Body}
 use Rattle.c_semantics.specs.Reading.{Marks}
 use Rattle.c_semantics.specs.Context.{Source, body_of, is_face}
-use Rattle.c_lower_rules.specs.Laws.{laid}
-use Rattle.c_lower_rules.specs.Placement.{IsSigOf}
+use Rattle.c_lower_placement.specs.Laws.{laid}
+use Rattle.c_lower_placement.specs.Placement.{IsSigOf}
 use Rattle.cut_graph_reached.specs.Answers.{ModesKept, ReachesKept}
 use Rattle.lockset_check_rules.specs.Guards.{Guarded}
 use Rattle.lockset_check_rules.specs.Sources.{is_any_guarded}

@@ -6,7 +6,7 @@ ghost use Rattle.c_semantics.specs.Calls.{thread_behaviour};
 ghost use Rattle.c_semantics.specs.Context.{Source};
 ghost use Rattle.c_semantics.specs.Reading.{Marks};
 ghost use Rattle.c_code.specs.Machine.{Flat};
-ghost use Rattle.c_lower_rules.specs.Laws.{MakesTheMarks};
+ghost use Rattle.c_lower_placement.specs.Laws.{MakesTheMarks};
 ghost use Rattle.lockset_check_rules.specs.Guards.{Guarded};
 ghost use Rattle.lockset_check_rules.specs.Sources.{source_found};
 ghost use Rattle.lockset_check_threads.specs.Laws.{AccessesAreOrdered, CodeKeepsLocks, GuardsAreHeld, IsGuarded, LocksAreKept};

@@ -23,7 +23,8 @@ guard_in s place = guarding (slice_get s.guards place)
 -- builtins hold nothing
 abbrev pub holds_in : Sayings → (number : ℕ) → List ℤ
 holds_in s number =
-    if nat_lt number first_source_function then [] else held (slice_get s.holds (number - first_source_function))
+    if nat_lt number first_source_function then []
+    else held (slice_get s.holds (number - first_source_function))
 
 -- the sets that functions need, in their order
 abbrev pub needs_of : Sayings → List Locks

@@ -83,7 +83,8 @@ impl Walker<'_, '_> {
 
     // A pointer is made to this global.
     fn address_of_global(&self, walk: &mut Walk, mention: Mention) -> Result<(), AllocError>
-        ensures { OnOk result (walk.new ≡ finding (address_found (guarded self.now) (Some mention)) walk.old) }
+        ensures { OnOk result (walk.new ≡
+            finding (address_found (guarded self.now) (Some mention)) walk.old) }
     {
         match self.guards().guard(mention.place as usize) {
             Some(_) => {

@@ -32,7 +32,8 @@ impl Model for Walk {
 
     ghost view = { λ w. record { sets = w.sets; found = w.found.items } };
 
-    ghost invariant = { λ w. IfSome w.sure (λ place. are_held (need_at w.sets.needs place) w.sets.held ≡ true) };
+    ghost invariant = { λ w. IfSome w.sure (λ place.
+        are_held (need_at w.sets.needs place) w.sets.held ≡ true) };
 }
 
 impl Walk {

@@ -96,7 +96,8 @@ pub fn records_at<'a>(
     records: &mut Vec<Record>,
 ) -> Result<&'a [u8], Stop>
     ensures { Adds (λ x. x.now) records.old.items records.new.items result
-        (list_at (record_at fixed thread) count bytes.now) (read_list (record_at fixed thread) count bytes.now) }
+        (list_at (record_at fixed thread) count bytes.now)
+        (read_list (record_at fixed thread) count bytes.now) }
 {
     let mut rest = bytes;
     for _ in 0..count {

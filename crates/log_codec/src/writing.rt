@@ -56,7 +56,8 @@ fn put_piece(out: &mut Tail, piece: &Bytes) -> Result<(), AllocError>
 fn put_pieces(out: &mut Tail, pieces: &[Bytes]) -> Result<(), AllocError>
     requires { AllByRecursion IsPiece pieces.now }
     ensures before { out.new.before ≡ out.old.before }
-    ensures added { OnOk result (out.new.added ≡ out.old.added ++ flat_map (piece_text to_be_bytes) pieces.now) }
+    ensures added { OnOk result (out.new.added ≡
+        out.old.added ++ flat_map (piece_text to_be_bytes) pieces.now) }
 {
     for piece in pieces {
         put_piece(out, piece)?;

@@ -198,7 +198,8 @@ fn recorded<'a>(
     log: &'a str,
     report: &'a str,
 ) -> Option<Command<'a>>
-    ensures form { IfSome result (λ c. (form_of c ≡ recording source.now cut.now system.now log.now report.now)
+    ensures form { IfSome result (λ c.
+        (form_of c ≡ recording source.now cut.now system.now log.now report.now)
         × CanRecord source.now system.now log.now report.now) }
     ensures none { IfNone result (CanRecord source.now system.now log.now report.now → ⊥) }
 {

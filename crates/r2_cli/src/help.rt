@@ -2,7 +2,7 @@
 
 /// The text of `r2 --help`.
 pub const HELP: &str = "\
-r2 records, replays and reads the runs of programs that are cut at an interface.
+r2 records runs of programs that are cut at an interface, and reads their logs.
 
   r2 order LOG       print the events of a log, sorted by clock and thread
   r2 check SRC CUT   check a C source, its annotations and a cut
@@ -17,7 +17,7 @@ r2 records, replays and reads the runs of programs that are cut at an interface.
 Exit status: 0 done, 1 the cut or a guard is wrong, 2 usage, 3 the source is
 wrong, 4 the system file is wrong, 5 the run met a fault, 6 it stopped before a
 breach, 7 it was halted, 8 the log is cut short, 9 the log is wrong, 11 a read
-failed, 12 a write failed, 13 a limit is passed, 14 no memory.
+failed, 12 a write failed, 13 a limit is exceeded, 14 no memory.
 ";
 
 /// The text of `r2 --version`.

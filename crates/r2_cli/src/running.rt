@@ -27,8 +27,8 @@ pub fn run<F: Files, S: Sink, E: Sink>(
     out: &mut S,
     err: &mut E,
 ) -> Status
-    // One outcome: the words, and what the names hold, decide it, but for the offset at which tokens are refused;
-    // and of the names those alone that the command reads.
+    // One outcome: the words, and what the names hold, decide it, but for the offset that is named where tokens have no
+    // tree, or one that is too deep; and of the names those alone that the command reads.
     ensures one_outcome { (contents : Contents) (o p : Outcome)
         → IsOutcome (Of contents) (texts_of words.now) o
         → IsOutcome (Of contents) (texts_of words.now) p

@@ -39,7 +39,8 @@ pub record IsLastSeen (seen : List Seen) (epochs : Bool → ℕ → ℕ → ℕ)
       covers s.range x ≡ true → s.place < (if write then touched s.thread x past else wrote s.thread x past)
   pub below : (write : Bool) (u x : ℕ) → epochs write u x ≤ (if write then touched u x past
       else wrote u x past)
-  pub complete : (write : Bool) (u x n : ℕ) → is_constant x ≡ false → n < (if write then touched u x past else wrote u x past) →
+  pub complete : (write : Bool) (u x n : ℕ) → is_constant x ≡ false →
+      n < (if write then touched u x past else wrote u x past) →
       Found seen write u x n ⊎ (n < epochs write u x)
 
 -- the watch was told this

@@ -2,8 +2,8 @@
 use Rattle.std.specs.Prelude.{◌≡◌, ℕ, ◌+◌, ◌*◌, ◌/◌, ◌%◌, ◌<◌, ◌≤◌, ◌⊎◌, List, [], Option, Some, None, length, get_or, slice_index, ◌==◌, if◌then◌else◌}
 use Rattle.race_watch_pages.specs.declared.pages.WordPage.{WordPage}
 use Rattle.race_watch_pages.specs.declared.pages.CellPage.{CellPage}
-use Rattle.race_watch_pages.specs.declared.pages.Place.{Place}
-use Rattle.race_watch_pages.specs.declared.pages.Place.TheVariants.{Words, Cells}
+use Rattle.race_watch_pages.specs.declared.pages.PageAt.{PageAt}
+use Rattle.race_watch_pages.specs.declared.pages.PageAt.TheVariants.{Words, Cells}
 use Rattle.race_watch_pages.specs.declared.pages.Pages.{Pages}
 
 abbrev pub blank_words : WordPage
@@ -52,7 +52,7 @@ pub record StandsInCells (m : Pages) (p at : ℕ) : Type 0 where
   pub within : at < length m.cells.items
   pub cells : (get_or m.cells.items at blank_cells).number ≡ p
 
-abbrev pub StandsAt : Pages → ℕ → Place → Type 0
+abbrev pub StandsAt : Pages → ℕ → PageAt → Type 0
 StandsAt m p (Words at) = StandsInWords m p at
 StandsAt m p (Cells at) = StandsInCells m p at
 

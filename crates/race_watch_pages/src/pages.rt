@@ -3,6 +3,7 @@
 ghost use Rattle.std.specs.Prelude.{◌≡◌, ◌+◌, ◌*◌, ◌/◌, ◌%◌, ◌<◌, ◌≤◌, ◌&&◌, ℕ, nat_le, nat_lt, if◌then◌else◌, length, slice_index, IfOk, OnOk, IsTrue, IsFalse, MatchOption};
 ghost use Rattle.race_watch_pages.specs.Kept.{kept, size, IsThere, IsSplit, IsReady, StandsAt, StandsInWords, StandsInCells};
 
+use crate::index::{grow, listed};
 use crate::part::{
     are_all, are_at_most, are_few, are_few_words, are_few_words_at_most, are_words, fill, fill_two,
     spread,
@@ -26,7 +27,7 @@ pub struct CellPage {
 
 /// Where the numbers of a page stand.
 #[derive(Clone, Copy)]
-pub enum Place {
+pub enum PageAt {
     Words(u32),
     Cells(u32),
 }
@@ -59,17 +60,17 @@ impl Pages {
 
     /// Where a page stands, if it is there.
     #[inline(always)]
-    fn find(&self, page: u32) -> Option<Place>
+    fn find(&self, page: u32) -> Option<PageAt>
         requires { page < size self.now }
         ensures { MatchOption result (IsThere self.now page → ⊥) (λ at. StandsAt self.now page at) }
     {
         let at = listed(&self.index, page as usize);
         if (at as usize) < self.words.len() && self.words[at as usize].number == page {
             match self.words[at as usize].split {
-                None => return Some(Place::Words(at)),
+                None => return Some(PageAt::Words(at)),
                 Some(to) => {
                     if (to as usize) < self.cells.len() && self.cells[to as usize].number == page {
-                        return Some(Place::Cells(to));
+                        return Some(PageAt::Cells(to));
                     }
                 }
             }
@@ -84,8 +85,8 @@ impl Pages {
     {
         match self.find(cell / 256) {
             None => 0,
-            Some(Place::Words(at)) => self.words[at as usize].values[(cell % 256 / 4) as usize],
-            Some(Place::Cells(at)) => self.cells[at as usize].values[(cell % 256) as usize],
+            Some(PageAt::Words(at)) => self.words[at as usize].values[(cell % 256 / 4) as usize],
+            Some(PageAt::Cells(at)) => self.cells[at as usize].values[(cell % 256) as usize],
         }
     }
 
@@ -100,11 +101,11 @@ impl Pages {
         let last = first + (to - from) as usize;
         match self.find(from / 256) {
             None => true,
-            Some(Place::Words(at)) => {
+            Some(PageAt::Words(at)) => {
                 let values = &self.words[at as usize].values;
                 are_at_most(values, first / 4, (last - 1) / 4 + 1, bound)
             }
-            Some(Place::Cells(at)) => {
+            Some(PageAt::Cells(at)) => {
                 are_at_most(&self.cells[at as usize].values, first, last, bound)
             }
         }
@@ -122,10 +123,10 @@ impl Pages {
         let last = first + (to - from) as usize;
         match self.find(from / 256) {
             None => false,
-            Some(Place::Words(at)) => {
+            Some(PageAt::Words(at)) => {
                 are_words(&self.words[at as usize].values, first, last, value)
             }
-            Some(Place::Cells(at)) => are_all(&self.cells[at as usize].values, first, last, value),
+            Some(PageAt::Cells(at)) => are_all(&self.cells[at as usize].values, first, last, value),
         }
     }
 
@@ -159,10 +160,10 @@ impl Pages {
         let len = len as usize;
         match self.find(from / 256) {
             None => true,
-            Some(Place::Words(at)) => {
+            Some(PageAt::Words(at)) => {
                 are_few_words_at_most(&self.words[at as usize].values, first, len, bound)
             }
-            Some(Place::Cells(at)) => {
+            Some(PageAt::Cells(at)) => {
                 are_at_most(&self.cells[at as usize].values, first, first + len, bound)
             }
         }
@@ -194,10 +195,10 @@ impl Pages {
         let len = len as usize;
         match self.find(from / 256) {
             None => false,
-            Some(Place::Words(at)) => {
+            Some(PageAt::Words(at)) => {
                 are_few_words(&self.words[at as usize].values, first, len, value)
             }
-            Some(Place::Cells(at)) => are_few(&self.cells[at as usize].values, first, len, value),
+            Some(PageAt::Cells(at)) => are_few(&self.cells[at as usize].values, first, len, value),
         }
     }
 
@@ -282,11 +283,11 @@ impl Pages {
         ensures split { (p : ℕ) → IsSplit self.old p → IsSplit self.new p }
     {
         match self.find(page) {
-            Some(Place::Words(at)) => {
+            Some(PageAt::Words(at)) => {
                 let values = spread(&self.words[at as usize].values);
                 self.put_cells(page, at, values)
             }
-            Some(Place::Cells(_to)) => Ok(()),
+            Some(PageAt::Cells(_to)) => Ok(()),
             None => Ok(()),
         }
     }
@@ -364,8 +365,8 @@ impl Pages {
     {
         match self.find(from / 256) {
             None => {}
-            Some(Place::Words(at)) => self.fill_words(at, from, to, value),
-            Some(Place::Cells(at)) => self.fill_cells(at, from, to, value),
+            Some(PageAt::Words(at)) => self.fill_words(at, from, to, value),
+            Some(PageAt::Cells(at)) => self.fill_cells(at, from, to, value),
         }
     }
 
@@ -469,39 +470,17 @@ impl Pages {
     {
         match self.find(from / 256) {
             None => false,
-            Some(Place::Words(at)) => {
+            Some(PageAt::Words(at)) => {
                 if from % 4 == 0 && len % 4 == 0 {
                     self.fill_two_words(at, from, from + len, value);
                     return true;
                 }
                 false
             }
-            Some(Place::Cells(at)) => {
+            Some(PageAt::Cells(at)) => {
                 self.fill_cells(at, from, from + len, value);
                 true
             }
         }
     }
-}
-
-// Where a page stands if it is there.
-#[inline(always)]
-fn listed(index: &[u32], page: usize) -> u32
-    ensures { result ≡ slice_index index.now page }
-{
-    match index.get(page) {
-        Some(at) => *at,
-        None => 0,
-    }
-}
-
-// Makes the index end no earlier than a place, with zeros where it did.
-fn grow(index: &mut Vec<u32>, to: usize) -> Result<(), AllocError>
-    ensures len { OnOk result (to ≤ length index.new.items) }
-    ensures same { (p : ℕ) → slice_index index.new.items p ≡ slice_index index.old.items p }
-{
-    if index.len() < to {
-        index.resize(to, 0)?;
-    }
-    Ok(())
 }

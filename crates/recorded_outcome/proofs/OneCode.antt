@@ -13,7 +13,7 @@ use Rattle.c_code.specs.declared.code.FuncInfo.{FuncInfo}
 use Rattle.c_code.specs.declared.instr.Instr.{Instr}
 use Rattle.c_code.specs.Machine.{Flat, flat}
 use Rattle.c_semantics.specs.Context.{Source, local_offsets, shape_of, shapes_of}
-use Rattle.c_lower_rules.specs.Code.{Making, body_code}
+use Rattle.c_lower_placement.specs.Code.{Making, body_code}
 use Rattle.c_types_program.specs.declared.function.Body as bodies
 use Rattle.c_types_program.specs.declared.function.Function as code
 use Rattle.c_types_program.specs.Declarations.{Declared, body_in, function_in}

@@ -25,7 +25,7 @@ use whole_runs::Ending;
 /// Records the run of a system file over a program, with the places of its objects and what is done at its calls: its log, what it did
 /// above the cut, what was printed on either side, and how it ended.
 ///
-/// `AllocError` where there is no memory, and for nothing else.
+/// `AllocError` where memory runs out.
 pub fn record_run(
     alloc: Global,
     code: &FusedCode,

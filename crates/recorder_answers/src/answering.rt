@@ -26,7 +26,8 @@ pub fn answer(
 ) -> Result<(), Stop>
     requires giving { IsGiving (world_of inputs) state.old thread func value pieces.now }
     requires said { IsSaid (world_of inputs) func (args_at state.old.threads thread) value returning.now }
-    ensures passes { OnOk result (IsReturning (world_of inputs.entry) state.new thread func value (Value value)) }
+    ensures passes { OnOk result
+        (IsReturning (world_of inputs.entry) state.new thread func value (Value value)) }
     ensures rest { state.new ≡ record state.old { memory = state.new.memory } }
     ensures stopped { IfErr result (IsStopped (world_of inputs.entry) state.new) }
 {

@@ -21,7 +21,8 @@ read_in bytes (r ∷ rs) = shown_in bytes r ++ read_in bytes rs
 
 -- the thread's code may read the range
 abbrev pub MayBeRead : SpaceState → (thread : ℕ) → Range → Type 0
-MayBeRead memory t r = r.addr < 2 ^ 64 → IsAllowed memory.bytes memory.held.regions (access t r.addr r.len false)
+MayBeRead memory t r = r.addr < 2 ^ 64 →
+    IsAllowed memory.bytes memory.held.regions (access t r.addr r.len false)
 
 abbrev pub AllMayBeRead : SpaceState → (thread : ℕ) → List Range → Type 0
 AllMayBeRead memory t ranges = All (MayBeRead memory t) ranges

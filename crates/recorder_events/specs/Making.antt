@@ -108,7 +108,8 @@ IsOfPoolOrUp (Free at size) = Unit {0}
 IsOfPoolOrUp (Stop fault) = ⊥
 
 -- a run comes to a step that can be an Up or UpRet which has these keys and this record
-pub record IsCallBackNext (w : World) (s : RunState) (t : ℕ) (keys : List Key) (event : Recorded) : Type 0 where
+pub record IsCallBackNext (w : World) (s : RunState) (t : ℕ) (keys : List Key)
+    (event : Recorded) : Type 0 where
   pub reached : IsReached w s
   pub step : Picked w reached.past
   pub thread : step.thread ≡ t

@@ -15,7 +15,8 @@ use steps_above_memory::StepRefusal;
 
 /// How the run ends where the code of the thread can't go on, on this side. The number is that of the fault's kind, 1 to 6.
 pub fn fault(thread: u8, side: Side, number: u8) -> Stop
-    ensures { (w : World) (s : RunState) → IsAtStep w s thread side (want.Fault number) → IsStopped w s result }
+    ensures { (w : World) (s : RunState) → IsAtStep w s thread side (want.Fault number) →
+        IsStopped w s result }
 {
     Stop::of(thread, side, StepRefusal::Fault(kind_of(number)))
 }

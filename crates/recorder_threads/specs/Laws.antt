@@ -27,7 +27,8 @@ ActivationsAreFew w = IsFit w → (past : List Mark) → Follows w past → (t :
     (side : Side) → open_on side (place_of w past t) ≤ most_open
 
 -- the thread that is told of its mark is where its code is after it
-pub record IsFollowed (w : World) (past : List Mark) (m : Mark) (s : Picked w past) (x : Answer) : Type 0 where
+pub record IsFollowed (w : World) (past : List Mark) (m : Mark) (s : Picked w past)
+    (x : Answer) : Type 0 where
   pub may : MayTell w.laid (thread_of w past m.thread) (report (thread_of w past m.thread).config s.want x)
   pub follows : after_report w.laid (thread_of w past m.thread)
       (report (thread_of w past m.thread).config s.want x) ≡ thread_of w (m ∷ past) m.thread

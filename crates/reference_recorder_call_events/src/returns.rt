@@ -155,7 +155,8 @@ fn return_kind(
 ) -> Result<EventKind, AllocError>
     requires counted { length done.now.used ≡ length regions.now }
     requires region { HasRegion (past memory.marks.now) (first_of done.now.commits) }
-    ensures { IfOk result (λ k. IsRetDone memory.entry ended.entry.thread ended.entry.func ended.entry.args.now
+    ensures { IfOk result (λ k.
+        IsRetDone memory.entry ended.entry.thread ended.entry.func ended.entry.args.now
         ended.entry.value regions.now done.now (kind_of k)) }
 {
     let outs = pieces(alloc, memory, regions, done.used())?;

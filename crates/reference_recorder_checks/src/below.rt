@@ -148,7 +148,8 @@ fn says(
     pieces: &[Bytes],
 ) -> Result<Option<Finding>, AllocError>
     ensures { (w : World) (p : List Shown) → IsLowPastOf w p run.entry → AreOf w annotations.entry →
-        IfOk result (IsFound (piece_checks w p thread (targets_in w System p func args.now value) pieces.now)) }
+        IfOk result (IsFound
+        (piece_checks w p thread (targets_in w System p func args.now value) pieces.now)) }
 {
     let regions = targets(
         alloc,

@@ -55,7 +55,7 @@ fn put_new(
 }
 
 /// The first of the marks, so many of them.
-fn front(marks: &[Mark], count: usize) -> &[Mark]
+fn prefix(marks: &[Mark], count: usize) -> &[Mark]
     requires { count ≤ length marks.now }
     ensures { result.now ≡ take count marks.now }
 {
@@ -75,7 +75,7 @@ fn put_chunks(
     ensures { OnOk result (HasChunks chunk (past marks.now) log.new.items) }
 {
     for at in 0..marks.len() {
-        let now = front(marks, at + 1);
+        let now = prefix(marks, at + 1);
         let last = &marks[at];
         put_new(alloc, log, chunk, now, last)?;
     }

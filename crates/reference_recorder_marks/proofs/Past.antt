@@ -5,7 +5,7 @@ use Rattle.marks.specs.Marks as shown
 use Rattle.reference_recorder_marks.specs.declared.mark.Mark.{Mark}
 use Rattle.reference_recorder_marks.specs.Marks.{mark_of, past}
 
--- a mark that is put behind the others is the newest
+-- a mark that is put after the others is the newest
 pub past_push : (ms : List Mark) (m : Mark) → past (ms ++ m ∷ []) ≡ mark_of m ∷ past ms
 past_push ms m = ap reverse (map-append mark_of ms (m ∷ [])) ∙ reverse-append (map mark_of ms) (mark_of m ∷ [])
 

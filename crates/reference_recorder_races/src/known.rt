@@ -76,7 +76,7 @@ fn told_at(mark: &Mark, before: &[Mark], told: &[u64], thread: u8) -> u64
 }
 
 /// The first of the marks, so many of them.
-fn front(marks: &[Mark], count: usize) -> &[Mark]
+fn prefix(marks: &[Mark], count: usize) -> &[Mark]
     requires { count ≤ length marks.now }
     ensures { result.now ≡ take count marks.now }
 {
@@ -90,7 +90,7 @@ fn told_by(alloc: Global, marks: &[Mark], thread: u8) -> Result<Vec<u64>, AllocE
     let mut told = Vec::new(alloc);
     for at in 0..marks.len() {
         let mark = &marks[at];
-        let before = front(marks, at);
+        let before = prefix(marks, at);
         let more = told_at(mark, before, &told, thread);
         told.push(more)?;
     }

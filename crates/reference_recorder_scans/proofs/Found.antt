@@ -24,7 +24,7 @@ last_inside r x low past e = let upper = upper_is in (omega (arith, low), omega 
     upper_is : x < r.addr + r.len
     upper_is = grind (arith, nat_tests)
 
--- P holds at an address behind the last one only where it holds there too
+-- P holds at an address after the last one only where it holds there too
 abbrev pub GoesOn : Range → (ℕ → Type 0) → Type 0
 GoesOn r P = (x : ℕ) → 2 ^ 64 ≤ x → covers r x ≡ true → P x → (r.addr < 2 ^ 64) × P last
 

@@ -33,7 +33,7 @@ module _ (r : Range) (P : ℕ → Type 0) where
       by y inside p (inl earlier) = absurd (before y inside.0 (let lt' : y < a = earlier in omega (arith, lt', is)) p)
       by y inside p (inr later) = later
 
-  -- the last address is behind
+  -- the address is past the last one
   pub none_past : (i : ℕ) → 2 ^ 64 ≤ r.addr + i → NoneBefore r P i → NoneIn r P
   none_past i past before x inside p = before x inside.0 (let lt = inside.2 in omega (arith, lt, past)) p
 

@@ -19,7 +19,8 @@ use stub_calls::Prepared;
 
 // The region of the key, none where it isn't in use.
 fn region(run: Past<'_>, key: u64) -> Option<Range>
-    ensures { (w : World) (p : List Shown) → IsPastOf w p run.entry → result ≡ in_use_in (begin w) key (seen p) }
+    ensures { (w : World) (p : List Shown) → IsPastOf w p run.entry →
+        result ≡ in_use_in (begin w) key (seen p) }
 {
     in_use(run.marks, key)
 }

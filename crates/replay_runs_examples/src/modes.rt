@@ -16,7 +16,8 @@ ghost use Rattle.replay_runs_examples.specs.Modes.{calling, ext, got, halted, ra
 pub fn an_external_outside_the_interface()
     ensures before { IsReplayRun calling here (run_of calling here got) }
     ensures is_left { NoneLeft calling here (run_of calling here got) → ⊥ }
-    ensures stopped { IsReplayRun calling here (mark calling here (run_of calling here got) halted ∷ run_of calling here got) }
+    ensures stopped { IsReplayRun calling here
+        (mark calling here (run_of calling here got) halted ∷ run_of calling here got) }
     ensures refused { (result : ℕ) (ins pieces : List Piece) (freed : List Range) →
         IsReplayRun calling here (mark calling here (run_of calling here got)
         (ran result ins pieces freed) ∷ run_of calling here got) → ⊥ }
@@ -27,5 +28,6 @@ pub fn an_external_outside_the_interface()
 /// A write to a constant that another thread has read is no race: the checks name the fault, which may come.
 pub fn a_write_to_a_constant_that_was_read()
     ensures disciplined { IsReplayRun writing here (run_of writing here was_refused) }
-    ensures named { Finds (checks writing.interface here (run_of writing here was_read) 0 (Stores None 0x100000 (1 ∷ []))) (FaultFound ReadOnly) }
+    ensures named { Finds (checks writing.interface here (run_of writing here was_read) 0
+        (Stores None 0x100000 (1 ∷ []))) (FaultFound ReadOnly) }
 {}

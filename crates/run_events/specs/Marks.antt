@@ -8,7 +8,8 @@ use Rattle.run_events.specs.declared.marks.Unpacked.TheVariants as unpacked
 
 abbrev pub marks_of : PackedMarks → List KeyMark
 marks_of packed.Empty = []
-marks_of (packed.One class ticket value) = (record { key = record { class = class; value = value }; ticket = ticket }) ∷ []
+marks_of (packed.One class ticket value) =
+    (record { key = record { class = class; value = value }; ticket = ticket }) ∷ []
 marks_of (packed.More many) = many.value.items
 
 abbrev pub unpacked_marks : Unpacked → List KeyMark

@@ -18,8 +18,10 @@ words_of (packed.Three a b c) = pattern a ∷ pattern b ∷ pattern c ∷ []
 words_of (packed.Four a b c d) = pattern a ∷ pattern b ∷ pattern c ∷ pattern d ∷ []
 words_of (packed.Five a b c d e) = pattern a ∷ pattern b ∷ pattern c ∷ pattern d ∷ pattern e ∷ []
 words_of (packed.Six a b c d e f) = pattern a ∷ pattern b ∷ pattern c ∷ pattern d ∷ pattern e ∷ pattern f ∷ []
-words_of (packed.Seven a b c d e f g) = pattern a ∷ pattern b ∷ pattern c ∷ pattern d ∷ pattern e ∷ pattern f ∷ pattern g ∷ []
-words_of (packed.Eight a b c d e f g h) = pattern a ∷ pattern b ∷ pattern c ∷ pattern d ∷ pattern e ∷ pattern f ∷ pattern g ∷ pattern h ∷ []
+words_of (packed.Seven a b c d e f g) = pattern a ∷ pattern b ∷ pattern c ∷ pattern d ∷ pattern e ∷
+    pattern f ∷ pattern g ∷ []
+words_of (packed.Eight a b c d e f g h) = pattern a ∷ pattern b ∷ pattern c ∷ pattern d ∷ pattern e ∷
+    pattern f ∷ pattern g ∷ pattern h ∷ []
 words_of (packed.WideThree all) = all.value
 words_of (packed.WideFour all) = all.value
 words_of (packed.WideFive all) = all.value

@@ -38,7 +38,8 @@ impl MemoryAbove {
             let bytes = bytes_with_args size offsets.now widths.now args.now in
             Makes self.old thread (Enters indirect func values bytes)
             (Enter func values addr bytes) self.new) }
-        ensures spaces { IfOk result (λ addr. IsEntered Replay self.old.spaces self.new.spaces thread addr size
+        ensures spaces { IfOk result (λ addr.
+            IsEntered Replay self.old.spaces self.new.spaces thread addr size
             (bytes_with_args size offsets.now widths.now args.now)) }
         ensures refused { IfErr result (λ refusal. (indirect : Bool) (func : ℕ) (values : List ℕ) →
             let bytes = bytes_with_args size offsets.now widths.now args.now in

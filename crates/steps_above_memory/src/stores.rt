@@ -48,7 +48,8 @@ impl MemoryAbove {
         ensures stored { OnOk result ((origin : Option ℕ) → Makes self.old thread
             (Stores origin addr (bytes_of_number width value))
             (Store origin addr (bytes_of_number width value)) self.new) }
-        ensures spaces { OnOk result (IsStored Replay self.old.spaces self.new.spaces thread addr width value) }
+        ensures spaces { OnOk result
+            (IsStored Replay self.old.spaces self.new.spaces thread addr width value) }
         ensures refused { IfErr result (λ refusal. (origin : Option ℕ) → Refuses self.old thread
             (Stores origin addr (bytes_of_number width value)) refusal) }
         ensures unchanged { OnErr result (self.new ≡ self.old) }
@@ -78,7 +79,8 @@ impl MemoryAbove {
         ensures stored { OnOk result ((origin : Option ℕ) → Makes self.old thread
             (Stores origin addr (bytes_of_number width value))
             (Store origin addr (bytes_of_number width value)) self.new) }
-        ensures spaces { OnOk result (IsStored Replay self.old.spaces self.new.spaces thread addr width value) }
+        ensures spaces { OnOk result
+            (IsStored Replay self.old.spaces self.new.spaces thread addr width value) }
         ensures refused { IfErr result (λ refusal. (origin : Option ℕ) → Refuses self.old thread
             (Stores origin addr (bytes_of_number width value)) refusal) }
         ensures unchanged { OnErr result (self.new ≡ self.old) }

@@ -37,7 +37,8 @@ abbrev pub HaveNoBlank : Bool → List (List ℕ × External) → Type 0
 HaveNoBlank flag es = flag ≡ true → All (λ e. IsPart 32 e.0) es
 
 -- the words are a name and others; the function is that of the name
-pub record IsNamed (es : List (List ℕ × External)) (words : List ℕ) (found : Option External) (rest : List ℕ) : Type 0 where
+pub record IsNamed (es : List (List ℕ × External))
+    (words : List ℕ) (found : Option External) (rest : List ℕ) : Type 0 where
   pub name : List ℕ
   pub words_are : parts 32 words ≡ name ∷ parts 32 rest
   pub found_is : found ≡ external_named name es

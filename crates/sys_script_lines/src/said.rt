@@ -114,7 +114,8 @@ impl<'a> Said<'a> {
         rest: &'a [u8],
     ) -> Result<(), Wrong>
         ensures heard { Says (λ _. self.new) result
-            (option_and_then (heard self.old) (said_by (named_in finder.old.externals.now) word.now rest.now)) }
+            (option_and_then (heard self.old)
+            (said_by (named_in finder.old.externals.now) word.now rest.now)) }
         ensures same { finder.new.externals.now ≡ finder.old.externals.now }
     {
         if word == b"budget".as_slice() {

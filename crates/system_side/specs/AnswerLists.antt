@@ -23,7 +23,8 @@ group_in groups e = get_or groups e.group none
 
 -- an answer whose pieces are among those of all, as a value
 abbrev pub answer_in : List Group → List (List ℕ) → Entry → Scripted
-answer_in groups pieces e = record { func = e.func; result = e.result; pieces = pieces_in pieces (group_in groups e) }
+answer_in groups pieces e =
+    record { func = e.func; result = e.result; pieces = pieces_in pieces (group_in groups e) }
 
 abbrev pub answers_in : List Group → List (List ℕ) → List Entry → List Scripted
 answers_in groups pieces entries = map (answer_in groups pieces) entries
@@ -53,6 +54,7 @@ pub record AreThere (end : ℕ) (groups : List Group) (entries : List Entry) : T
   pub inside : All (IsWithin end) groups
 
 -- each answer has pieces that are there, and one more begins after them
-pub record AreBegun (first : ℕ) (groups : List Group) (pieces : List (List ℕ)) (entries : List Entry) : Type 0 where
+pub record AreBegun (first : ℕ) (groups : List Group) (pieces : List (List ℕ))
+    (entries : List Entry) : Type 0 where
   pub there : AreThere first groups entries
   pub start : first ≤ length pieces

@@ -6,7 +6,7 @@ use crate::marked::put_marked;
 use crate::report::Report;
 use crate::text::put_line;
 use r2_cli_outcome::Status;
-use std::alloc::Global;
+use std::alloc::{AllocError, Global};
 use test_runs::{Left, check_cut};
 
 /// The cases of a file so far, and what holds for those below.
@@ -22,8 +22,8 @@ struct Rules<'a> {
     after: &'a str,
 }
 
-/// Runs the cases of a file.
-pub fn run_rules<'a>(alloc: Global, file: &'a str, text: &'a str) -> Report<'a> {
+/// Runs the cases of a file, and answers the lines that tell what differs and how many pass.
+pub fn run_rules<'a>(alloc: Global, file: &'a str, text: &'a str) -> Result<String, AllocError> {
     let mut rules = Rules {
         alloc,
         report: Report::new(alloc, file),
@@ -43,7 +43,7 @@ pub fn run_rules<'a>(alloc: Global, file: &'a str, text: &'a str) -> Report<'a> 
         before: _,
         after: _,
     } = rules;
-    report
+    report.end()
 }
 
 /// A status with its line.

@@ -4,7 +4,7 @@ use crate::case::Case;
 use crate::fault::Fault;
 use crate::line::{Line, line_of};
 use crate::report::Report;
-use std::alloc::Global;
+use std::alloc::{AllocError, Global};
 use std::fs;
 use std::rt::Files;
 
@@ -20,8 +20,13 @@ struct Script<'a> {
     named: usize,
 }
 
-/// Runs the cases of a file.
-pub fn run_script<'a, R: Files + AllocGlobal>(rt: &R, file: &'a str, text: &'a str) -> Report<'a> {
+/// Runs the cases of a file, and answers the lines that tell what differs and how many pass. What lines take
+/// `from` a file of the data is read by the runtime.
+pub fn run_script<'a, R: Files + AllocGlobal>(
+    rt: &R,
+    file: &'a str,
+    text: &'a str,
+) -> Result<String, AllocError> {
     let alloc = rt.alloc();
     let mut script = Script {
         alloc,
@@ -108,7 +113,7 @@ impl<'a> Script<'a> {
         }
     }
 
-    fn end(mut self) -> Report<'a> {
+    fn end(mut self) -> Result<String, AllocError> {
         self.close();
         let Script {
             alloc: _,
@@ -117,6 +122,6 @@ impl<'a> Script<'a> {
             begun: _,
             named: _,
         } = self;
-        report
+        report.end()
     }
 }

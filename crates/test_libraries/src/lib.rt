@@ -1,4 +1,4 @@
-//! Calls of libraries that no command makes yet, and values from outside that their clauses are held to.
+//! Calls of libraries that no case reaches, and values from outside that their clauses are held to.
 #![tactic(auto)]
 
 #[cfg(test)]
@@ -13,7 +13,5 @@ mod names;
 mod numbers;
 #[cfg(test)]
 mod outside;
-#[cfg(test)]
-mod scripts;
 #[cfg(test)]
 mod system;

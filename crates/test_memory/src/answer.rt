@@ -17,7 +17,7 @@ pub enum Answer {
     Holds(bool),
     Refused(Refusal),
     OutOfMemory,
-    /// It isn't a call, or not one that may be made now.
+    /// The call may not be made.
     NoCall,
 }
 

@@ -1,18 +1,21 @@
 // The calls that a script may make.
 
+use crate::answer::Answer;
+use crate::error::LineError;
+use crate::memory::Memory;
 use crate::words::{Word, bytes_of, numbers_of};
-use crate::{Answer, Memory};
 use Word::{Number, Side, Write};
 use memory_map::{Bytes8, Place, Range};
-use std::alloc::{AllocError, Global};
+use std::alloc::Global;
 
-/// Makes the call on the memory that a word names, with what stands after it.
+/// Makes the call on the memory that a word names, with what stands after it. It is of no form where the word
+/// names none, or what stands after it isn't what the call takes.
 pub fn make(
     alloc: Global,
     memory: &mut Memory,
     name: &str,
     words: &[Word],
-) -> Result<Answer, AllocError> {
+) -> Result<Answer, LineError> {
     match (name, words) {
         ("load", [Side(side), Number(thread), Number(addr), Number(width)]) => {
             Ok(memory.load(*side, *thread, *addr, *width))
@@ -56,7 +59,7 @@ fn make_for_call(
     memory: &mut Memory,
     name: &str,
     words: &[Word],
-) -> Result<Answer, AllocError> {
+) -> Result<Answer, LineError> {
     match (name, words) {
         ("open", [Number(thread)]) => Ok(memory.open(*thread)),
         ("undo", [Number(thread)]) => Ok(memory.undo(*thread)),
@@ -91,7 +94,7 @@ fn make_for_bytes(
     memory: &mut Memory,
     name: &str,
     words: &[Word],
-) -> Result<Answer, AllocError> {
+) -> Result<Answer, LineError> {
     match (name, words) {
         ("copy", [Side(side), Number(thread), Number(addr), Number(len)]) => {
             let range = Range {
@@ -119,7 +122,7 @@ fn make_for_bytes(
         ("filled_key", [Number(key), Number(size)]) => {
             Ok(memory.is_committed_filled(*key, *size))
         }
-        _ => Ok(Answer::NoCall),
+        _ => Err(LineError::NoForm),
     }
 }
 
@@ -129,11 +132,9 @@ fn may_release(
     thread: u64,
     used: &[Word],
     commit: Option<(u64, u64)>,
-) -> Result<Answer, AllocError> {
-    match numbers_of(alloc, used)? {
-        Some(used) => Ok(memory.may_release(thread, used.as_slice(), commit)),
-        None => Ok(Answer::NoCall),
-    }
+) -> Result<Answer, LineError> {
+    let used = numbers_of(alloc, used)?;
+    Ok(memory.may_release(thread, used.as_slice(), commit))
 }
 
 fn write(
@@ -143,11 +144,9 @@ fn write(
     thread: u64,
     addr: u64,
     bytes: &[Word],
-) -> Result<Answer, AllocError> {
-    match bytes_of(alloc, bytes)? {
-        Some(bytes) => Ok(memory.write(side, thread, addr, bytes.as_slice())),
-        None => Ok(Answer::NoCall),
-    }
+) -> Result<Answer, LineError> {
+    let bytes = bytes_of(alloc, bytes)?;
+    Ok(memory.write(side, thread, addr, bytes.as_slice()))
 }
 
 fn release(
@@ -156,11 +155,9 @@ fn release(
     thread: u64,
     used: &[Word],
     commit: Option<(u64, u64)>,
-) -> Result<Answer, AllocError> {
-    match numbers_of(alloc, used)? {
-        Some(used) => Ok(memory.release(thread, used.as_slice(), commit)),
-        None => Ok(Answer::NoCall),
-    }
+) -> Result<Answer, LineError> {
+    let used = numbers_of(alloc, used)?;
+    Ok(memory.release(thread, used.as_slice(), commit))
 }
 
 fn place(
@@ -169,12 +166,7 @@ fn place(
     is_global: bool,
     addr: u64,
     bytes: &[Word],
-) -> Result<Answer, AllocError> {
-    match bytes_of(alloc, bytes)? {
-        Some(bytes) => {
-            let init = Bytes8::from(bytes);
-            memory.place(alloc, is_global, Place { addr, init })
-        }
-        None => Ok(Answer::NoCall),
-    }
+) -> Result<Answer, LineError> {
+    let init = Bytes8::from(bytes_of(alloc, bytes)?);
+    Ok(memory.place(alloc, is_global, Place { addr, init })?)
 }

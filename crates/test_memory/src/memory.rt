@@ -6,7 +6,7 @@ ghost use Rattle.space_memory.specs.Objects.{IsInArea};
 ghost use Rattle.space_memory.specs.Releases.{committed_key, outs_of};
 ghost use Rattle.test_memory.specs.Held.{holders_of};
 
-use crate::Answer;
+use crate::answer::Answer;
 use marks::Side;
 use memory_map::{
     Bytes8, CONSTANTS, Flags, GLOBALS_SIZE, Place, Placed, Places, REPLAY_GLOBALS, Range,

@@ -1,8 +1,10 @@
 // A script: cases of calls, each with its answer.
 
+use crate::answer::Answer;
 use crate::calls::make;
+use crate::error::LineError;
+use crate::memory::Memory;
 use crate::words::{number, number_at, words_at};
-use crate::{Answer, Memory};
 use std::alloc::{AllocError, Global};
 
 /// A script as far as it was read.
@@ -50,7 +52,7 @@ impl Script {
             self.cases = self.cases.saturating_add(1);
             return Ok(None);
         }
-        let Some(found) = self.make_all(alloc, line)? else {
+        let Some(found) = self.difference(alloc, line)? else {
             return Ok(None);
         };
         if !self.is_wrong {
@@ -61,12 +63,23 @@ impl Script {
         Ok(Some(format!(in alloc; "{name}: {found}")?))
     }
 
+    // What is wrong with a line that is neither a note nor a name: an answer, or its form.
+    fn difference(&mut self, alloc: Global, line: &str) -> Result<Option<String>, AllocError> {
+        match self.make_all(alloc, line) {
+            Ok(found) => Ok(found),
+            Err(LineError::NoForm) => {
+                Ok(Some(String::from_str(alloc, "no call with its answer")?))
+            }
+            Err(LineError::Memory) => Err(AllocError),
+        }
+    }
+
     // Makes the calls of a line: one, or as many as stand before the word `times`.
-    fn make_all(&mut self, alloc: Global, line: &str) -> Result<Option<String>, AllocError> {
+    fn make_all(&mut self, alloc: Global, line: &str) -> Result<Option<String>, LineError> {
         let (count, line) = line.split_once(" times ").unwrap_or(("1", line));
         let (Some(count @ 1..), Some((call, wanted))) = (number(count), line.split_once(" = "))
         else {
-            return Ok(Some(String::from_str(alloc, "no call with its answer")?));
+            return Err(LineError::NoForm);
         };
         let mut found = None;
         for turn in 0..count {
@@ -84,7 +97,7 @@ impl Script {
         call: &str,
         wanted: &str,
         turn: u64,
-    ) -> Result<Option<String>, AllocError> {
+    ) -> Result<Option<String>, LineError> {
         let (name, rest) = call.split_once(' ').unwrap_or((call, ""));
         let words = words_at(alloc, rest, turn)?;
         let answer = make(alloc, &mut self.memory, name, words.as_slice())?;

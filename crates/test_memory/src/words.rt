@@ -1,7 +1,8 @@
 // The words of a call.
 
+use crate::error::LineError;
 use marks::Side;
-use std::alloc::{AllocError, Global};
+use std::alloc::Global;
 
 /// A word of a call: a number, the side whose code makes it, or whether a region is to be written.
 #[derive(Clone, Copy)]
@@ -38,38 +39,38 @@ fn word_at(text: &str, turn: u64) -> Option<Word> {
     }
 }
 
-/// The words of a text at a turn; none where one is no word.
-pub fn words_at(alloc: Global, text: &str, turn: u64) -> Result<Vec<Word>, AllocError> {
+/// The words of a text at a turn, where each is one.
+pub fn words_at(alloc: Global, text: &str, turn: u64) -> Result<Vec<Word>, LineError> {
     let mut words = Vec::new(alloc);
     for part in text.split_whitespace() {
         let Some(word) = word_at(part, turn) else {
-            return Ok(Vec::new(alloc));
+            return Err(LineError::NoForm);
         };
         words.push(word)?;
     }
     Ok(words)
 }
 
-/// The numbers of words that are numbers alone.
-pub fn numbers_of(alloc: Global, words: &[Word]) -> Result<Option<Vec<u64>>, AllocError> {
+/// The numbers that words are, where each is one.
+pub fn numbers_of(alloc: Global, words: &[Word]) -> Result<Vec<u64>, LineError> {
     let mut numbers = Vec::new(alloc);
     for word in words {
         let Word::Number(number) = word else {
-            return Ok(None);
+            return Err(LineError::NoForm);
         };
         numbers.push(*number)?;
     }
-    Ok(Some(numbers))
+    Ok(numbers)
 }
 
-/// The bytes of words that are numbers below 256 alone.
-pub fn bytes_of(alloc: Global, words: &[Word]) -> Result<Option<Vec<u8>>, AllocError> {
+/// The bytes that words are, where each is a number below 256.
+pub fn bytes_of(alloc: Global, words: &[Word]) -> Result<Vec<u8>, LineError> {
     let mut bytes = Vec::new(alloc);
     for word in words {
         match word {
             Word::Number(byte) if *byte < 256 => bytes.push(*byte as u8)?,
-            _ => return Ok(None),
+            _ => return Err(LineError::NoForm),
         }
     }
-    Ok(Some(bytes))
+    Ok(bytes)
 }

@@ -61,10 +61,12 @@ fn said_by(alloc: Global, file: &SysFile) -> Result<Output, AllocError> {
     Ok(text)
 }
 
-/// What the file says, or the first line that is wrong.
+/// What the file says, or the first line that is wrong; `too long` where the file or the source exceeds a limit.
 fn script_text(alloc: Global, source: &CheckedSource, script: &str) -> Result<Output, AllocError> {
     if source.program.functions().len() > MOST_FUNCTIONS || script.len() > MOST_BYTES {
-        return Err(AllocError);
+        let mut text = Output::new(alloc);
+        text.put("too long\n");
+        return Ok(text);
     }
     match read(alloc, script.as_bytes(), &source.program, &source.interface) {
         Ok(file) => said_by(alloc, &file),

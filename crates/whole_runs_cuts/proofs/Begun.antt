@@ -13,8 +13,8 @@ use Rattle.c_types_model.specs.Types.{CType}
 use Rattle.c_types_rules.specs.Sources.{params_of}
 use Rattle.c_semantics.specs.Reading.{Marks}
 use Rattle.c_semantics.specs.Context.{Source, param_shapes, shapes_of, type_of}
-use Rattle.c_lower_rules.specs.Laws.{laid}
-use Rattle.c_lower_rules.specs.Placement.{IsSigOf}
+use Rattle.c_lower_placement.specs.Laws.{laid}
+use Rattle.c_lower_placement.specs.Placement.{IsSigOf}
 use Rattle.cut_graph_rules.specs.Findings.{Cut}
 use Rattle.cut_graph_laws.specs.SoundCut.{StaysWithin}
 use Rattle.cut_graph_run_laws.specs.Code.{IsCodeThread, of_function}

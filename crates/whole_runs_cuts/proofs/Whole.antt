@@ -14,8 +14,8 @@ use Rattle.c_code.specs.Valid.{start_sig}
 use Rattle.c_types_model.specs.Types.{CType}
 use Rattle.c_types_rules.specs.Sources.{params_of}
 use Rattle.c_semantics.specs.Context.{Source, shapes_of}
-use Rattle.c_lower_rules.specs.Laws.{laid}
-use Rattle.c_lower_rules.specs.Placement.{IsSigOf}
+use Rattle.c_lower_placement.specs.Laws.{laid}
+use Rattle.c_lower_placement.specs.Placement.{IsSigOf}
 use Rattle.cut_graph_rules.specs.Findings.{Cut, May}
 use Rattle.cut_graph_reached.specs.Answers.{ModesKept}
 use Rattle.cut_graph_laws.specs.Granted.{WantGranted}

@@ -11,8 +11,8 @@ use Rattle.c_semantics.specs.Reading.{Marks}
 use Rattle.c_semantics.specs.Context.{Source, param_shapes, type_of}
 use Rattle.c_semantics.specs.Arguments.{ArgumentsAreConverted}
 use Rattle.c_semantics.specs.Returned.{ResultsAreConverted}
-use Rattle.c_lower_rules.specs.Laws.{MakesTheMarks}
-use Rattle.c_lower_rules.specs.Placement.{IsSigOf}
+use Rattle.c_lower_placement.specs.Laws.{MakesTheMarks}
+use Rattle.c_lower_placement.specs.Placement.{IsSigOf}
 use Rattle.replay_runs.specs.Runs.{In}
 use Rattle.cut_graph_rules.specs.Findings.{Cut, IsAccepted, IsGlobal, May}
 use Rattle.isolation_check_rules.specs.Places.{IsPlaced, Literal}

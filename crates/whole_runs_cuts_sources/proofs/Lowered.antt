@@ -10,9 +10,9 @@ use Rattle.c_code.specs.Machine.{Flat, Laid, func_of}
 use Rattle.c_semantics.specs.Arguments.{ArgumentsAreConverted, Passes}
 use Rattle.c_semantics.specs.Context.{Source, param_shapes, type_of}
 use Rattle.c_semantics.specs.Returned.{ResultsAreConverted}
-use Rattle.c_lower_rules.specs.Code.{making}
-use Rattle.c_lower_rules.specs.Laws.{IsEmitted, MakesTheMarks}
-use Rattle.c_lower_rules.specs.Placement.{IsSigOf}
+use Rattle.c_lower_placement.specs.Code.{making}
+use Rattle.c_lower_placement.specs.Laws.{IsEmitted, MakesTheMarks}
+use Rattle.c_lower_placement.specs.Placement.{IsSigOf}
 use Rattle.c_types_program.specs.Declarations.{Declared}
 use Rattle.c_types_program.specs.Programs.{texts_in}
 use Rattle.c_lower_layout.specs.Sources.{sig_in, source_in}

@@ -1,7 +1,7 @@
 -- That the flat code of typed programs runs under their cuts.
 use Rattle.std.specs.Prelude.{◌≡◌, List}
 use Rattle.c_semantics.specs.Context.{Source}
-use Rattle.c_lower_rules.specs.Laws.{laid}
+use Rattle.c_lower_placement.specs.Laws.{laid}
 use Rattle.c_types_program.specs.Declarations.{Declared}
 use Rattle.c_lower_laws.specs.Fits.{IsFit}
 use Rattle.c_lower.specs.Lowered.{IsSourceOf, lowered}

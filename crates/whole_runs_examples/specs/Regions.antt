@@ -197,7 +197,8 @@ abbrev pub caching_twice : World
 caching_twice = world
     (cached ∷ source Above (thread_function (codes "f") 0) ∷ source Above (no_params (codes "main") (Some
     2)) ∷ [])
-    ((instr.Call 16 0 ∷ instr.Finish ∷ instr.Call 16 0 ∷ instr.Drop ∷ []) ++ spawn 0x1110 ++ (instr.Call 16 0 ∷
+    ((instr.Call 16 0 ∷ instr.Finish ∷ instr.Call 16 0 ∷ instr.Drop ∷ []) ++ spawn 0x1110 ++
+    (instr.Call 16 0 ∷
     instr.Finish ∷ []))
     [] []
     (record (scheduled ((0, 6) ∷ (1, 4) ∷ (0, 9) ∷ [])) { answers = replicate 3 (answer 16 7 []) })

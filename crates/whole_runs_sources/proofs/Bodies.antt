@@ -15,7 +15,7 @@ use Rattle.c_types_rules.specs.TypedTree as typed
 use Rattle.c_types_rules.specs.Sources as sources
 use Rattle.c_types_rules.specs.Sources.{Program}
 use Rattle.c_semantics.specs.Context.{body_of, local_offsets}
-use Rattle.c_lower_rules.specs.Code.{Lies, body_code, statement_code}
+use Rattle.c_lower_placement.specs.Code.{Lies, body_code, statement_code}
 use Rattle.c_types_program.specs.declared.function.Body.{Body}
 use Rattle.c_types_program.specs.declared.function.Function.{Function}
 use Rattle.c_types_program.specs.Declarations.{Declared, body_in, function_in}

@@ -11,9 +11,9 @@ use Rattle.c_types_rules.specs.TypedTree as typed
 use Rattle.c_types_rules.specs.TypedTree.{Object, Value, Values, Callee, Sum, PointerPlus, PlusPointer, PointerMinus, Way, Up, Down, GlobalObject, LocalObject, TextObject, Pointed, Element, MemberOf, Constant, FunctionAddress, ReadOf, AddressOf, Convert, Negate, Complement, Arithmetic, PointerSum, PointerDifference, PointerComparison, Not, Both, Either, Choice, Sequence, Assigned, Changed, Moved, Stepped, CallOf, NoValues, MoreValues, SourceFunction, BuiltinFunction, Through, MaybeValue, NoValue, OneValue, Statement, Statements, Block, Evaluate, Initialise, If, IfElse, While, Do, For, Break, Continue, Return, NoStatements, MoreStatements, object_type}
 use Rattle.c_semantics.specs.Context.{kind_of}
 use Rattle.c_semantics.specs.Values.{is_read}
-use Rattle.c_lower_rules.specs.Conversions.{converts, reconverts}
-use Rattle.c_lower_rules.specs.Placement.{count}
-use Rattle.c_lower_rules.specs.Code.{Making, body_code, call_code, callee_code, convert_code, last_code, load_code, move_code, object_code, one, return_code, statement_code, statements_code, sum_code, test_code, value_code, values_code}
+use Rattle.c_lower_placement.specs.Conversions.{converts, reconverts}
+use Rattle.c_lower_placement.specs.Placement.{count}
+use Rattle.c_lower_placement.specs.Code.{Making, body_code, call_code, callee_code, convert_code, last_code, load_code, move_code, object_code, one, return_code, statement_code, statements_code, sum_code, test_code, value_code, values_code}
 use Rattle.whole_runs.specs.Code.{next_places}
 
 -- ---- lists of instructions

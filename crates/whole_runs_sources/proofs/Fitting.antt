@@ -12,7 +12,7 @@ use Rattle.c_types_rules.specs.Sources.{Program}
 use Rattle.c_types_program.specs.Declarations.{Declared}
 use Rattle.c_types_program.specs.Programs.{IsProgram, program_in, texts_in}
 use Rattle.c_semantics.specs.Context.{Source}
-use Rattle.c_lower_rules.specs.Laws.{IsMadeOf}
+use Rattle.c_lower_placement.specs.Laws.{IsMadeOf}
 use Rattle.c_lower_laws.specs.Fits.{IsFit}
 use Rattle.c_lower.specs.Depths.{first_wide, functions_in}
 use Rattle.c_lower.specs.Lowered.{builtin_info, codes_of, infos_from}

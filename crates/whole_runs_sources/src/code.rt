@@ -8,7 +8,7 @@ ghost use Rattle.whole_runs.specs.Fits.{IsFitCode};
 ghost use Rattle.whole_runs_sources.specs.Laws.{IsPlacedAs, laid_at};
 
 use c_lower_laws::typed_programs_fit;
-use c_lower_rules::emitted_code_is_steady;
+use c_lower_placement::emitted_code_is_steady;
 
 /// A law: an accepted source declares few functions, as the calls ask that make its stubs and read its system file.
 pub fn accepted_sources_have_few_functions()

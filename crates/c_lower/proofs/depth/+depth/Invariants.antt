@@ -2,7 +2,7 @@ use Rattle.std.proofs.Common.{◌≡◌, ◌+◌, drop}
 use Rattle.c_types_nodes.specs.Parts.{values}
 use Rattle.c_types_nodes.specs.Tables.{node_at, object_at, typed_of, value_at}
 use Rattle.c_lower_bodies.proofs.Weights.{object_weight, value_weight, values_weight, weight}
-use Rattle.c_lower_rules.specs.Heights.{values_depth}
+use Rattle.c_lower_placement.specs.Heights.{values_depth}
 use Rattle.c_lower.specs.Depths.{capped}
 use Rattle.c_lower.proofs.depth.+depth.Given as goal
 

@@ -5,7 +5,7 @@ use Rattle.c_code.specs.declared.instr.Instr.{Instr}
 use Rattle.c_types_table.specs.declared.ids.TypeId.{TypeId}
 use Rattle.c_types_rules.specs.Limits.{frame_size}
 use Rattle.c_semantics.specs.Context.{local_offsets}
-use Rattle.c_lower_rules.specs.Code.{body_code}
+use Rattle.c_lower_placement.specs.Code.{body_code}
 use Rattle.c_types_program.specs.declared.function.Body.{Body}
 use Rattle.c_types_program.specs.Declarations.{Declared, body_in, types_in}
 use Rattle.c_lower_layout.specs.Sources.{source_in}

@@ -2,7 +2,7 @@ use Rattle.std.proofs.Common.{sym, subst, arith}
 use Rattle.std.proofs.lemmas.List.{length-map}
 use Rattle.c_code.specs.Machine.{Flat}
 use Rattle.c_code.specs.Typed.{KeepsTypes}
-use Rattle.c_lower_rules.specs.Laws.{MakesTheMarks, laid}
+use Rattle.c_lower_placement.specs.Laws.{MakesTheMarks, laid}
 use Rattle.c_types_program.specs.Declarations.{function_in}
 use Rattle.c_lower_layout.specs.Sources.{source_in}
 use Rattle.c_lower.specs.Named.{NamesNoMore}

@@ -3,7 +3,7 @@ use Rattle.c_types_rules.specs.TypedTree as tree
 use Rattle.c_types_program.specs.declared.statement.Statement.{Statement}
 use Rattle.c_types_program.specs.Statements.{AllStatements, IsStatement, maybe_at, statement_in, statements_in}
 use Rattle.c_types_program.proofs.Vectors.{block_inside, block_means, first_inside, for_means}
-use Rattle.c_lower_rules.specs.Heights.{maybe_depth, statement_depth, statements_depth}
+use Rattle.c_lower_placement.specs.Heights.{maybe_depth, statement_depth, statements_depth}
 use Rattle.c_lower_bodies.proofs.Among.{one_lighter, statement_among}
 use Rattle.c_lower_bodies.proofs.Weights.{statement_weight, statements_weight}
 use Rattle.c_lower.specs.Depths.{capped}

@@ -1,6 +1,6 @@
 use Rattle.std.proofs.Common.{◌≡◌, drop}
 use Rattle.c_types_program.specs.Statements.{statement_in, statements_in}
-use Rattle.c_lower_rules.specs.Heights.{statements_depth}
+use Rattle.c_lower_placement.specs.Heights.{statements_depth}
 use Rattle.c_lower_bodies.proofs.Weights.{statement_weight, statements_weight}
 use Rattle.c_lower.specs.Depths.{capped}
 use Rattle.c_lower.proofs.wide.+statements.Given as goal

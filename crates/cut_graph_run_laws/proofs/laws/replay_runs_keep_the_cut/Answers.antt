@@ -8,7 +8,7 @@ use Rattle.c_code.specs.Machine.{Flat}
 use Rattle.c_code.specs.MarkLists.{want_above}
 use Rattle.c_code.specs.Valid.{IsValid}
 use Rattle.c_semantics.specs.Context.{Source}
-use Rattle.c_lower_rules.specs.Laws.{MakesTheMarks, laid}
+use Rattle.c_lower_placement.specs.Laws.{MakesTheMarks, laid}
 use Rattle.replay_runs.specs.Interface.{Interface}
 use Rattle.replay_runs.specs.Laws.{IsReplayRun, fresh}
 use Rattle.replay_runs.specs.Runs.{marks_of}

@@ -1,5 +1,5 @@
 use Rattle.c_semantics.specs.Reading.{Marks}
-use Rattle.c_lower_rules.specs.Laws.{laid}
+use Rattle.c_lower_placement.specs.Laws.{laid}
 use Rattle.cut_graph_laws.specs.Granted.{WantsAreGranted}
 use Rattle.cut_graph_laws.specs.SoundCut.{permits}
 use Rattle.cut_graph_laws.proofs.Accepted.{grants}

@@ -1,5 +1,5 @@
 use Rattle.std.proofs.Common.{◌≡◌, ℕ, Option, ap, ◌∙◌}
-use Rattle.isolation_check_rows.specs.declared.kind.Kind.TheVariants as kinds
+use Rattle.isolation_check_rows.specs.declared.kind.MentionKind.TheVariants as kinds
 use Rattle.isolation_check_rows.specs.declared.sides.Counts.TheVariants as counting
 use Rattle.isolation_check_rows.specs.Rows.{counts}
 use Rattle.isolation_check_findings.proofs.Adding.{read_first}

@@ -1,6 +1,6 @@
 use Rattle.std.proofs.Common.{◌≡◌, List, length, ap, ◌∙◌, arith}
 use Rattle.c_types_program.specs.declared.global.Global.{Global}
-use Rattle.isolation_check_rows.specs.declared.kind.Kind.TheVariants as kinds
+use Rattle.isolation_check_rows.specs.declared.kind.MentionKind.TheVariants as kinds
 use Rattle.isolation_check_rows.specs.declared.sides.Counts.TheVariants as counting
 use Rattle.isolation_check_rows.specs.Rows.{counts}
 use Rattle.isolation_check_findings.specs.Found.{IsSharedAt}

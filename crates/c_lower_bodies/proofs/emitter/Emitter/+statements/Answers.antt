@@ -6,7 +6,7 @@ use Rattle.c_types_nodes.specs.Tables.{value_at}
 use Rattle.c_types_program.specs.declared.statement.Statement.{Statement}
 use Rattle.c_types_program.specs.Statements.{AllStatements, IsStatement, maybe_at, statement_in, statements_in}
 use Rattle.c_types_program.proofs.Vectors.{block_inside, block_means, first_inside, for_means}
-use Rattle.c_lower_rules.specs.Code.{last_code, statement_code, statements_code, test_code, value_code}
+use Rattle.c_lower_placement.specs.Code.{last_code, statement_code, statements_code, test_code, value_code}
 use Rattle.c_lower_bodies.specs.Making.{making}
 use Rattle.c_lower_bodies.specs.TypedCode.{guarded_code}
 use Rattle.c_lower_bodies.proofs.Among.{one_lighter, one_more, statement_among}

@@ -1,6 +1,6 @@
 use Rattle.std.proofs.Common.{◌≡◌, ◌+◌, ◌-◌, ◌++◌, drop, length}
 use Rattle.c_types_program.specs.Statements.{statement_in, statements_in}
-use Rattle.c_lower_rules.specs.Code.{statements_code}
+use Rattle.c_lower_placement.specs.Code.{statements_code}
 use Rattle.c_lower_bodies.specs.Making.{making}
 use Rattle.c_lower_bodies.proofs.Weights.{statement_weight, statements_weight}
 use Rattle.c_lower_bodies.proofs.emitter.Emitter.+statements.Given as goal

@@ -1,5 +1,5 @@
 use Rattle.std.proofs.Common.{ℕ, List, ◌+◌, ◌++◌, codes, decimal, length, ap, sym, ◌∙◌, append_assoc, arith}
-use Rattle.call_inspector.specs.declared.parts.Place.TheVariants.{Events}
+use Rattle.call_inspector.specs.declared.parts.Position.TheVariants.{Events}
 use Rattle.call_inspector.specs.declared.parts.State.{State}
 use Rattle.call_inspector.specs.Parts.{left_at, left_of, most_at}
 use Rattle.call_inspector.proofs.PartSteps.{at_first, entered, item_of, one_thread_fewer, skipped}

@@ -1,0 +1,8 @@
+use Rattle.c_lower_placement.proofs.Calling.{aboves, calls, threads}
+use Rattle.c_lower_placement.proofs.Lying.{lowered}
+use Rattle.c_lower_placement.proofs.laws.emitted_code_makes_the_marks.Goals as goal
+
+pub returns : goal.returns
+returns c s code sig h =
+    let low = lowered s code sig h in
+    record { calls = calls s code low; threads = threads s code low; above = aboves s code low }

@@ -1,5 +1,0 @@
-use Rattle.c_lower_rules.proofs.Typed.{keeps_types}
-use Rattle.c_lower_rules.proofs.laws.code_of_sources_keeps_types.Goals as goal
-
-pub returns : goal.returns
-returns c = keeps_types

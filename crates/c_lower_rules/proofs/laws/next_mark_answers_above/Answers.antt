@@ -1,5 +1,0 @@
-use Rattle.c_lower_rules.proofs.Aboves.{next_answers}
-use Rattle.c_lower_rules.proofs.laws.next_mark_answers_above.Goals as goal
-
-pub returns : goal.returns
-returns c = next_answers
